@@ -1,0 +1,134 @@
+-- The answers to Home, each with the forwarded data inside it, and the page's values for each case.
+use Prim.Native.Nat.{ℕ}
+use mathlib.Core.Bool.{Bool, true, false}
+use mathlib.Core.List.{List, [], _∷_}
+use Rattle.kinds.specs.declared.Resp.{Resp}
+use Rattle.kinds.specs.declared.FwdState.{FwdState}
+use Rattle.kinds.specs.declared.Forward.{Forward}
+use Rattle.kinds.specs.declared.Forward.the-variants.{NoForward, CompData}
+use Rattle.kinds.specs.declared.Answer.{Answer}
+use Rattle.kinds.specs.declared.Answer.the-variants.{SnpResp, SnpRespData, SnpRespDataPtl}
+
+-- channel (RSP 0, DAT 1), opcode, Resp, FwdState, forwarded data present, its Resp: event bytes 5, 6, 7, 8, 11 and 12
+abbrev pub wire : Answer → List ℕ
+wire (SnpResp r NoForward) = 0 ∷ 1 ∷ r .0 ∷ 0 ∷ 0 ∷ 0 ∷ []
+wire (SnpResp r (CompData f)) = 0 ∷ 9 ∷ r .0 ∷ f .0 ∷ 1 ∷ f .0 ∷ []
+wire (SnpRespData r NoForward) = 1 ∷ 1 ∷ r .0 ∷ 0 ∷ 0 ∷ 0 ∷ []
+wire (SnpRespData r (CompData f)) = 1 ∷ 6 ∷ r .0 ∷ f .0 ∷ 1 ∷ f .0 ∷ []
+wire (SnpRespDataPtl r) = 1 ∷ 5 ∷ r .0 ∷ 0 ∷ 0 ∷ 0 ∷ []
+
+-- the answer brings data to Home: it goes on DAT
+abbrev pub hasData : Answer → Bool
+hasData (SnpResp r f) = false
+hasData (SnpRespData r f) = true
+hasData (SnpRespDataPtl r) = true
+
+-- its Resp
+abbrev pub respOf : Answer → ℕ
+respOf (SnpResp r f) = r .0
+respOf (SnpRespData r f) = r .0
+respOf (SnpRespDataPtl r) = r .0
+
+-- its FwdState, 0 without a forward
+abbrev pub fwdOf : Answer → ℕ
+fwdOf (SnpResp r NoForward) = 0
+fwdOf (SnpResp r (CompData f)) = f .0
+fwdOf (SnpRespData r NoForward) = 0
+fwdOf (SnpRespData r (CompData f)) = f .0
+fwdOf (SnpRespDataPtl r) = 0
+
+-- Resp: I 0, SC 1, SD 3, I_PD 4, SC_PD 5.
+abbrev r-I : Resp
+r-I = record { 0 = 0 }
+
+abbrev r-SC : Resp
+r-SC = record { 0 = 1 }
+
+abbrev r-SD : Resp
+r-SD = record { 0 = 3 }
+
+abbrev r-I-PD : Resp
+r-I-PD = record { 0 = 4 }
+
+abbrev r-SC-PD : Resp
+r-SC-PD = record { 0 = 5 }
+
+-- CompData, and FwdState with it: SC 1, UC 2, UD_PD 6, SD_PD 7.
+abbrev CompData-SC : Forward
+CompData-SC = CompData (record { 0 = 1 })
+
+abbrev CompData-UC : Forward
+CompData-UC = CompData (record { 0 = 2 })
+
+abbrev CompData-UD-PD : Forward
+CompData-UD-PD = CompData (record { 0 = 6 })
+
+abbrev CompData-SD-PD : Forward
+CompData-SD-PD = CompData (record { 0 = 7 })
+
+-- The 22 answers by their names in the tables, with - where those have _.
+abbrev pub SnpResp-I : Answer
+SnpResp-I = SnpResp r-I NoForward
+
+abbrev pub SnpResp-SC : Answer
+SnpResp-SC = SnpResp r-SC NoForward
+
+abbrev pub SnpRespData-I : Answer
+SnpRespData-I = SnpRespData r-I NoForward
+
+abbrev pub SnpRespData-SC : Answer
+SnpRespData-SC = SnpRespData r-SC NoForward
+
+abbrev pub SnpRespData-SD : Answer
+SnpRespData-SD = SnpRespData r-SD NoForward
+
+abbrev pub SnpRespData-I-PD : Answer
+SnpRespData-I-PD = SnpRespData r-I-PD NoForward
+
+abbrev pub SnpRespData-SC-PD : Answer
+SnpRespData-SC-PD = SnpRespData r-SC-PD NoForward
+
+abbrev pub SnpRespDataPtl-I-PD : Answer
+SnpRespDataPtl-I-PD = SnpRespDataPtl r-I-PD
+
+abbrev pub SnpResp-I-Fwded-SC : Answer
+SnpResp-I-Fwded-SC = SnpResp r-I CompData-SC
+
+abbrev pub SnpResp-SC-Fwded-SC : Answer
+SnpResp-SC-Fwded-SC = SnpResp r-SC CompData-SC
+
+abbrev pub SnpResp-SD-Fwded-SC : Answer
+SnpResp-SD-Fwded-SC = SnpResp r-SD CompData-SC
+
+abbrev pub SnpResp-I-Fwded-SD-PD : Answer
+SnpResp-I-Fwded-SD-PD = SnpResp r-I CompData-SD-PD
+
+abbrev pub SnpResp-SC-Fwded-SD-PD : Answer
+SnpResp-SC-Fwded-SD-PD = SnpResp r-SC CompData-SD-PD
+
+abbrev pub SnpResp-I-Fwded-UC : Answer
+SnpResp-I-Fwded-UC = SnpResp r-I CompData-UC
+
+abbrev pub SnpResp-I-Fwded-UD-PD : Answer
+SnpResp-I-Fwded-UD-PD = SnpResp r-I CompData-UD-PD
+
+abbrev pub SnpRespData-I-Fwded-SC : Answer
+SnpRespData-I-Fwded-SC = SnpRespData r-I CompData-SC
+
+abbrev pub SnpRespData-SC-Fwded-SC : Answer
+SnpRespData-SC-Fwded-SC = SnpRespData r-SC CompData-SC
+
+abbrev pub SnpRespData-SD-Fwded-SC : Answer
+SnpRespData-SD-Fwded-SC = SnpRespData r-SD CompData-SC
+
+abbrev pub SnpRespData-I-Fwded-SD-PD : Answer
+SnpRespData-I-Fwded-SD-PD = SnpRespData r-I CompData-SD-PD
+
+abbrev pub SnpRespData-SC-Fwded-SD-PD : Answer
+SnpRespData-SC-Fwded-SD-PD = SnpRespData r-SC CompData-SD-PD
+
+abbrev pub SnpRespData-I-PD-Fwded-SC : Answer
+SnpRespData-I-PD-Fwded-SC = SnpRespData r-I-PD CompData-SC
+
+abbrev pub SnpRespData-SC-PD-Fwded-SC : Answer
+SnpRespData-SC-PD-Fwded-SC = SnpRespData r-SC-PD CompData-SC

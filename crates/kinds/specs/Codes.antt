@@ -1,0 +1,117 @@
+-- The published codes, each under its own name, and the page's tests on them.
+use Prim.Native.Nat.{ℕ}
+use mathlib.Core.Bool.{Bool}
+use mathlib.Core.List.{List, [], _∷_}
+use Rattle.kinds.specs.Tests.{_∈?_}
+
+-- Line states, in table order.
+abbrev pub I : ℕ
+I = 0
+
+abbrev pub UC : ℕ
+UC = 1
+
+abbrev pub UCE : ℕ
+UCE = 2
+
+abbrev pub UD : ℕ
+UD = 3
+
+abbrev pub UDP : ℕ
+UDP = 4
+
+abbrev pub SC : ℕ
+SC = 5
+
+abbrev pub SD : ℕ
+SD = 6
+
+abbrev pub states : List ℕ
+states = I ∷ UC ∷ UCE ∷ UD ∷ UDP ∷ SC ∷ SD ∷ []
+
+-- a line in one of these has to be written back by somebody
+abbrev pub dirty : ℕ → Bool
+dirty s = s ∈? (UD ∷ UDP ∷ SD ∷ [])
+
+-- in place of a state after: it was not seen
+abbrev pub stateNotSeen : ℕ
+stateNotSeen = 7
+
+-- Tag states.
+abbrev pub tagInvalid : ℕ
+tagInvalid = 0
+
+abbrev pub tagClean : ℕ
+tagClean = 1
+
+abbrev pub tagDirty : ℕ
+tagDirty = 2
+
+abbrev pub tags : List ℕ
+tags = tagInvalid ∷ tagClean ∷ tagDirty ∷ []
+
+-- in place of a tag state: it was not seen
+abbrev pub tagNotSeen : ℕ
+tagNotSeen = 3
+
+-- TagOp.
+abbrev pub opInvalid : ℕ
+opInvalid = 0
+
+abbrev pub opTransfer : ℕ
+opTransfer = 1
+
+abbrev pub opUpdate : ℕ
+opUpdate = 2
+
+-- RespErr.
+abbrev pub OK : ℕ
+OK = 0
+
+abbrev pub DERR : ℕ
+DERR = 2
+
+abbrev pub NDERR : ℕ
+NDERR = 3
+
+-- Requests.
+abbrev pub SnpShared : ℕ
+SnpShared = 1
+
+abbrev pub SnpClean : ℕ
+SnpClean = 2
+
+abbrev pub SnpNotSharedDirty : ℕ
+SnpNotSharedDirty = 4
+
+abbrev pub SnpCleanFwd : ℕ
+SnpCleanFwd = 18
+
+abbrev pub SnpNotSharedDirtyFwd : ℕ
+SnpNotSharedDirtyFwd = 20
+
+abbrev pub SnpPreferUnique : ℕ
+SnpPreferUnique = 21
+
+abbrev pub SnpPreferUniqueFwd : ℕ
+SnpPreferUniqueFwd = 22
+
+-- the requests that are judged
+abbrev pub requests : List ℕ
+requests =
+    SnpShared ∷
+    SnpClean ∷
+    SnpNotSharedDirty ∷
+    SnpCleanFwd ∷
+    SnpNotSharedDirtyFwd ∷
+    SnpPreferUnique ∷
+    SnpPreferUniqueFwd ∷
+    []
+
+-- Resp carries PD, Pass Dirty: it is I_PD or SC_PD.
+abbrev pub respPD : ℕ → Bool
+respPD r = r ∈? (4 ∷ 5 ∷ [])
+
+-- FwdState carries PD: it is UD_PD or SD_PD.
+abbrev pub fwdPD : ℕ → Bool
+fwdPD f = f ∈? (6 ∷ 7 ∷ [])

@@ -1,0 +1,4 @@
+pub mod Tests
+pub mod Codes
+pub mod Answers
+pub mod Places

@@ -1,0 +1,16 @@
+-- Where a pair's set and an event's bytes stand in what is lent.
+use Prim.Native.Nat.{ℕ, _*_}
+use mathlib.Core.List.{List}
+use lib.ListN.{getD, take, drop}
+
+-- an event is this many bytes
+abbrev pub eventLength : ℕ
+eventLength = 14
+
+-- the set of a pair in the table of sets; empty for a pair that the table doesn't have
+abbrev pub setIn : List ℕ → ℕ → ℕ
+setIn table pair = getD table pair 0
+
+-- the bytes of event k, which start at k times 14
+abbrev pub eventIn : List ℕ → ℕ → List ℕ
+eventIn events k = take eventLength (drop (k * eventLength) events)

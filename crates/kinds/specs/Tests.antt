@@ -1,0 +1,27 @@
+-- Tests on numbers and lists that compute: what the page says in words such as "one of" and "the same".
+use Prim.Native.Nat.{ℕ}
+use mathlib.Core.Bool.{Bool, true, false, _&&_, _||_}
+use mathlib.Core.List.{List, [], _∷_}
+use lib.Dec.{eqb}
+
+-- some element of the list passes the test
+abbrev pub any {ℓ} : {A : Type ℓ} → (A → Bool) → List A → Bool
+any p [] = false
+any p (x ∷ xs) = p x || any p xs
+
+-- every element of the list passes the test
+abbrev pub all {ℓ} : {A : Type ℓ} → (A → Bool) → List A → Bool
+all p [] = true
+all p (x ∷ xs) = p x && all p xs
+
+infix 40 _∈?_
+-- the number is one of the list
+abbrev pub _∈?_ : ℕ → List ℕ → Bool
+n ∈? ns = any (eqb n) ns
+
+-- the two lists are the same, number by number
+abbrev pub same : List ℕ → List ℕ → Bool
+same [] [] = true
+same [] (y ∷ ys) = false
+same (x ∷ xs) [] = false
+same (x ∷ xs) (y ∷ ys) = eqb x y && same xs ys

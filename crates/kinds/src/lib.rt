@@ -1,0 +1,365 @@
+// The kinds that the judge speaks of: states, codes, answers and numbers. Each carries its published codes.
+ghost use mathlib.Core.Path.{_≡_};
+ghost use Rattle.kinds.specs.Codes.{dirty, requests, respPD, fwdPD};
+ghost use Rattle.kinds.specs.Tests.{_∈?_};
+ghost use Rattle.kinds.specs.Answers.{wire, hasData, respOf, fwdOf};
+ghost use Rattle.kinds.specs.Places.{setIn, eventIn};
+
+// The state of a line in a cache.
+pub struct LineState(pub u8);
+
+impl LineState {
+    pub const I: LineState = LineState(0);
+
+    pub const UC: LineState = LineState(1);
+
+    pub const UCE: LineState = LineState(2);
+
+    pub const UD: LineState = LineState(3);
+
+    pub const UDP: LineState = LineState(4);
+
+    pub const SC: LineState = LineState(5);
+
+    pub const SD: LineState = LineState(6);
+
+    pub const NOT_SEEN: LineState = LineState(7);
+
+    // Whether somebody has to write the line back.
+    pub fn dirty(self) -> bool
+        ensures { λ r. ⌜ r ≡ dirty (self .0) ⌝ }
+    {
+        let s = self.0;
+        (s == LineState::UD.0) | (s == LineState::UDP.0) | (s == LineState::SD.0)
+    }
+}
+
+// The state of a line's memory tags.
+pub struct TagState(pub u8);
+
+impl TagState {
+    pub const INVALID: TagState = TagState(0);
+
+    pub const CLEAN: TagState = TagState(1);
+
+    pub const DIRTY: TagState = TagState(2);
+
+    pub const NOT_SEEN: TagState = TagState(3);
+}
+
+// What an answer says of the tags it carries.
+pub struct TagOp(pub u8);
+
+impl TagOp {
+    pub const INVALID: TagOp = TagOp(0);
+
+    pub const TRANSFER: TagOp = TagOp(1);
+
+    pub const UPDATE: TagOp = TagOp(2);
+
+    pub const MATCH: TagOp = TagOp(3);
+}
+
+// The error field of an answer.
+pub struct RespErr(pub u8);
+
+impl RespErr {
+    pub const OK: RespErr = RespErr(0);
+
+    pub const EXOK: RespErr = RespErr(1);
+
+    pub const DERR: RespErr = RespErr(2);
+
+    pub const NDERR: RespErr = RespErr(3);
+}
+
+// The snoop that is asked.
+pub struct Request(pub u8);
+
+impl Request {
+    pub const SNP_SHARED: Request = Request(1);
+
+    pub const SNP_CLEAN: Request = Request(2);
+
+    pub const SNP_NOT_SHARED_DIRTY: Request = Request(4);
+
+    pub const SNP_CLEAN_FWD: Request = Request(18);
+
+    pub const SNP_NOT_SHARED_DIRTY_FWD: Request = Request(20);
+
+    pub const SNP_PREFER_UNIQUE: Request = Request(21);
+
+    pub const SNP_PREFER_UNIQUE_FWD: Request = Request(22);
+
+    // Whether it is one of those that are judged.
+    pub fn known(self) -> bool
+        ensures { λ r. ⌜ r ≡ self .0 ∈? requests ⌝ }
+    {
+        let n = self.0;
+        (n == Request::SNP_SHARED.0)
+            | (n == Request::SNP_CLEAN.0)
+            | (n == Request::SNP_NOT_SHARED_DIRTY.0)
+            | (n == Request::SNP_CLEAN_FWD.0)
+            | (n == Request::SNP_NOT_SHARED_DIRTY_FWD.0)
+            | (n == Request::SNP_PREFER_UNIQUE.0)
+            | (n == Request::SNP_PREFER_UNIQUE_FWD.0)
+    }
+}
+
+// The channel that an answer goes on.
+pub struct Channel(pub u8);
+
+impl Channel {
+    pub const RSP: Channel = Channel(0);
+
+    pub const DAT: Channel = Channel(1);
+}
+
+// The message that an answer is, among those of its channel.
+pub struct Opcode(pub u8);
+
+impl Opcode {
+    pub const SNP_RESP: Opcode = Opcode(1);
+
+    pub const SNP_RESP_FWDED: Opcode = Opcode(9);
+
+    pub const SNP_RESP_DATA: Opcode = Opcode(1);
+
+    pub const SNP_RESP_DATA_PTL: Opcode = Opcode(5);
+
+    pub const SNP_RESP_DATA_FWDED: Opcode = Opcode(6);
+}
+
+// The state that an answer names, and whether it passes the duty to write back to Home.
+pub struct Resp(pub u8);
+
+impl Resp {
+    pub const I: Resp = Resp(0);
+
+    pub const SC: Resp = Resp(1);
+
+    pub const SD: Resp = Resp(3);
+
+    pub const I_PD: Resp = Resp(4);
+
+    pub const SC_PD: Resp = Resp(5);
+
+    // Whether it carries PD, Pass Dirty.
+    pub fn passes_dirty(self) -> bool
+        ensures { λ r. ⌜ r ≡ respPD (self .0) ⌝ }
+    {
+        let r = self.0;
+        (r == Resp::I_PD.0) | (r == Resp::SC_PD.0)
+    }
+}
+
+// The state that forwarded data names, and whether it passes the duty to write back to the Requester.
+pub struct FwdState(pub u8);
+
+impl FwdState {
+    pub const NONE: FwdState = FwdState(0);
+
+    pub const SC: FwdState = FwdState(1);
+
+    pub const UC: FwdState = FwdState(2);
+
+    pub const UD_PD: FwdState = FwdState(6);
+
+    pub const SD_PD: FwdState = FwdState(7);
+
+    // Whether it carries PD, Pass Dirty.
+    pub fn passes_dirty(self) -> bool
+        ensures { λ r. ⌜ r ≡ fwdPD (self .0) ⌝ }
+    {
+        let f = self.0;
+        (f == FwdState::UD_PD.0) | (f == FwdState::SD_PD.0)
+    }
+}
+
+// What the snoopee forwards to the Requester.
+pub enum Forward {
+    NoForward,
+    CompData(FwdState),
+}
+
+impl Forward {
+    pub const SC: Forward = Forward::CompData(FwdState::SC);
+
+    pub const UC: Forward = Forward::CompData(FwdState::UC);
+
+    pub const UD_PD: Forward = Forward::CompData(FwdState::UD_PD);
+
+    pub const SD_PD: Forward = Forward::CompData(FwdState::SD_PD);
+
+    pub const NONE: Forward = Forward::NoForward;
+}
+
+// The snoopee's answer to Home, with what it forwarded inside it.
+pub enum Answer {
+    // Without data: SnpResp, or SnpRespFwded where something is forwarded.
+    SnpResp(Resp, Forward),
+    // With data: SnpRespData, or SnpRespDataFwded.
+    SnpRespData(Resp, Forward),
+    // With part of the data; nothing is forwarded.
+    SnpRespDataPtl(Resp),
+}
+
+impl Answer {
+    pub const SNP_RESP_I: Answer = Answer::SnpResp(Resp::I, Forward::NONE);
+
+    pub const SNP_RESP_SC: Answer = Answer::SnpResp(Resp::SC, Forward::NONE);
+
+    pub const SNP_RESP_DATA_I: Answer = Answer::SnpRespData(Resp::I, Forward::NONE);
+
+    pub const SNP_RESP_DATA_SC: Answer = Answer::SnpRespData(Resp::SC, Forward::NONE);
+
+    pub const SNP_RESP_DATA_SD: Answer = Answer::SnpRespData(Resp::SD, Forward::NONE);
+
+    pub const SNP_RESP_DATA_I_PD: Answer = Answer::SnpRespData(Resp::I_PD, Forward::NONE);
+
+    pub const SNP_RESP_DATA_SC_PD: Answer = Answer::SnpRespData(Resp::SC_PD, Forward::NONE);
+
+    pub const SNP_RESP_DATA_PTL_I_PD: Answer = Answer::SnpRespDataPtl(Resp::I_PD);
+
+    pub const SNP_RESP_I_FWDED_SC: Answer = Answer::SnpResp(Resp::I, Forward::SC);
+
+    pub const SNP_RESP_SC_FWDED_SC: Answer = Answer::SnpResp(Resp::SC, Forward::SC);
+
+    pub const SNP_RESP_SD_FWDED_SC: Answer = Answer::SnpResp(Resp::SD, Forward::SC);
+
+    pub const SNP_RESP_I_FWDED_SD_PD: Answer = Answer::SnpResp(Resp::I, Forward::SD_PD);
+
+    pub const SNP_RESP_SC_FWDED_SD_PD: Answer = Answer::SnpResp(Resp::SC, Forward::SD_PD);
+
+    pub const SNP_RESP_I_FWDED_UC: Answer = Answer::SnpResp(Resp::I, Forward::UC);
+
+    pub const SNP_RESP_I_FWDED_UD_PD: Answer = Answer::SnpResp(Resp::I, Forward::UD_PD);
+
+    pub const SNP_RESP_DATA_I_FWDED_SC: Answer = Answer::SnpRespData(Resp::I, Forward::SC);
+
+    pub const SNP_RESP_DATA_SC_FWDED_SC: Answer = Answer::SnpRespData(Resp::SC, Forward::SC);
+
+    pub const SNP_RESP_DATA_SD_FWDED_SC: Answer = Answer::SnpRespData(Resp::SD, Forward::SC);
+
+    pub const SNP_RESP_DATA_I_FWDED_SD_PD: Answer = Answer::SnpRespData(Resp::I, Forward::SD_PD);
+
+    pub const SNP_RESP_DATA_SC_FWDED_SD_PD: Answer = Answer::SnpRespData(Resp::SC, Forward::SD_PD);
+
+    pub const SNP_RESP_DATA_I_PD_FWDED_SC: Answer = Answer::SnpRespData(Resp::I_PD, Forward::SC);
+
+    pub const SNP_RESP_DATA_SC_PD_FWDED_SC: Answer = Answer::SnpRespData(Resp::SC_PD, Forward::SC);
+
+    // What the bus shows of it: channel, opcode, Resp, FwdState, forwarded data present, its Resp.
+    pub fn wire(self) -> [u8; 6]
+        ensures { λ r. ⌜ r ≡ wire self ⌝ }
+    {
+        match self {
+            Answer::SnpResp(r, forward) => without_data(r, forward),
+            Answer::SnpRespData(r, forward) => with_data(r, forward),
+            Answer::SnpRespDataPtl(r) => {
+                [Channel::DAT.0, Opcode::SNP_RESP_DATA_PTL.0, r.0, 0, 0, 0]
+            }
+        }
+    }
+
+    // Whether it brings data to Home.
+    pub fn has_data(self) -> bool
+        ensures { λ r. ⌜ r ≡ hasData self ⌝ }
+    {
+        match self {
+            Answer::SnpResp(_, _) => false,
+            Answer::SnpRespData(_, _) => true,
+            Answer::SnpRespDataPtl(_) => true,
+        }
+    }
+
+    // Its Resp.
+    pub fn resp(self) -> Resp
+        ensures { λ r. ⌜ r .0 ≡ respOf self ⌝ }
+    {
+        match self {
+            Answer::SnpResp(r, _) => r,
+            Answer::SnpRespData(r, _) => r,
+            Answer::SnpRespDataPtl(r) => r,
+        }
+    }
+
+    // Its FwdState.
+    pub fn fwd_state(self) -> FwdState
+        ensures { λ r. ⌜ r .0 ≡ fwdOf self ⌝ }
+    {
+        match self {
+            Answer::SnpResp(_, forward) => match forward {
+                Forward::NoForward => FwdState::NONE,
+                Forward::CompData(f) => f,
+            },
+            Answer::SnpRespData(_, forward) => match forward {
+                Forward::NoForward => FwdState::NONE,
+                Forward::CompData(f) => f,
+            },
+            Answer::SnpRespDataPtl(_) => FwdState::NONE,
+        }
+    }
+}
+
+// SnpResp on the bus, or SnpRespFwded.
+fn without_data(r: Resp, forward: Forward) -> [u8; 6]
+    ensures { λ w. ⌜ w ≡ wire (Answer.SnpResp r forward) ⌝ }
+{
+    match forward {
+        Forward::NoForward => [Channel::RSP.0, Opcode::SNP_RESP.0, r.0, 0, 0, 0],
+        Forward::CompData(f) => [Channel::RSP.0, Opcode::SNP_RESP_FWDED.0, r.0, f.0, 1, f.0],
+    }
+}
+
+// SnpRespData on the bus, or SnpRespDataFwded.
+fn with_data(r: Resp, forward: Forward) -> [u8; 6]
+    ensures { λ w. ⌜ w ≡ wire (Answer.SnpRespData r forward) ⌝ }
+{
+    match forward {
+        Forward::NoForward => [Channel::DAT.0, Opcode::SNP_RESP_DATA.0, r.0, 0, 0, 0],
+        Forward::CompData(f) => [
+            Channel::DAT.0,
+            Opcode::SNP_RESP_DATA_FWDED.0,
+            r.0,
+            f.0,
+            1,
+            f.0,
+        ],
+    }
+}
+
+// The number of a pair, one line in one cache: the only number that the table of sets is read by.
+pub struct PairNumber(pub u16);
+
+impl PairNumber {
+    // The pair's set in the table of sets; empty for a pair that the table doesn't have.
+    pub fn set_in(self, table: &[u8]) -> u8
+        ensures { λ r. ⌜ r ≡ setIn (now (table .entry)) (self .0) ⌝ }
+    {
+        let pair = self.0;
+        let at = pair as usize;
+        if at < table.len() { table[at] } else { 0 }
+    }
+}
+
+// The number of an event in a trace.
+pub struct EventNumber(pub u32);
+
+impl EventNumber {
+    // The event's bytes, in place: a part of the trace that starts at 14 times the number.
+    pub fn event_in(self, events: &[u8]) -> &[u8]
+        ensures { λ r. ⌜ now r ≡ eventIn (now (events .entry)) (self .0) ⌝ }
+    {
+        let number = self.0;
+        let start = (number as usize) * 14;
+        let len = events.len();
+        if len <= start {
+            return &events[..0];
+        }
+        if len - start < 14 {
+            return &events[start..];
+        }
+        &events[start..start + 14]
+    }
+}
