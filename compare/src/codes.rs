@@ -15,12 +15,19 @@ pub const REQUESTS: [(&str, u8); 7] = [
 
 /// The line states, each under its code.
 pub mod state {
+    /// Invalid.
     pub const I: u8 = 0;
+    /// Unique Clean.
     pub const UC: u8 = 1;
+    /// Unique Clean Empty.
     pub const UCE: u8 = 2;
+    /// Unique Dirty.
     pub const UD: u8 = 3;
+    /// Unique Dirty Partial.
     pub const UDP: u8 = 4;
+    /// Shared Clean.
     pub const SC: u8 = 5;
+    /// Shared Dirty.
     pub const SD: u8 = 6;
 
     /// What byte 13 holds where the state after was not seen.
@@ -40,8 +47,11 @@ pub mod state {
 
 /// The states of the snoopee's tags.
 pub mod tag {
+    /// There are no tags.
     pub const Invalid: u8 = 0;
+    /// The tags are as they came.
     pub const Clean: u8 = 1;
+    /// The tags were changed.
     pub const Dirty: u8 = 2;
 
     /// What byte 4 holds where the tag state was not seen.
@@ -56,7 +66,9 @@ pub mod tag {
 
 /// The channels of the answer to Home.
 pub mod channel {
+    /// The channel of answers without data.
     pub const RSP: u8 = 0;
+    /// The channel of answers with data.
     pub const DAT: u8 = 1;
 
     /// The names of the codes of byte 5.
@@ -65,10 +77,15 @@ pub mod channel {
 
 /// The values of Resp that a row can have.
 pub mod resp {
+    /// The answer says I.
     pub const I: u8 = 0;
+    /// The answer says SC.
     pub const SC: u8 = 1;
+    /// The answer says SD.
     pub const SD: u8 = 3;
+    /// The answer says I and passes the Dirty line on.
     pub const I_PD: u8 = 4;
+    /// The answer says SC and passes the Dirty line on.
     pub const SC_PD: u8 = 5;
 
     /// Whether Resp passes the Dirty line to Home.
@@ -79,10 +96,15 @@ pub mod resp {
 
 /// The values of FwdState, and of the forwarded data's own Resp, that a row can have.
 pub mod fwd {
+    /// Nothing is forwarded.
     pub const NONE: u8 = 0;
+    /// The Requester gets the line as SC.
     pub const SC: u8 = 1;
+    /// The Requester gets the line as UC.
     pub const UC: u8 = 2;
+    /// The Requester gets the Dirty line as UD.
     pub const UD_PD: u8 = 6;
+    /// The Requester gets the Dirty line as SD.
     pub const SD_PD: u8 = 7;
 
     /// Whether the forwarded data passes the Dirty line to the Requester.
@@ -91,20 +113,26 @@ pub mod fwd {
     }
 }
 
-/// The values of TagOp.
+/// The values of TagOp that a row can have.
 pub mod tag_op {
+    /// The answer brings no tags.
     pub const Invalid: u8 = 0;
+    /// The answer brings tags that are as they came.
     pub const Transfer: u8 = 1;
+    /// The answer brings tags that were changed.
     pub const Update: u8 = 2;
 
     /// The names of the codes of byte 9.
     pub const NAMES: [&str; 4] = ["Invalid", "Transfer", "Update", "Match"];
 }
 
-/// The values of RespErr.
+/// The values of RespErr that a row can have.
 pub mod resp_err {
+    /// There is no error.
     pub const OK: u8 = 0;
+    /// The data is bad.
     pub const DERR: u8 = 2;
+    /// The snoop failed, without data.
     pub const NDERR: u8 = 3;
 
     /// The names of the codes of byte 10.
@@ -202,7 +230,8 @@ const fn response(name: &'static str, message: Message, resp: u8, fwd_state: u8)
 /// The 22 responses that the rows name, each under its name.
 #[rustfmt::skip]
 mod responses {
-    use super::*;
+    use super::{fwd, resp, response, Response};
+    use super::{SnpResp, SnpRespData, SnpRespDataFwded, SnpRespDataPtl, SnpRespFwded};
 
     pub const SnpResp_I: Response = response("SnpResp_I", SnpResp, resp::I, fwd::NONE);
     pub const SnpResp_SC: Response = response("SnpResp_SC", SnpResp, resp::SC, fwd::NONE);

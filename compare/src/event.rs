@@ -241,10 +241,35 @@ mod tests {
     use crate::codes::*;
     use std::collections::BTreeSet;
 
+    /// SnpShared.
     const SNP_SHARED: u8 = 1;
+    /// SnpClean.
     const SNP_CLEAN: u8 = 2;
+    /// SnpCleanFwd.
     const SNP_CLEAN_FWD: u8 = 18;
+    /// SnpPreferUniqueFwd.
     const SNP_PREFER_UNIQUE_FWD: u8 = 22;
+
+    /// The set {I}.
+    const ONLY_I: u8 = 1;
+    /// The set {SC}.
+    const ONLY_SC: u8 = 32;
+    /// The set {I, SC}.
+    const I_OR_SC: u8 = 33;
+    /// The set {SD}.
+    const ONLY_SD: u8 = 64;
+
+    /// No duty.
+    const NOBODY: u8 = 0;
+    /// The duty passed to Home.
+    const HOME: u8 = 1;
+    /// The duty passed to the Requester.
+    const REQUESTER: u8 = 2;
+    /// The duty lost.
+    const LOST: u8 = 3;
+
+    /// The empty set, and no duty.
+    const NONE: (u8, u8) = (0, NOBODY);
 
     /// An event as the notebook writes it where it names nothing else.
     fn entry(request: u8, response: Response, forward: Forward) -> Event {
@@ -273,16 +298,6 @@ mod tests {
         let n = usize::from(before);
         (answer.sets[n], answer.duties[n])
     }
-
-    const NONE: (u8, u8) = (0, 0);
-    const ONLY_I: u8 = 1;
-    const ONLY_SC: u8 = 32;
-    const I_OR_SC: u8 = 33;
-    const ONLY_SD: u8 = 64;
-    const NOBODY: u8 = 0;
-    const HOME: u8 = 1;
-    const REQUESTER: u8 = 2;
-    const LOST: u8 = 3;
 
     /// Entry a.
     #[test]

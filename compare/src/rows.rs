@@ -250,9 +250,7 @@ fn tag_op_fits(row: &Row, tag: u8, before: u8, tag_op: u8) -> bool {
         return tag_op == tag_op::Invalid;
     }
     if row.table == B4_46 {
-        return tag_op == tag_op::Invalid
-            || tag_op == tag_op::Transfer
-            || tag_op == tag_op::Update;
+        return tag_op == tag_op::Invalid || tag_op == tag_op::Transfer || tag_op == tag_op::Update;
     }
     if tag == tag::Dirty {
         if row.response.resp == resp::SD {

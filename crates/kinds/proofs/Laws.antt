@@ -21,7 +21,7 @@ or-2 : (a b : Bool) → a || b ≡ a || (b || false)
 or-2 true b = refl
 or-2 false b = or-1 b
 
-or-3 : (a b c : Bool) → a || b || c ≡ a || (b || (c || false))
+pub or-3 : (a b c : Bool) → a || b || c ≡ a || (b || (c || false))
 or-3 true b c = refl
 or-3 false b c = or-2 b c
 

@@ -182,18 +182,6 @@ pub enum Forward {
     CompData(FwdState),
 }
 
-impl Forward {
-    pub const SC: Forward = Forward::CompData(FwdState::SC);
-
-    pub const UC: Forward = Forward::CompData(FwdState::UC);
-
-    pub const UD_PD: Forward = Forward::CompData(FwdState::UD_PD);
-
-    pub const SD_PD: Forward = Forward::CompData(FwdState::SD_PD);
-
-    pub const NONE: Forward = Forward::NoForward;
-}
-
 // The snoopee's answer to Home, with what it forwarded inside it.
 pub enum Answer {
     // Without data: SnpResp, or SnpRespFwded where something is forwarded.
@@ -205,50 +193,6 @@ pub enum Answer {
 }
 
 impl Answer {
-    pub const SNP_RESP_I: Answer = Answer::SnpResp(Resp::I, Forward::NONE);
-
-    pub const SNP_RESP_SC: Answer = Answer::SnpResp(Resp::SC, Forward::NONE);
-
-    pub const SNP_RESP_DATA_I: Answer = Answer::SnpRespData(Resp::I, Forward::NONE);
-
-    pub const SNP_RESP_DATA_SC: Answer = Answer::SnpRespData(Resp::SC, Forward::NONE);
-
-    pub const SNP_RESP_DATA_SD: Answer = Answer::SnpRespData(Resp::SD, Forward::NONE);
-
-    pub const SNP_RESP_DATA_I_PD: Answer = Answer::SnpRespData(Resp::I_PD, Forward::NONE);
-
-    pub const SNP_RESP_DATA_SC_PD: Answer = Answer::SnpRespData(Resp::SC_PD, Forward::NONE);
-
-    pub const SNP_RESP_DATA_PTL_I_PD: Answer = Answer::SnpRespDataPtl(Resp::I_PD);
-
-    pub const SNP_RESP_I_FWDED_SC: Answer = Answer::SnpResp(Resp::I, Forward::SC);
-
-    pub const SNP_RESP_SC_FWDED_SC: Answer = Answer::SnpResp(Resp::SC, Forward::SC);
-
-    pub const SNP_RESP_SD_FWDED_SC: Answer = Answer::SnpResp(Resp::SD, Forward::SC);
-
-    pub const SNP_RESP_I_FWDED_SD_PD: Answer = Answer::SnpResp(Resp::I, Forward::SD_PD);
-
-    pub const SNP_RESP_SC_FWDED_SD_PD: Answer = Answer::SnpResp(Resp::SC, Forward::SD_PD);
-
-    pub const SNP_RESP_I_FWDED_UC: Answer = Answer::SnpResp(Resp::I, Forward::UC);
-
-    pub const SNP_RESP_I_FWDED_UD_PD: Answer = Answer::SnpResp(Resp::I, Forward::UD_PD);
-
-    pub const SNP_RESP_DATA_I_FWDED_SC: Answer = Answer::SnpRespData(Resp::I, Forward::SC);
-
-    pub const SNP_RESP_DATA_SC_FWDED_SC: Answer = Answer::SnpRespData(Resp::SC, Forward::SC);
-
-    pub const SNP_RESP_DATA_SD_FWDED_SC: Answer = Answer::SnpRespData(Resp::SD, Forward::SC);
-
-    pub const SNP_RESP_DATA_I_FWDED_SD_PD: Answer = Answer::SnpRespData(Resp::I, Forward::SD_PD);
-
-    pub const SNP_RESP_DATA_SC_FWDED_SD_PD: Answer = Answer::SnpRespData(Resp::SC, Forward::SD_PD);
-
-    pub const SNP_RESP_DATA_I_PD_FWDED_SC: Answer = Answer::SnpRespData(Resp::I_PD, Forward::SC);
-
-    pub const SNP_RESP_DATA_SC_PD_FWDED_SC: Answer = Answer::SnpRespData(Resp::SC_PD, Forward::SC);
-
     // What the bus shows of it: channel, opcode, Resp, FwdState, forwarded data present, its Resp.
     pub fn wire(self) -> [u8; 6]
         ensures { λ r. ⌜ r ≡ wire self ⌝ }
@@ -327,6 +271,19 @@ fn with_data(r: Resp, forward: Forward) -> [u8; 6]
             f.0,
         ],
     }
+}
+
+// Who holds the duty to write back after an explained event.
+pub struct Duty(pub u8);
+
+impl Duty {
+    pub const NONE: Duty = Duty(0);
+
+    pub const HOME: Duty = Duty(1);
+
+    pub const REQUESTER: Duty = Duty(2);
+
+    pub const LOST: Duty = Duty(3);
 }
 
 // The number of a pair, one line in one cache: the only number that the table of sets is read by.

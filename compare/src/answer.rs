@@ -1,0 +1,62 @@
+//! Answers records the way the judge's program is to answer them.
+
+use crate::cases::{self, RECORD_BYTES};
+use crate::event;
+use crate::pipe;
+use std::io::{self, BufReader, BufWriter, Read, Write};
+
+/// Answers every record of the input that is one event alone.
+pub fn event(input: impl Read, output: impl Write) -> io::Result<()> {
+    let mut input = BufReader::with_capacity(pipe::BUFFER, input);
+    let mut output = BufWriter::with_capacity(pipe::BUFFER, output);
+    let mut record = [0; RECORD_BYTES];
+    loop {
+        let came = pipe::fill(&mut input, &mut record)?;
+        if came == 0 {
+            return output.flush();
+        }
+        if came < RECORD_BYTES {
+            return Err(bad("the input ends within a record"));
+        }
+        let bytes =
+            cases::handed_over(&record).ok_or_else(|| bad("a record's length is over 40"))?;
+        output.write_all(&event::alone(bytes).bytes())?;
+    }
+}
+
+/// The error of an input that is not made of records.
+fn bad(message: &str) -> io::Error {
+    io::Error::new(io::ErrorKind::InvalidData, message)
+}
+
+#[cfg(test)]
+mod tests {
+    use super::*;
+
+    /// Records are answered one after another, by their length and not by what stands after it.
+    #[test]
+    fn records_are_answered() {
+        let mut good = [9; RECORD_BYTES];
+        good[..15].copy_from_slice(&[14, 2, 0, 0, 0, 0, 0, 1, 1, 0, 0, 0, 0, 0, 7]);
+        let mut short = good;
+        short[0] = 13;
+        let mut output = Vec::new();
+        event(&[good, short].concat()[..], &mut output).unwrap();
+        assert_eq!(
+            output[..16],
+            [0, 1, 0, 33, 0, 0, 0, 33, 0, 0, 0, 0, 0, 0, 0, 0]
+        );
+        assert_eq!(
+            output[16..],
+            [1, 0, 0, 0, 0, 0, 0, 0, 0, 0, 0, 0, 0, 0, 0, 0]
+        );
+    }
+
+    /// An input that is not made of records is an error.
+    #[test]
+    fn bad_records() {
+        assert!(event(&[0; 40][..], Vec::new()).is_err());
+        assert!(event(&[41; 41][..], Vec::new()).is_err());
+        assert!(event(&[][..], Vec::new()).is_ok());
+    }
+}

@@ -1,0 +1,74 @@
+-- Laws of tests over lists: what `any` finds, what `all` grants, and when two tests are the same.
+-- Assumes nothing.
+use mathlib.Core.Path.{_≡_, refl, sym, _∙_, ap, subst}
+use mathlib.Core.Bool.{Bool, true, false, _&&_, _||_, false≢true}
+use mathlib.Core.List.{List, [], _∷_, _++_}
+use Rattle.kinds.specs.Tests.{any, all}
+
+-- the element stands in the list
+pub data In {ℓ} {A : Type ℓ} : A → List A → Type ℓ where
+  here : {x : A} {xs : List A} → In x (x ∷ xs)
+  there : {x y : A} {xs : List A} → In x xs → In x (y ∷ xs)
+
+-- two tests that hold together are one
+pub same-truth : (a b : Bool) → (a ≡ true → b ≡ true) → (b ≡ true → a ≡ true) → a ≡ b
+same-truth true true f g = refl
+same-truth true false f g = sym (f refl)
+same-truth false true f g = g refl
+same-truth false false f g = refl
+
+-- the parts of a chain of `&`
+pub and-left : (a b : Bool) → a && b ≡ true → a ≡ true
+and-left true b h = refl
+and-left false b h = h
+
+pub and-right : (a b : Bool) → a && b ≡ true → b ≡ true
+and-right true b h = h
+and-right false b h = absurd (false≢true h)
+
+pub and-both : {a b : Bool} → a ≡ true → b ≡ true → a && b ≡ true
+and-both {a} {b} p q = ap (λ (x : Bool). x && b) p ∙ q
+
+pub or-right : (a b : Bool) → b ≡ true → a || b ≡ true
+or-right true b h = refl
+or-right false b h = h
+
+pub or-left : {a : Bool} (b : Bool) → a ≡ true → a || b ≡ true
+or-left b h = ap (λ (x : Bool). x || b) h
+
+module _ {ℓ} {A : Type ℓ} where
+  -- what `any` found
+  pub record Found (p : A → Bool) (xs : List A) : Type ℓ where
+    pub one : A
+    pub inside : In one xs
+    pub passes : p one ≡ true
+
+  pub any-found : (p : A → Bool) (xs : List A) → any p xs ≡ true → Found p xs
+  any-found p [] h = absurd (false≢true h)
+  any-found p (x ∷ xs) h = go (p x) refl h (any-found p xs)
+    where
+      go : (b : Bool) → p x ≡ b → b || any p xs ≡ true → (any p xs ≡ true → Found p xs) → Found p (x ∷ xs)
+      go true e k f = record { one = x; inside = here; passes = e }
+      go false e k f = let r = f k in record { one = r .one; inside = there (r .inside); passes = r .passes }
+
+  pub found-any : (p : A → Bool) {x : A} {xs : List A} → In x xs → p x ≡ true → any p xs ≡ true
+  found-any p (here {xs = xs}) h = or-left (any p xs) h
+  found-any p (there {y = y} {xs = xs} i) h = or-right (p y) (any p xs) (found-any p i h)
+
+  -- what `all` grants
+  pub all-at : (p : A → Bool) {x : A} {xs : List A} → all p xs ≡ true → In x xs → p x ≡ true
+  all-at p {xs = xs} h (here {x = x} {xs = ys}) = and-left (p x) (all p ys) h
+  all-at p {xs = xs} h (there {y = y} {xs = ys} i) = all-at p (and-right (p y) (all p ys) h) i
+
+  -- one element more
+  pub any-snoc : (p : A → Bool) (xs : List A) (x : A) → any p (xs ++ (x ∷ [])) ≡ any p xs || p x
+  any-snoc p [] x = or-false (p x)
+    where
+      or-false : (b : Bool) → b || false ≡ b
+      or-false true = refl
+      or-false false = refl
+  any-snoc p (y ∷ ys) x = ap (λ (b : Bool). p y || b) (any-snoc p ys x) ∙ or-assoc (p y) (any p ys) (p x)
+    where
+      or-assoc : (a b c : Bool) → a || (b || c) ≡ a || b || c
+      or-assoc true b c = refl
+      or-assoc false b c = refl

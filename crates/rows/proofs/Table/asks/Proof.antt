@@ -1,0 +1,59 @@
+-- `rows::Table::asks` meets its contract: each arm tests the list of its table.
+-- Assumes nothing.
+use Rattle.kinds.proofs.Laws.{one-of-1, one-of-2, one-of-4}
+use borrow.Author.Needs.{needs}
+use Rattle.rows.proofs.Table.asks.Statement.{statement}
+use Rattle.rows.proofs.Table.asks.Tie as tie
+
+-- /work/main/target/rlib/kinds.rlib/interface/lang/src/lib.rt:36:34
+enum-told : tie.Need-enum-told
+enum-told c = search needs
+
+-- /work/main/target/rlib/kinds.rlib/interface/lang/src/lib.rt:39:37
+enum-told-2 : tie.Need-enum-told-2
+enum-told-2 c = search needs
+
+-- /work/main/target/rlib/kinds.rlib/interface/lang/src/lib.rt:42:45
+enum-told-3 : tie.Need-enum-told-3
+enum-told-3 c = search needs
+
+-- /work/main/target/rlib/kinds.rlib/interface/lang/src/lib.rt:42:45
+enum-told-4 : tie.Need-enum-told-4
+enum-told-4 c = search needs
+
+enum-told-5 : tie.Need-enum-told-5
+enum-told-5 c = search needs
+
+known-requires : tie.Need-known-requires
+known-requires c κs = search needs
+
+returns : tie.Need-returns
+returns c = cc (one-of-4 (c .before .before .before .before .before .before .args .request .0) 1 2 4 21)
+
+returns-2 : tie.Need-returns-2
+returns-2 c = cc (one-of-2 (c .before .before .before .before .args .request .0) 18 20)
+
+returns-3 : tie.Need-returns-3
+returns-3 c = cc (one-of-1 (c .before .before .before .args .request .0) 22)
+
+returns-4 : tie.Need-returns-4
+returns-4 c = cc (one-of-1 (c .before .before .before .args .request .0) 22)
+
+returns-5 : tie.Need-returns-5
+returns-5 c = cc
+
+pub asks-spec : {M : Type 1} → statement M
+asks-spec =
+    tie.close
+    (tie.spec
+    enum-told
+    enum-told-2
+    enum-told-3
+    enum-told-4
+    enum-told-5
+    known-requires
+    returns
+    returns-2
+    returns-3
+    returns-4
+    returns-5)

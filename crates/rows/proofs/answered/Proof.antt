@@ -1,0 +1,23 @@
+-- `rows::answered` meets its contract: both halves are the callees' own words.
+-- Assumes nothing.
+use Rattle.rows.specs.Permitted.{answered}
+use borrow.Author.Needs.{needs}
+use Rattle.rows.proofs.answered.Statement.{statement}
+use Rattle.rows.proofs.answered.Tie as tie
+
+same-answer-requires : tie.Need-same-answer-requires
+same-answer-requires c κs = search needs
+
+element-copy-out-t8 : tie.Need-element-copy-out-t8
+element-copy-out-t8 c = search needs
+
+errors-requires : tie.Need-errors-requires
+errors-requires c κs = search needs
+
+returns : tie.Need-returns
+unfolding answered
+returns c = cc
+
+pub answered-spec : {M : Type 1} → statement M
+answered-spec =
+    tie.close (tie.spec same-answer-requires element-copy-out-t8 errors-requires returns)

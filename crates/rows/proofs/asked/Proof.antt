@@ -1,0 +1,48 @@
+-- `rows::asked` meets its contract: each part is a callee's own words.
+-- Assumes nothing.
+use Rattle.rows.specs.Permitted.{asked}
+use borrow.Author.Needs.{needs}
+use Rattle.rows.proofs.asked.Statement.{statement}
+use Rattle.rows.proofs.asked.Tie as tie
+
+element-copy-out-t8 : tie.Need-element-copy-out-t8
+element-copy-out-t8 c = search needs
+
+asks-requires : tie.Need-asks-requires
+asks-requires c κs = search needs
+
+excl-requires : tie.Need-excl-requires
+excl-requires c κs = search needs
+
+element-copy-out-fits : tie.Need-element-copy-out-fits
+element-copy-out-fits c = search needs
+
+fits-requires : tie.Need-fits-requires
+fits-requires c κs = search needs
+
+element-copy-out-fits-2 : tie.Need-element-copy-out-fits-2
+element-copy-out-fits-2 c = search needs
+
+fits-requires-2 : tie.Need-fits-requires-2
+fits-requires-2 c κs = search needs
+
+element-copy-out-result : tie.Need-element-copy-out-result
+element-copy-out-result c = search needs
+
+returns : tie.Need-returns
+unfolding asked
+returns c = cc
+
+pub asked-spec : {M : Type 1} → statement M
+asked-spec =
+    tie.close
+    (tie.spec
+    element-copy-out-t8
+    asks-requires
+    excl-requires
+    element-copy-out-fits
+    fits-requires
+    element-copy-out-fits-2
+    fits-requires-2
+    element-copy-out-result
+    returns)

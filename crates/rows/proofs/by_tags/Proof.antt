@@ -1,0 +1,38 @@
+-- `rows::by_tags` meets its contract: the choices of the code are those of `byTags`.
+-- Assumes nothing.
+use Rattle.rows.proofs.Laws.{by-tags}
+use Rattle.kinds.specs.Answers.{respOf}
+use Rattle.kinds.specs.Codes.{respPD}
+use lib.Dec.{eqb}
+use borrow.Author.Needs.{needs}
+use Rattle.rows.proofs.by_tags.Statement.{statement}
+use Rattle.rows.proofs.by_tags.Tie as tie
+
+resp-requires : tie.Need-resp-requires
+resp-requires c κs = search needs
+
+passes-dirty-requires : tie.Need-passes-dirty-requires
+passes-dirty-requires c κs = search needs
+
+pick-requires : tie.Need-pick-requires
+pick-requires c κs = search needs
+
+pick-requires-2 : tie.Need-pick-requires-2
+pick-requires-2 c κs = search needs
+
+pick-requires-3 : tie.Need-pick-requires-3
+pick-requires-3 c κs = search needs
+
+returns : tie.Need-returns
+returns c = cc (by-tags (c .before .before .before .before .before .before .before .before .before .before .before .before .args .op .0) (eqb (c .before .before .before .before .before .before .before .before .before .before .before .before .args .tag .0) 2) (respPD (respOf (c .before .before .before .before .before .before .before .before .before .before .before .before .args .answer))) (eqb (c .before .before .before .before .before .before .before .before .before .before .before .before .args .before .0) 4))
+
+pub by-tags-spec : {M : Type 1} → statement M
+by-tags-spec =
+    tie.close
+    (tie.spec
+    resp-requires
+    passes-dirty-requires
+    pick-requires
+    pick-requires-2
+    pick-requires-3
+    returns)

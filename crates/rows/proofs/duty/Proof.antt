@@ -1,0 +1,52 @@
+-- `rows::duty` meets its contract: the choices of the code are those of `duty`.
+-- Assumes nothing.
+use Rattle.rows.specs.Steps.{duty}
+use borrow.Author.Needs.{needs}
+use Rattle.rows.proofs.duty.Statement.{statement}
+use Rattle.rows.proofs.duty.Tie as tie
+
+byte-at-requires : tie.Need-byte-at-requires
+byte-at-requires c κs = search needs
+
+passes-dirty-requires : tie.Need-passes-dirty-requires
+passes-dirty-requires c κs = search needs
+
+byte-at-requires-2 : tie.Need-byte-at-requires-2
+byte-at-requires-2 c κs = search needs
+
+passes-dirty-requires-2 : tie.Need-passes-dirty-requires-2
+passes-dirty-requires-2 c κs = search needs
+
+byte-at-requires-3 : tie.Need-byte-at-requires-3
+byte-at-requires-3 c κs = search needs
+
+holds-dirty-requires : tie.Need-holds-dirty-requires
+holds-dirty-requires c κs = search needs
+
+choose-requires : tie.Need-choose-requires
+choose-requires c κs = search needs
+
+choose-requires-2 : tie.Need-choose-requires-2
+choose-requires-2 c κs = search needs
+
+choose-requires-3 : tie.Need-choose-requires-3
+choose-requires-3 c κs = search needs
+
+returns : tie.Need-returns
+unfolding duty
+returns c = cc
+
+pub duty-spec : {M : Type 1} → statement M
+duty-spec =
+    tie.close
+    (tie.spec
+    byte-at-requires
+    passes-dirty-requires
+    byte-at-requires-2
+    passes-dirty-requires-2
+    byte-at-requires-3
+    holds-dirty-requires
+    choose-requires
+    choose-requires-2
+    choose-requires-3
+    returns)

@@ -1,0 +1,52 @@
+-- `rows::row_of` meets its contract: each column is read off the word.
+-- Assumes nothing.
+use Rattle.rows.specs.Code.{rowAt}
+use borrow.Author.Needs.{needs}
+use Rattle.rows.proofs.row_of.Statement.{statement}
+use Rattle.rows.proofs.row_of.Tie as tie
+
+column-requires : tie.Need-column-requires
+column-requires c κs = search needs
+
+table-of-requires : tie.Need-table-of-requires
+table-of-requires c κs = search needs
+
+column-requires-2 : tie.Need-column-requires-2
+column-requires-2 c κs = search needs
+
+column-requires-3 : tie.Need-column-requires-3
+column-requires-3 c κs = search needs
+
+column-requires-4 : tie.Need-column-requires-4
+column-requires-4 c κs = search needs
+
+column-requires-5 : tie.Need-column-requires-5
+column-requires-5 c κs = search needs
+
+answer-of-requires : tie.Need-answer-of-requires
+answer-of-requires c κs = search needs
+
+cast-after : tie.Need-cast-after
+cast-after c = search needs
+
+column-requires-6 : tie.Need-column-requires-6
+column-requires-6 c κs = search needs
+
+returns : tie.Need-returns
+unfolding rowAt
+returns c = cc
+
+pub row-of-spec : {M : Type 1} → statement M
+row-of-spec =
+    tie.close
+    (tie.spec
+    column-requires
+    table-of-requires
+    column-requires-2
+    column-requires-3
+    column-requires-4
+    column-requires-5
+    answer-of-requires
+    cast-after
+    column-requires-6
+    returns)

@@ -1,0 +1,18 @@
+-- `rows::seen_states` meets its contract: a table of eight sets, and none past it.
+-- Assumes nothing.
+use Rattle.rows.proofs.Laws.{seen-at, seen-past}
+use borrow.Author.Needs.{needs}
+use Rattle.rows.proofs.seen_states.Statement.{statement}
+use Rattle.rows.proofs.seen_states.Tie as tie
+
+array-read-result : tie.Need-array-read-result
+array-read-result c = search needs
+
+returns : tie.Need-returns
+returns c = seen-at (c .before .args .after) (c .if1 .taken)
+
+returns-2 : tie.Need-returns-2
+returns-2 c = seen-past (c .before .args .after) (c .if1 .left)
+
+pub seen-states-spec : {M : Type 1} → statement M
+seen-states-spec = tie.close (tie.spec array-read-result returns returns-2)

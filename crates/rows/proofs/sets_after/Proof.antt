@@ -1,0 +1,78 @@
+-- `rows::sets_after` meets its contract: the walk along the rows. The invariant: the words are the printed rows, and the sets are what the
+-- rows passed so far lead to. The measure is the rows that are left.
+-- Assumes nothing.
+use borrow.Author.Needs.{needs}
+use native.Mathlib.Omega.{arith}
+use Prim.Native.Nat.{_≤_, _-_}
+use mathlib.Core.Path.{_≡_, refl}
+use lib.ListN.{take}
+use denote.Ref.{now}
+use Rattle.sets.specs.Sets.{setOf}
+use Rattle.rows.specs.Rows.{rows}
+use Rattle.rows.specs.Code.{rowAt, eventBytes}
+use Rattle.rows.proofs.Walk.{Printed, walked, walk-none, word-before, walk-turn, walk-end}
+use Rattle.rows.proofs.sets_after.Statement.{statement}
+use Rattle.rows.proofs.sets_after.Tie as tie
+
+abbrev Inv-loop : tie.InvT-loop
+Inv-loop event e among words sets₀ i₀ sets i =
+    (i ≤ 73) × Printed words × (sets ≡ walked (eventBytes event) (take i rows))
+
+abbrev μ-loop : tie.MeasureT-loop
+μ-loop event e among words sets₀ i₀ sets i = 73 - i
+
+event-bytes-requires : tie.Need-event-bytes-requires Inv-loop μ-loop
+event-bytes-requires c κs = search needs
+
+array-read-seen-states : tie.Need-array-read-seen-states Inv-loop μ-loop
+array-read-seen-states c = search needs
+
+seen-states-requires : tie.Need-seen-states-requires Inv-loop μ-loop
+seen-states-requires c κs = search needs
+
+loop-holds : tie.Need-loop-holds Inv-loop μ-loop
+unfolding rowAt rows setOf
+loop-holds c = (omega arith, record { same = refl }, walk-none (eventBytes (now (c .before .before .before .args .event))))
+
+mul-row-of : tie.Need-mul-row-of Inv-loop μ-loop
+mul-row-of c = omega arith
+
+array-read-row-of : tie.Need-array-read-row-of Inv-loop μ-loop
+array-read-row-of c = omega arith
+
+row-of-requires : tie.Need-row-of-requires Inv-loop μ-loop
+row-of-requires c κs = search needs
+
+with-row-requires : tie.Need-with-row-requires Inv-loop μ-loop
+with-row-requires c κs = word-before (c .before .before .before .loop .i) (c .before .row-of .result) (c .before .before .before .loop .inv .1) (c .before .before .loop-test .taken) (c .before .row-of .ensures)
+
+add-i : tie.Need-add-i Inv-loop μ-loop
+add-i c = omega arith
+
+loop-less : tie.Need-loop-less Inv-loop μ-loop
+loop-less c = omega arith
+
+loop-again : tie.Need-loop-again Inv-loop μ-loop
+loop-again c = (omega arith, c .before .before .before .before .loop .inv .1, walk-turn (now (c .before .before .before .before .before .before .before .before .args .event)) (c .before .before .before .before .loop .i) (c .before .before .before .before .before .before .event-bytes .result) (c .before .before .before .before .before .seen-states .result) (c .before .before .row-of .result) (c .before .before .before .before .loop .sets) (c .with-row .result) (c .before .before .before .before .loop .inv .1) (c .before .before .before .loop-test .taken) (c .before .before .before .before .before .before .event-bytes .ensures) (c .before .before .before .before .before .seen-states .ensures) (c .before .before .row-of .ensures) (c .before .before .before .before .loop .inv .2) (c .with-row .ensures))
+
+returns : tie.Need-returns Inv-loop μ-loop
+returns c = walk-end (now (c .before .before .before .before .before .args .event)) (c .before .loop .i) (c .before .loop .sets) (c .loop-test .left) (c .before .loop .inv .2)
+
+pub sets-after-spec : {M : Type 1} → statement M
+sets-after-spec =
+    tie.close
+    (tie.spec
+    Inv-loop
+    μ-loop
+    event-bytes-requires
+    array-read-seen-states
+    seen-states-requires
+    loop-holds
+    mul-row-of
+    array-read-row-of
+    row-of-requires
+    with-row-requires
+    add-i
+    loop-less
+    loop-again
+    returns)

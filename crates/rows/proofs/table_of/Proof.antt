@@ -1,0 +1,23 @@
+-- `rows::table_of` meets its contract: each arm is a case of `tableAt`.
+-- Assumes nothing.
+use Rattle.rows.proofs.Laws.{table-else}
+use Rattle.rows.proofs.table_of.Statement.{statement}
+use Rattle.rows.proofs.table_of.Tie as tie
+
+returns : tie.Need-returns
+returns c = rw (c .match .keys1)
+
+returns-2 : tie.Need-returns-2
+returns-2 c = rw (c .match .keys2)
+
+returns-3 : tie.Need-returns-3
+returns-3 c = rw (c .match .keys3)
+
+returns-4 : tie.Need-returns-4
+returns-4 c = rw (c .match .keys4)
+
+returns-5 : tie.Need-returns-5
+returns-5 c = table-else (c .before .args .number) (c .match .rest .0 .0 .0 .1) (c .match .rest .0 .0 .1) (c .match .rest .0 .1) (c .match .rest .1)
+
+pub table-of-spec : {M : Type 1} → statement M
+table-of-spec = tie.close (tie.spec returns returns-2 returns-3 returns-4 returns-5)

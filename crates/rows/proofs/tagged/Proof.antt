@@ -1,0 +1,44 @@
+-- `rows::tagged` meets its contract.
+-- Assumes nothing.
+use Rattle.rows.proofs.Laws.{tag-op}
+use Rattle.rows.specs.Permitted.{tagged, rulesOf}
+use Rattle.kinds.specs.Answers.{hasData}
+use lib.ListN.{getD}
+use denote.Ref.{now}
+use borrow.Author.Needs.{needs}
+use Rattle.rows.proofs.tagged.Statement.{statement}
+use Rattle.rows.proofs.tagged.Tie as tie
+
+element-copy-out-pick : tie.Need-element-copy-out-pick
+element-copy-out-pick c = search needs
+
+has-data-requires : tie.Need-has-data-requires
+has-data-requires c κs = search needs
+
+on-data-requires : tie.Need-on-data-requires
+on-data-requires c κs = search needs
+
+element-copy-out-pick-2 : tie.Need-element-copy-out-pick-2
+element-copy-out-pick-2 c = search needs
+
+pick-requires : tie.Need-pick-requires
+pick-requires c κs = search needs
+
+tags-allow-requires : tie.Need-tags-allow-requires
+tags-allow-requires c κs = search needs
+
+returns : tie.Need-returns
+unfolding tagged
+returns c = cc (tag-op (getD (now (c .before .before .before .before .before .before .before .args .e)) 9 0) (hasData (c .before .before .before .before .before .before .before .args .answer)) (rulesOf (c .before .before .before .before .before .before .before .args .table) .onData (c .before .before .before .before .before .before .before .args .tag .0) (c .before .before .before .before .before .before .before .args .before .0) (c .before .before .before .before .before .before .before .args .answer)))
+
+pub tagged-spec : {M : Type 1} → statement M
+tagged-spec =
+    tie.close
+    (tie.spec
+    element-copy-out-pick
+    has-data-requires
+    on-data-requires
+    element-copy-out-pick-2
+    pick-requires
+    tags-allow-requires
+    returns)

@@ -1,0 +1,42 @@
+-- An event's bytes, by what they are.
+use Prim.Native.Nat.{ℕ}
+use mathlib.Core.List.{List, [], _∷_}
+use lib.ListN.{getD}
+
+-- the byte at a place, 0 past the end
+abbrev pub byte : List ℕ → ℕ → ℕ
+byte e i = getD e i 0
+
+abbrev pub requestOf : List ℕ → ℕ
+requestOf e = byte e 0
+
+abbrev pub retToSrcOf : List ℕ → ℕ
+retToSrcOf e = byte e 1
+
+abbrev pub doNotGoToSDOf : List ℕ → ℕ
+doNotGoToSDOf e = byte e 2
+
+abbrev pub exclOf : List ℕ → ℕ
+exclOf e = byte e 3
+
+abbrev pub tagOf : List ℕ → ℕ
+tagOf e = byte e 4
+
+-- channel, opcode, Resp, FwdState, forwarded data present, its Resp
+abbrev pub answerOf : List ℕ → List ℕ
+answerOf e = byte e 5 ∷ byte e 6 ∷ byte e 7 ∷ byte e 8 ∷ byte e 11 ∷ byte e 12 ∷ []
+
+abbrev pub respOf : List ℕ → ℕ
+respOf e = byte e 7
+
+abbrev pub fwdStateOf : List ℕ → ℕ
+fwdStateOf e = byte e 8
+
+abbrev pub tagOpOf : List ℕ → ℕ
+tagOpOf e = byte e 9
+
+abbrev pub respErrOf : List ℕ → ℕ
+respErrOf e = byte e 10
+
+abbrev pub afterOf : List ℕ → ℕ
+afterOf e = byte e 13

@@ -1,0 +1,5 @@
+pub mod Event
+pub mod Rows
+pub mod Permitted
+pub mod Steps
+pub mod Code

@@ -1,0 +1,58 @@
+-- What one event can do to a line: the states after, and who holds the duty.
+use Prim.Native.Nat.{ℕ, _^_}
+use mathlib.Core.Path.{_≡_}
+use mathlib.Core.Bool.{Bool, true, cond, _&&_, _||_}
+use mathlib.Core.List.{List, map}
+use lib.Dec.{eqb}
+use Rattle.kinds.specs.Tests.{any, _∈?_}
+use Rattle.kinds.specs.Codes.{states, stateNotSeen, tags, tagNotSeen, NDERR, respPD, fwdPD}
+use Rattle.sets.specs.Sets.{setOf, holdsDirty}
+use Rattle.rows.specs.Event.{tagOf, respOf, fwdStateOf, respErrOf, afterOf}
+use Rattle.rows.specs.Permitted.{permitted}
+
+-- x is what was seen, or nothing was seen
+abbrev pub seen : ℕ → ℕ → ℕ → Bool
+seen notSeen what x = eqb what notSeen || eqb what x
+
+-- A step of the event from s to s′: a tag state, as seen or any of the three, and the state after as seen or any, that the rows permit.
+pub record Step (e : List ℕ) (s s′ : ℕ) : Type 0 where
+  pub tag : ℕ
+  pub is-tag : tag ∈? tags ≡ true
+  pub tag-seen : seen tagNotSeen (tagOf e) tag ≡ true
+  pub after-seen : seen stateNotSeen (afterOf e) s′ ≡ true
+  pub by-rows : permitted e tag s s′ ≡ true
+
+-- the same as a test
+unfoldable pub steps : List ℕ → ℕ → ℕ → Bool
+steps e s s′ = any (λ t. seen tagNotSeen (tagOf e) t && permitted e t s s′) tags && seen stateNotSeen (afterOf e) s′
+
+-- the set of states after
+unfoldable pub setAfter : List ℕ → ℕ → ℕ
+setAfter e s = setOf (steps e s)
+
+-- for each of the seven states before, the set of states after
+abbrev pub setsAfter : List ℕ → List ℕ
+setsAfter e = map (setAfter e) states
+
+-- The duty byte of an explained event, from the set before.
+abbrev pub noDuty : ℕ
+noDuty = 0
+
+abbrev pub Home : ℕ
+Home = 1
+
+abbrev pub Requester : ℕ
+Requester = 2
+
+abbrev pub lost : ℕ
+lost = 3
+
+unfoldable pub duty : List ℕ → ℕ → ℕ
+duty e before =
+    cond (respPD (respOf e)) Home
+    (cond (fwdPD (fwdStateOf e)) Requester
+    (cond (eqb (respErrOf e) NDERR && holdsDirty before) lost noDuty))
+
+-- the duty byte when judged from the state s alone, 0 where the set after is empty
+abbrev pub dutyAlone : List ℕ → ℕ → ℕ
+dutyAlone e s = cond (eqb (setAfter e s) 0) noDuty (duty e (2 ^ s))

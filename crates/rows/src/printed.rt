@@ -1,0 +1,200 @@
+// The table that the judge walks: one line a printed row, in the printed order. A row is a word, the sum of its columns.
+use kinds::FwdState;
+use kinds::LineState;
+use kinds::Resp;
+
+// The columns. The table is three bits from place 16.
+const B46: u32 = 0 << 16;
+
+const B57: u32 = 1 << 16;
+
+const B59: u32 = 2 << 16;
+
+const B60: u32 = 3 << 16;
+
+const ND_ERR: u32 = 4 << 16;
+
+// The state before, from place 8.
+const I: u32 = (LineState::I.0 as u32) << 8;
+
+const UC: u32 = (LineState::UC.0 as u32) << 8;
+
+const UCE: u32 = (LineState::UCE.0 as u32) << 8;
+
+const UD: u32 = (LineState::UD.0 as u32) << 8;
+
+const UDP: u32 = (LineState::UDP.0 as u32) << 8;
+
+const SC: u32 = (LineState::SC.0 as u32) << 8;
+
+const SD: u32 = (LineState::SD.0 as u32) << 8;
+
+// The set of states after, by weight, from place 0.
+const TO_I: u32 = 1;
+
+const TO_SC: u32 = 32;
+
+const SC_OR_I: u32 = 33;
+
+const TO_SD: u32 = 64;
+
+// DoNotGoToSD forbids the row.
+const MARK: u32 = 128;
+
+// RetToSrc, from place 12: 0, 1, or it doesn't matter.
+const RET_0: u32 = 0;
+
+const RET_1: u32 = 1 << 12;
+
+const X: u32 = 2 << 12;
+
+// The answer: its message from place 28, its Resp from 20, and the state of what it forwards from 24.
+const SNP_RESP: u32 = 0;
+
+const SNP_RESP_DATA: u32 = 1 << 28;
+
+const SNP_RESP_DATA_PTL: u32 = 2 << 28;
+
+const RESP_I: u32 = (Resp::I.0 as u32) << 20;
+
+const RESP_SC: u32 = (Resp::SC.0 as u32) << 20;
+
+const RESP_SD: u32 = (Resp::SD.0 as u32) << 20;
+
+const RESP_I_PD: u32 = (Resp::I_PD.0 as u32) << 20;
+
+const RESP_SC_PD: u32 = (Resp::SC_PD.0 as u32) << 20;
+
+const FWDED_SC: u32 = (FwdState::SC.0 as u32) << 24;
+
+const FWDED_UC: u32 = (FwdState::UC.0 as u32) << 24;
+
+const FWDED_UD_PD: u32 = (FwdState::UD_PD.0 as u32) << 24;
+
+const FWDED_SD_PD: u32 = (FwdState::SD_PD.0 as u32) << 24;
+
+// The answers by their names in the tables.
+const SnpResp_I: u32 = SNP_RESP + RESP_I;
+
+const SnpResp_SC: u32 = SNP_RESP + RESP_SC;
+
+const SnpRespData_SC: u32 = SNP_RESP_DATA + RESP_SC;
+
+const SnpRespData_I: u32 = SNP_RESP_DATA + RESP_I;
+
+const SnpRespData_SD: u32 = SNP_RESP_DATA + RESP_SD;
+
+const SnpRespData_SC_PD: u32 = SNP_RESP_DATA + RESP_SC_PD;
+
+const SnpRespData_I_PD: u32 = SNP_RESP_DATA + RESP_I_PD;
+
+const SnpRespDataPtl_I_PD: u32 = SNP_RESP_DATA_PTL + RESP_I_PD;
+
+const SnpResp_SC_Fwded_SC: u32 = SNP_RESP + RESP_SC + FWDED_SC;
+
+const SnpResp_I_Fwded_SC: u32 = SNP_RESP + RESP_I + FWDED_SC;
+
+const SnpResp_SD_Fwded_SC: u32 = SNP_RESP + RESP_SD + FWDED_SC;
+
+const SnpResp_SC_Fwded_SD_PD: u32 = SNP_RESP + RESP_SC + FWDED_SD_PD;
+
+const SnpResp_I_Fwded_SD_PD: u32 = SNP_RESP + RESP_I + FWDED_SD_PD;
+
+const SnpResp_I_Fwded_UC: u32 = SNP_RESP + RESP_I + FWDED_UC;
+
+const SnpResp_I_Fwded_UD_PD: u32 = SNP_RESP + RESP_I + FWDED_UD_PD;
+
+const SnpRespData_SC_Fwded_SC: u32 = SNP_RESP_DATA + RESP_SC + FWDED_SC;
+
+const SnpRespData_I_Fwded_SC: u32 = SNP_RESP_DATA + RESP_I + FWDED_SC;
+
+const SnpRespData_SD_Fwded_SC: u32 = SNP_RESP_DATA + RESP_SD + FWDED_SC;
+
+const SnpRespData_SC_Fwded_SD_PD: u32 = SNP_RESP_DATA + RESP_SC + FWDED_SD_PD;
+
+const SnpRespData_SC_PD_Fwded_SC: u32 = SNP_RESP_DATA + RESP_SC_PD + FWDED_SC;
+
+const SnpRespData_I_Fwded_SD_PD: u32 = SNP_RESP_DATA + RESP_I + FWDED_SD_PD;
+
+const SnpRespData_I_PD_Fwded_SC: u32 = SNP_RESP_DATA + RESP_I_PD + FWDED_SC;
+
+pub const ROWS: [u32; 73] = [
+    // Table B4.46: SnpClean, SnpShared, SnpNotSharedDirty and SnpPreferUnique
+    B46 + I + TO_I + X + SnpResp_I,
+    B46 + UC + SC_OR_I + X + SnpResp_SC,
+    B46 + UC + SC_OR_I + X + SnpRespData_SC,
+    B46 + UC + TO_I + X + SnpResp_I,
+    B46 + UC + TO_I + X + SnpRespData_I,
+    B46 + UCE + TO_I + X + SnpResp_I,
+    B46 + UD + TO_SD + X + SnpRespData_SD + MARK,
+    B46 + UD + SC_OR_I + X + SnpRespData_SC_PD,
+    B46 + UD + TO_I + X + SnpRespData_I_PD,
+    B46 + UDP + TO_I + X + SnpRespDataPtl_I_PD,
+    B46 + SC + SC_OR_I + RET_0 + SnpResp_SC,
+    B46 + SC + SC_OR_I + RET_1 + SnpRespData_SC,
+    B46 + SC + TO_I + RET_0 + SnpResp_I,
+    B46 + SC + TO_I + RET_1 + SnpRespData_I,
+    B46 + SD + TO_SD + X + SnpRespData_SD + MARK,
+    B46 + SD + SC_OR_I + X + SnpRespData_SC_PD,
+    B46 + SD + TO_I + X + SnpRespData_I_PD,
+    // Table B4.57: SnpCleanFwd and SnpNotSharedDirtyFwd
+    B57 + I + TO_I + X + SnpResp_I,
+    B57 + UC + SC_OR_I + RET_0 + SnpResp_SC_Fwded_SC,
+    B57 + UC + SC_OR_I + RET_1 + SnpRespData_SC_Fwded_SC,
+    B57 + UC + TO_I + RET_0 + SnpResp_I_Fwded_SC,
+    B57 + UC + TO_I + RET_1 + SnpRespData_I_Fwded_SC,
+    B57 + UCE + TO_I + X + SnpResp_I,
+    B57 + UD + TO_SD + RET_0 + SnpResp_SD_Fwded_SC + MARK,
+    B57 + UD + TO_SD + RET_1 + SnpRespData_SD_Fwded_SC + MARK,
+    B57 + UD + SC_OR_I + RET_0 + SnpResp_SC_Fwded_SD_PD,
+    B57 + UD + SC_OR_I + RET_1 + SnpRespData_SC_Fwded_SD_PD,
+    B57 + UD + SC_OR_I + X + SnpRespData_SC_PD_Fwded_SC,
+    B57 + UD + TO_I + RET_0 + SnpResp_I_Fwded_SD_PD,
+    B57 + UD + TO_I + RET_1 + SnpRespData_I_Fwded_SD_PD,
+    B57 + UD + TO_I + X + SnpRespData_I_PD_Fwded_SC,
+    B57 + UDP + TO_I + X + SnpRespDataPtl_I_PD,
+    B57 + SC + SC_OR_I + RET_0 + SnpResp_SC_Fwded_SC,
+    B57 + SC + SC_OR_I + RET_1 + SnpRespData_SC_Fwded_SC,
+    B57 + SC + TO_I + RET_0 + SnpResp_I_Fwded_SC,
+    B57 + SC + TO_I + RET_1 + SnpRespData_I_Fwded_SC,
+    B57 + SD + TO_SD + RET_0 + SnpResp_SD_Fwded_SC + MARK,
+    B57 + SD + TO_SD + RET_1 + SnpRespData_SD_Fwded_SC + MARK,
+    B57 + SD + SC_OR_I + RET_0 + SnpResp_SC_Fwded_SD_PD,
+    B57 + SD + SC_OR_I + RET_1 + SnpRespData_SC_Fwded_SD_PD,
+    B57 + SD + SC_OR_I + X + SnpRespData_SC_PD_Fwded_SC,
+    B57 + SD + TO_I + RET_0 + SnpResp_I_Fwded_SD_PD,
+    B57 + SD + TO_I + RET_1 + SnpRespData_I_Fwded_SD_PD,
+    B57 + SD + TO_I + X + SnpRespData_I_PD_Fwded_SC,
+    // Table B4.59: SnpPreferUniqueFwd, in an exclusive sequence
+    B59 + I + TO_I + X + SnpResp_I,
+    B59 + UC + TO_SC + RET_0 + SnpResp_SC_Fwded_SC,
+    B59 + UC + TO_SC + RET_1 + SnpRespData_SC_Fwded_SC,
+    B59 + UCE + TO_I + X + SnpResp_I,
+    B59 + UD + TO_SD + RET_0 + SnpResp_SD_Fwded_SC + MARK,
+    B59 + UD + TO_SD + RET_1 + SnpRespData_SD_Fwded_SC + MARK,
+    B59 + UD + TO_SC + X + SnpRespData_SC_PD_Fwded_SC,
+    B59 + UDP + TO_I + X + SnpRespDataPtl_I_PD,
+    B59 + SC + TO_SC + RET_0 + SnpResp_SC_Fwded_SC,
+    B59 + SC + TO_SC + RET_1 + SnpRespData_SC_Fwded_SC,
+    B59 + SD + TO_SD + RET_0 + SnpResp_SD_Fwded_SC + MARK,
+    B59 + SD + TO_SD + RET_1 + SnpRespData_SD_Fwded_SC + MARK,
+    B59 + SD + TO_SC + X + SnpRespData_SC_PD_Fwded_SC,
+    // Table B4.60: SnpPreferUniqueFwd, not in an exclusive sequence
+    B60 + I + TO_I + X + SnpResp_I,
+    B60 + UC + TO_I + X + SnpResp_I_Fwded_UC,
+    B60 + UCE + TO_I + X + SnpResp_I,
+    B60 + UD + TO_I + X + SnpResp_I_Fwded_UD_PD,
+    B60 + UD + TO_I + X + SnpRespData_I_PD,
+    B60 + UDP + TO_I + X + SnpRespDataPtl_I_PD,
+    B60 + SC + TO_I + X + SnpResp_I_Fwded_UC,
+    B60 + SD + TO_I + X + SnpResp_I_Fwded_UD_PD,
+    B60 + SD + TO_I + X + SnpRespData_I_PD,
+    // NDERR: its one row, for every state
+    ND_ERR + I + TO_I + X + SnpResp_I,
+    ND_ERR + UC + TO_I + X + SnpResp_I,
+    ND_ERR + UCE + TO_I + X + SnpResp_I,
+    ND_ERR + UD + TO_I + X + SnpResp_I,
+    ND_ERR + UDP + TO_I + X + SnpResp_I,
+    ND_ERR + SC + TO_I + X + SnpResp_I,
+    ND_ERR + SD + TO_I + X + SnpResp_I,
+];

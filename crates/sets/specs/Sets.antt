@@ -1,0 +1,26 @@
+-- A set of states is a byte: state n has weight 2 to the n.
+use Prim.Native.Nat.{ℕ, _+_, _*_, _/_, _%_, _^_}
+use mathlib.Core.Bool.{Bool, cond, _&&_}
+use lib.Dec.{eqb}
+use Rattle.kinds.specs.Tests.{any}
+use Rattle.kinds.specs.Codes.{I, UC, UCE, UD, UDP, SC, SD, states, dirty}
+
+-- 1 for a test that holds
+abbrev pub one : Bool → ℕ
+one b = cond b 1 0
+
+-- the set of the states that pass the test
+unfoldable pub setOf : (ℕ → Bool) → ℕ
+setOf p = one (p I) * 1 + one (p UC) * 2 + one (p UCE) * 4 + one (p UD) * 8 + one (p UDP) * 16 + one (p SC) * 32 + one (p SD) * 64
+
+-- state n is in the set m
+unfoldable pub bit : ℕ → ℕ → Bool
+bit m n = eqb (m / 2 ^ n % 2) 1
+
+-- the set that holds every state
+abbrev pub everyState : ℕ
+everyState = 127
+
+-- the set holds a Dirty state
+abbrev pub holdsDirty : ℕ → Bool
+holdsDirty m = any (λ s. dirty s && bit m s) states
