@@ -286,6 +286,23 @@ impl Duty {
     pub const LOST: Duty = Duty(3);
 }
 
+// Why a call is refused, or that it is accepted.
+pub struct Refusal(pub u8);
+
+impl Refusal {
+    pub const ACCEPTED: Refusal = Refusal(0);
+
+    pub const LENGTHS: Refusal = Refusal(1);
+
+    pub const SET: Refusal = Refusal(2);
+
+    pub const PAIR: Refusal = Refusal(3);
+
+    pub const RANGE: Refusal = Refusal(4);
+
+    pub const REQUEST: Refusal = Refusal(5);
+}
+
 // The number of a pair, one line in one cache: the only number that the table of sets is read by.
 pub struct PairNumber(pub u16);
 

@@ -54,7 +54,7 @@ pub struct Row(
 );
 
 // The byte at a place of an event, 0 past its end.
-fn byte_at(event: &[u8], at: usize) -> u8
+pub fn byte_at(event: &[u8], at: usize) -> u8
     ensures { λ r. ⌜ r ≡ byte (now (event .entry)) «at» ⌝ }
 {
     if at < event.len() { event[at] } else { 0 }

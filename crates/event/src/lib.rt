@@ -1,0 +1,104 @@
+// One event judged alone: whatever bytes are handed in, its refusal, or its seven sets and duties.
+use kinds::Refusal;
+use kinds::Request;
+ghost use mathlib.Core.Path.{_≡_};
+ghost use mathlib.Core.Bool.{cond};
+ghost use mathlib.Core.List.{map};
+ghost use lib.Dec.{eqb};
+ghost use lib.ListN.{getD};
+ghost use Rattle.rows.specs.Steps.{duty, noDuty, setsAfter, dutyAlone};
+ghost use Rattle.kinds.specs.Codes.{states};
+ghost use Rattle.event.specs.Refusals.{issueE, below, fault, refusalAlone};
+ghost use Rattle.event.specs.Alone.{judgedAlone};
+
+// Below which number each byte of an event is, from byte 1 on.
+const LIMITS: [u8; 13] = [2, 2, 2, 4, 2, 32, 8, 8, 4, 4, 2, 8, 8];
+
+// The answer to one event alone: for each of the seven states before, a set of states after and a duty.
+pub struct Judgment {
+    pub refusal: Refusal,
+    pub place: usize,
+    pub sets: [u8; 7],
+    pub duties: [u8; 7],
+}
+
+// Whether each byte of an event, from byte 1 on, is below its limit.
+pub fn in_range(event: &[u8], limits: &[u8]) -> bool
+    ensures { λ r. ⌜ r ≡ below (now (event .entry)) 1 (now (limits .entry)) ⌝ }
+{
+    let mut fine = true;
+    let mut k: usize = 0;
+    while k < limits.len() {
+        fine = fine & (rows::byte_at(event, k + 1) < limits[k]);
+        k += 1;
+    }
+    fine
+}
+
+// The refusal of an event for its bytes: 4, then 5.
+pub fn fault(event: &[u8]) -> Refusal
+    ensures { λ r. ⌜ r .0 ≡ fault issueE (now (event .entry)) ⌝ }
+{
+    let limits = LIMITS;
+    let fine = in_range(event, &limits);
+    let known = Request(rows::byte_at(event, 0)).known();
+    let request = sets::choose(known, Refusal::ACCEPTED.0, Refusal::REQUEST.0);
+    Refusal(sets::choose(fine, request, Refusal::RANGE.0))
+}
+
+// The refusal of an event alone: 1, then its fault.
+fn refusal_alone(event: &[u8]) -> Refusal
+    ensures { λ r. ⌜ r .0 ≡ refusalAlone issueE (now (event .entry)) ⌝ }
+{
+    let whole = event.len() == 14;
+    let refusal = fault(event);
+    Refusal(sets::choose(whole, refusal.0, Refusal::LENGTHS.0))
+}
+
+// The duty from one state, given as its set, and the set of states after from it.
+fn duty_from(event: &[u8], before: u8, after: u8) -> u8
+    ensures { λ r. ⌜ r ≡ cond (eqb after 0) noDuty (duty (now (event .entry)) before) ⌝ }
+{
+    let duty = rows::duty(event, before);
+    sets::choose(after == 0, 0, duty.0)
+}
+
+// The seven duties, each judged from its state alone.
+fn duties_alone(event: &[u8], sets: [u8; 7]) -> [u8; 7]
+    requires { ⌜ sets ≡ setsAfter (now event) ⌝ }
+    ensures { λ r. ⌜ r ≡ map (dutyAlone (now (event .entry))) states ⌝ }
+{
+    [
+        duty_from(event, 1, sets[0]),
+        duty_from(event, 2, sets[1]),
+        duty_from(event, 4, sets[2]),
+        duty_from(event, 8, sets[3]),
+        duty_from(event, 16, sets[4]),
+        duty_from(event, 32, sets[5]),
+        duty_from(event, 64, sets[6]),
+    ]
+}
+
+// One event judged alone.
+pub fn judge_event(event: &[u8]) -> Judgment
+    ensures { λ r. ⌜ r ≡ judgedAlone issueE (now (event .entry)) ⌝ }
+{
+    let refusal = refusal_alone(event);
+    let number = refusal.0;
+    if number != 0 {
+        return Judgment {
+            refusal,
+            place: 0,
+            sets: [0; 7],
+            duties: [0; 7],
+        };
+    }
+    let sets = rows::sets_after(event);
+    let duties = duties_alone(event, sets);
+    Judgment {
+        refusal,
+        place: 1,
+        sets,
+        duties,
+    }
+}
