@@ -1,0 +1,3 @@
+pub mod RowLaw
+pub mod Told
+pub mod Theorems

@@ -1,0 +1,91 @@
+-- The theorems. Whoever believes the checker reads this file and the definitions that it names.
+-- Assumes nothing.
+use mathlib.Core.Path.{_≡_, refl, sym, _∙_, ap}
+use mathlib.Core.Logic.{_↔_, _⊎_, inl, inr}
+use mathlib.Core.Bool.{Bool, true, false, cond, not, _&&_, false≢true, true≢false}
+use mathlib.Core.List.{List}
+use Prim.Native.Nat.{ℕ, _+_, _^_, _<_}
+use native.Mathlib.Omega.{arith}
+use borrow.Author.Tests.{eq-eqb}
+use lib.Dec.{eqb}
+use lib.ListN.{getD}
+use Rattle.kinds.specs.Tests.{all, any}
+use Rattle.kinds.specs.Codes.{I, UC, UD, SC, dirty, NDERR, OK, opInvalid, tagInvalid, SnpClean, SnpShared, SnpCleanFwd, SnpPreferUniqueFwd}
+use Rattle.kinds.specs.Answers.{SnpResp-I, SnpResp-SC, SnpRespData-SC-Fwded-SD-PD, SnpResp-SC-Fwded-SC}
+use Rattle.sets.specs.Sets.{setOf, bit, one}
+use Rattle.rows.specs.Event.{respErrOf}
+use Rattle.rows.specs.Rows.{rows}
+use Rattle.rows.specs.Permitted.{asked, answered, tagged, permitted}
+use Rattle.rows.specs.Steps.{Step, steps, setAfter, setsAfter, duty, noDuty, Home, Requester, lost}
+use Rattle.rows.proofs.Stepping.{step-before, step-after, in-set-step, step-in-set}
+use Rattle.event.specs.declared.Judgment.{Judgment}
+use Rattle.event.specs.Refusals.{issueE, fault, refusalAlone}
+use Rattle.event.specs.Alone.{acceptedAlone, refusedAlone, judgedAlone}
+use Rattle.theorems.specs.Notebook.{event, entries, right}
+use Rattle.theorems.specs.Duties.{tellsHome, tellsRequester, nonDataError, HomeHolds, RequesterHolds, NobodyTold, DataIsDuty, SCIsKept, B60Alone, NderrFromUDIllegal}
+use Rattle.theorems.proofs.RowLaw.{row-law}
+use Rattle.theorems.proofs.Told.{exactly-one, nobody, lost-alone}
+
+-- DEMAND 1, ONE EVENT: any two outcomes that the claim of `event::judge_event` allows are equal.
+pub one-outcome : (bytes : List ℕ) (r r′ : Judgment) → r ≡ judgedAlone issueE bytes → r′ ≡ judgedAlone issueE bytes → r ≡ r′
+one-outcome bytes r r′ p q = p ∙ sym q
+
+-- DEMAND 2, THE SETS: a state after is in the set of a state before exactly when a permitted step leads there, under the seen tag state or
+-- any of the three, with the seen state after or any.
+pub sets-exact : (e : List ℕ) → refusalAlone issueE e ≡ 0 → (s s′ : ℕ) → s < 7 → s′ < 7
+    → bit (getD (judgedAlone issueE e .sets) s 0) s′ ≡ true ↔ Step e s s′
+unfolding judgedAlone
+sets-exact e h s s′ k l =
+    (λ b. in-set-step e s s′ k l (sym accepted ∙ b), λ p. accepted ∙ step-in-set e s s′ p)
+  where
+    accepted : bit (getD (judgedAlone issueE e .sets) s 0) s′ ≡ bit (getD (setsAfter e) s 0) s′
+    accepted = ap (λ (b : Bool). bit (getD (cond b (acceptedAlone e) (refusedAlone (refusalAlone issueE e)) .sets) s 0) s′) (eq-eqb (refusalAlone issueE e) 0 h)
+
+-- No step leaves the seven states.
+pub within-states : (e : List ℕ) (s s′ : ℕ) → Step e s s′ → (s < 7) × (s′ < 7)
+within-states e s s′ p = (step-before e s s′ p, step-after e s s′ p)
+
+-- DEMAND 2, THE DUTY: in every permitted step where a Dirty line ends not Dirty, and the answer isn't a non-data error, exactly one of
+-- Requester and Home is told that it holds the duty, and the duty byte says which.
+pub duty-clause : (e : List ℕ) (t s s′ : ℕ) → permitted e t s s′ ≡ true → dirty s ≡ true → dirty s′ ≡ false → nonDataError e ≡ false
+    → HomeHolds e ⊎ RequesterHolds e
+duty-clause e t s s′ h = exactly-one e (dirty s) (dirty s′) (row-law e t s s′ h)
+
+-- The converse: no other permitted step hands over a duty.
+pub duty-converse : (e : List ℕ) (t s s′ : ℕ) → permitted e t s s′ ≡ true → dirty s && not (dirty s′) && not (nonDataError e) ≡ false → NobodyTold e
+duty-converse e t s s′ h = nobody e (dirty s) (dirty s′) (row-law e t s s′ h)
+
+-- A non-data error loses the duty of a Dirty line, and of no other.
+pub duty-lost : (e : List ℕ) (t s s′ : ℕ) → permitted e t s s′ ≡ true → s < 7 → nonDataError e ≡ true → duty e (2 ^ s) ≡ cond (dirty s) lost noDuty
+duty-lost e t s s′ h k n = lost-alone e s (dirty s′) (row-law e t s s′ h) k n
+
+-- ENTRIES a TO n of the notebook, a single list.
+pub notebook : all right entries ≡ true
+unfolding setOf bit rows asked answered tagged permitted steps setAfter duty fault refusalAlone
+notebook = refl
+
+-- THE WRONG READINGS.
+pub data-is-not-duty : DataIsDuty → ⊥
+unfolding bit rows asked answered tagged permitted duty
+data-is-not-duty reading =
+    let e = event SnpCleanFwd 1 0 0 tagInvalid SnpRespData-SC-Fwded-SD-PD opInvalid OK in
+    let wrong : _≡_ {A = ℕ} Requester Home = reading e tagInvalid UD SC refl refl refl refl in
+    omega arith
+
+pub SC-is-not-kept : SCIsKept → ⊥
+unfolding rows asked answered tagged permitted
+SC-is-not-kept reading =
+    let e = event SnpClean 0 0 0 tagInvalid SnpResp-SC opInvalid OK in
+    let wrong : _≡_ {A = ℕ} I SC = reading e tagInvalid UC I refl refl in
+    omega arith
+
+pub B60-is-not-alone : B60Alone → ⊥
+unfolding rows asked answered tagged permitted
+B60-is-not-alone reading =
+    let e = event SnpPreferUniqueFwd 0 0 0 tagInvalid SnpResp-SC-Fwded-SC opInvalid OK in
+    let wrong : false ≡ true = reading e tagInvalid UC SC refl refl refl refl in
+    false≢true wrong
+
+pub NDERR-from-UD-is-legal : NderrFromUDIllegal → ⊥
+unfolding rows asked answered tagged permitted
+NDERR-from-UD-is-legal reading = reading (event SnpShared 0 0 0 tagInvalid SnpResp-I opInvalid NDERR) tagInvalid I refl refl

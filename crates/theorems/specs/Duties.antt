@@ -1,0 +1,59 @@
+-- Who is told of the duty, and the readings of the notebook that are wrong.
+use Prim.Native.Nat.{ℕ, _^_}
+use mathlib.Core.Path.{_≡_}
+use mathlib.Core.Logic.{_⊎_}
+use mathlib.Core.Bool.{Bool, true, false}
+use mathlib.Core.List.{List}
+use lib.Dec.{eqb}
+use Rattle.kinds.specs.Tests.{any}
+use Rattle.kinds.specs.Codes.{SC, UD, dirty, NDERR, SnpPreferUniqueFwd, respPD, fwdPD}
+use Rattle.rows.specs.Event.{byte, requestOf, exclOf, respOf, fwdStateOf, respErrOf}
+use Rattle.rows.specs.Rows.{B4·60}
+use Rattle.rows.specs.Permitted.{holds, permitted}
+use Rattle.rows.specs.Steps.{duty, Home, Requester}
+
+-- the answer tells Home that it holds the duty
+abbrev pub tellsHome : List ℕ → Bool
+tellsHome e = respPD (respOf e)
+
+-- the answer tells the Requester
+abbrev pub tellsRequester : List ℕ → Bool
+tellsRequester e = fwdPD (fwdStateOf e)
+
+-- the answer is a non-data error
+abbrev pub nonDataError : List ℕ → Bool
+nonDataError e = eqb (respErrOf e) NDERR
+
+-- Home alone is told, and the duty byte, from whatever set before, says so
+pub record HomeHolds (e : List ℕ) : Type 0 where
+  pub home : tellsHome e ≡ true
+  pub not-requester : tellsRequester e ≡ false
+  pub says : (before : ℕ) → duty e before ≡ Home
+
+-- the Requester alone is told, and the duty byte says so
+pub record RequesterHolds (e : List ℕ) : Type 0 where
+  pub not-home : tellsHome e ≡ false
+  pub requester : tellsRequester e ≡ true
+  pub says : (before : ℕ) → duty e before ≡ Requester
+
+-- nobody is told
+pub record NobodyTold (e : List ℕ) : Type 0 where
+  pub not-home : tellsHome e ≡ false
+  pub not-requester : tellsRequester e ≡ false
+
+-- Wrong: data sent Home is the duty to Home.
+abbrev pub DataIsDuty : Type 0
+DataIsDuty = (e : List ℕ) (t s s′ : ℕ) → permitted e t s s′ ≡ true → dirty s ≡ true → dirty s′ ≡ false → byte e 5 ≡ 1 → duty e (2 ^ s) ≡ Home
+
+-- Wrong: SC in the answer is SC kept.
+abbrev pub SCIsKept : Type 0
+SCIsKept = (e : List ℕ) (t s s′ : ℕ) → permitted e t s s′ ≡ true → respOf e ≡ 1 → s′ ≡ SC
+
+-- Wrong: B4.60 alone for excl 0.
+abbrev pub B60Alone : Type 0
+B60Alone =
+    (e : List ℕ) (t s s′ : ℕ) → requestOf e ≡ SnpPreferUniqueFwd → exclOf e ≡ 0 → nonDataError e ≡ false → permitted e t s s′ ≡ true → any (holds e t s s′) B4·60 ≡ true
+
+-- Wrong: NDERR from UD is illegal.
+abbrev pub NderrFromUDIllegal : Type 0
+NderrFromUDIllegal = (e : List ℕ) (t s′ : ℕ) → respErrOf e ≡ NDERR → permitted e t UD s′ ≡ true → ⊥

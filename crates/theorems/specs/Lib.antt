@@ -1,0 +1,2 @@
+pub mod Notebook
+pub mod Duties
