@@ -23,7 +23,7 @@ pub struct Judgment {
 }
 
 // Whether each byte of an event, from byte 1 on, is below its limit.
-pub fn in_range(event: &[u8], limits: &[u8]) -> bool
+fn in_range(event: &[u8], limits: &[u8]) -> bool
     ensures { λ r. ⌜ r ≡ below (now (event .entry)) 1 (now (limits .entry)) ⌝ }
 {
     let mut fine = true;

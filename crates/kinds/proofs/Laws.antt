@@ -37,7 +37,7 @@ or-6 : (a b c d e f : Bool) → a || b || c || d || e || f ≡ a || (b || (c || 
 or-6 true b c d e f = refl
 or-6 false b c d e f = or-5 b c d e f
 
-or-7 : (a b c d e f g : Bool) → a || b || c || d || e || f || g ≡ a || (b || (c || (d || (e || (f || (g || false))))))
+pub or-7 : (a b c d e f g : Bool) → a || b || c || d || e || f || g ≡ a || (b || (c || (d || (e || (f || (g || false))))))
 or-7 true b c d e f g = refl
 or-7 false b c d e f g = or-6 b c d e f g
 

@@ -52,18 +52,18 @@ all-among : all among-states rows ≡ true
 unfolding rows among-states
 all-among = refl
 
-pub step-before : (e : List ℕ) (s s′ : ℕ) → Step e s s′ → s < 7
+pub permitted-before : (e : List ℕ) (t s s′ : ℕ) → permitted e t s s′ ≡ true → s < 7
 unfolding among-states
-step-before e s s′ p =
-    let q = permitted-row e (p .tag) s s′ (p .by-rows) in
+permitted-before e t s s′ h =
+    let q = permitted-row e t s s′ h in
     let r = q .row in
     subst (λ (n : ℕ). n < 7) (sym (eqb-true s (r .before) (q .from)))
     (ltb-true (r .before) 7 (and-left (ltb (r .before) 7) (all (λ n. ltb n 7) (r .after)) (by-rows among-states all-among q)))
 
-pub step-after : (e : List ℕ) (s s′ : ℕ) → Step e s s′ → s′ < 7
+pub permitted-after : (e : List ℕ) (t s s′ : ℕ) → permitted e t s s′ ≡ true → s′ < 7
 unfolding among-states
-step-after e s s′ p =
-    let q = permitted-row e (p .tag) s s′ (p .by-rows) in
+permitted-after e t s s′ h =
+    let q = permitted-row e t s s′ h in
     let r = q .row in
     let f = any-found (eqb s′) (r .after) (q .to) in
     subst (λ (n : ℕ). n < 7) (sym (eqb-true s′ (f .one) (f .passes)))
@@ -77,6 +77,6 @@ in-set-step e s s′ h k b = steps-step e s s′ (sym (ap (λ (m : ℕ). bit m s
 pub step-in-set : (e : List ℕ) (s s′ : ℕ) → Step e s s′ → bit (getD (setsAfter e) s 0) s′ ≡ true
 unfolding setAfter
 step-in-set e s s′ p =
-    ap (λ (m : ℕ). bit m s′) (at-state (setAfter e) s (step-before e s s′ p))
-    ∙ bit-setOf (steps e s) s′ (step-after e s s′ p)
+    ap (λ (m : ℕ). bit m s′) (at-state (setAfter e) s (permitted-before e (p .tag) s s′ (p .by-rows)))
+    ∙ bit-setOf (steps e s) s′ (permitted-after e (p .tag) s s′ (p .by-rows))
     ∙ step-steps e s s′ p

@@ -1,17 +1,15 @@
 -- Laws of sets as bytes: a set is its test, and the byte operations are the operations on tests.
 -- Assumes nothing.
 use mathlib.Core.Path.{_≡_, refl, sym, _∙_, ap, ap₂, fun-ext}
-use mathlib.Core.Bool.{Bool, true, false, cond, _&&_, _||_, not}
-use mathlib.Core.List.{List, [], _∷_}
+use mathlib.Core.Bool.{Bool, true, false, cond, _&&_, _||_, true≢false}
 use Prim.Native.Nat.{ℕ, zero, suc, _+_, _*_, _/_, _%_, _^_, _<_, _≤_, min, max}
-use native.Mathlib.Nat.{add-zero, add-suc, suc-add, zero-add, le-of-suc-le-suc, not-suc-le-zero, div-one, div-div-eq-div-mul, pow-succ', pow-zero, div-eq-of-lt, lt-of-lt-of-le}
+use native.Mathlib.Nat.{add-zero, add-suc, suc-add, zero-add, le-of-suc-le-suc, not-suc-le-zero, div-one, div-div-eq-div-mul, pow-succ', pow-zero, div-eq-of-lt, lt-of-lt-of-le, zero-div}
 use lib.Pow.{pow-mono}
 use native.Mathlib.Omega.{arith}
 use lib.Dec.{eqb}
 use lib.Bits.{bitAnd, bitOr, and-step, or-step, and-zero-l, or-zero-l}
-use Rattle.kinds.specs.Tests.{any}
-use Rattle.kinds.specs.Codes.{states, UD, UDP, SD}
-use Rattle.kinds.proofs.Laws.{or-3}
+use Rattle.kinds.specs.Codes.{I, UC, UCE, UD, UDP, SC, SD, dirty}
+use Rattle.kinds.proofs.Laws.{or-7}
 use Rattle.sets.specs.Sets.{one, setOf, bit, holdsDirty}
 
 -- the number whose n binary digits say what the test says of k, k + 1, ..
@@ -102,5 +100,22 @@ pub cond-setOf : (b : Bool) (p : ℕ → Bool) → cond b (setOf p) 0 ≡ setOf 
 cond-setOf true p = refl
 cond-setOf false p = sym none
 
-pub dirty-chain : (m : ℕ) (x y z : Bool) → x ≡ bit m UD → y ≡ bit m UDP → z ≡ bit m SD → x || y || z ≡ holdsDirty m
-dirty-chain m x y z p q r = ap₂ _||_ (ap₂ _||_ p q) r ∙ or-3 (bit m UD) (bit m UDP) (bit m SD)
+-- a Dirty state of a set, looked for state by state
+pub dirty-chain : (m : ℕ) (x₀ x₁ x₂ x₃ x₄ x₅ x₆ : Bool)
+    → x₀ ≡ dirty I && bit m I → x₁ ≡ dirty UC && bit m UC → x₂ ≡ dirty UCE && bit m UCE → x₃ ≡ dirty UD && bit m UD
+    → x₄ ≡ dirty UDP && bit m UDP → x₅ ≡ dirty SC && bit m SC → x₆ ≡ dirty SD && bit m SD
+    → x₀ || x₁ || x₂ || x₃ || x₄ || x₅ || x₆ ≡ holdsDirty m
+dirty-chain m x₀ x₁ x₂ x₃ x₄ x₅ x₆ h₀ h₁ h₂ h₃ h₄ h₅ h₆ =
+    ap₂ _||_ (ap₂ _||_ (ap₂ _||_ (ap₂ _||_ (ap₂ _||_ (ap₂ _||_ h₀ h₁) h₂) h₃) h₄) h₅) h₆
+    ∙ or-7 (dirty I && bit m I) (dirty UC && bit m UC) (dirty UCE && bit m UCE) (dirty UD && bit m UD) (dirty UDP && bit m UDP) (dirty SC && bit m SC) (dirty SD && bit m SD)
+
+-- a set is empty exactly when no state passes its test
+pub setOf-empty : (p : ℕ → Bool) → ((n : ℕ) → p n ≡ false) → setOf p ≡ 0
+setOf-empty p h = setOf-ext p (λ n. false) h ∙ none
+
+zero-bit : (n : ℕ) → bit 0 n ≡ false
+unfolding bit
+zero-bit n = ap (λ (m : ℕ). eqb (m % 2) 1) (zero-div (2 ^ n))
+
+pub setOf-holds : (p : ℕ → Bool) (n : ℕ) → n < 7 → p n ≡ true → setOf p ≡ 0 → ⊥
+setOf-holds p n l h k = true≢false (sym h ∙ sym (bit-setOf p n l) ∙ ap (λ (m : ℕ). bit m n) k ∙ zero-bit n)

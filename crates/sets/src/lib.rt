@@ -1,7 +1,8 @@
 // Sets of states as bytes.
 use kinds::LineState;
 ghost use mathlib.Core.Path.{_≡_};
-ghost use mathlib.Core.Bool.{cond};
+ghost use mathlib.Core.Bool.{cond, _&&_};
+ghost use Rattle.kinds.specs.Codes.{dirty};
 ghost use Rattle.sets.specs.Sets.{bit, holdsDirty};
 
 // Whether a state is in a set.
@@ -22,9 +23,22 @@ pub fn choose(test: bool, first: u8, second: u8) -> u8
     if test { first } else { second }
 }
 
+// Whether a state is Dirty and in a set.
+fn held_dirty(set: u8, state: LineState) -> bool
+    ensures { λ r. ⌜ r ≡ dirty (state .0) && bit «set» (state .0) ⌝ }
+{
+    state.dirty() & has(set, state.0)
+}
+
 // Whether a set holds a Dirty state.
 pub fn holds_dirty(set: u8) -> bool
     ensures { λ r. ⌜ r ≡ holdsDirty «set» ⌝ }
 {
-    has(set, LineState::UD.0) | has(set, LineState::UDP.0) | has(set, LineState::SD.0)
+    held_dirty(set, LineState::I)
+        | held_dirty(set, LineState::UC)
+        | held_dirty(set, LineState::UCE)
+        | held_dirty(set, LineState::UD)
+        | held_dirty(set, LineState::UDP)
+        | held_dirty(set, LineState::SC)
+        | held_dirty(set, LineState::SD)
 }

@@ -1,3 +1,4 @@
 pub mod RowLaw
 pub mod Told
+pub mod Judged
 pub mod Theorems

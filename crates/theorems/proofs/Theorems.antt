@@ -6,7 +6,7 @@ use mathlib.Core.Bool.{Bool, true, false, cond, not, _&&_, false≢true, true≢
 use mathlib.Core.List.{List}
 use Prim.Native.Nat.{ℕ, _+_, _^_, _<_}
 use native.Mathlib.Omega.{arith}
-use borrow.Author.Tests.{eq-eqb}
+use borrow.Author.Tests.{eq-eqb, ne-eqb}
 use lib.Dec.{eqb}
 use lib.ListN.{getD}
 use Rattle.kinds.specs.Tests.{all, any}
@@ -17,7 +17,8 @@ use Rattle.rows.specs.Event.{respErrOf}
 use Rattle.rows.specs.Rows.{rows}
 use Rattle.rows.specs.Permitted.{asked, answered, tagged, permitted}
 use Rattle.rows.specs.Steps.{Step, steps, setAfter, setsAfter, duty, noDuty, Home, Requester, lost}
-use Rattle.rows.proofs.Stepping.{step-before, step-after, in-set-step, step-in-set}
+use Rattle.rows.proofs.Stepping.{permitted-before, permitted-after, in-set-step, step-in-set}
+use Rattle.rows.proofs.Walk.{at-state}
 use Rattle.event.specs.declared.Judgment.{Judgment}
 use Rattle.event.specs.Refusals.{issueE, fault, refusalAlone}
 use Rattle.event.specs.Alone.{acceptedAlone, refusedAlone, judgedAlone}
@@ -25,25 +26,35 @@ use Rattle.theorems.specs.Notebook.{event, entries, right}
 use Rattle.theorems.specs.Duties.{tellsHome, tellsRequester, nonDataError, HomeHolds, RequesterHolds, NobodyTold, DataIsDuty, SCIsKept, B60Alone, NderrFromUDIllegal}
 use Rattle.theorems.proofs.RowLaw.{row-law}
 use Rattle.theorems.proofs.Told.{exactly-one, nobody, lost-alone}
+use Rattle.theorems.proofs.Judged.{duty-of-step, duty-of-none}
 
 -- DEMAND 1, ONE EVENT: any two outcomes that the claim of `event::judge_event` allows are equal.
 pub one-outcome : (bytes : List ℕ) (r r′ : Judgment) → r ≡ judgedAlone issueE bytes → r′ ≡ judgedAlone issueE bytes → r ≡ r′
 one-outcome bytes r r′ p q = p ∙ sym q
 
+-- What is accepted is answered with place 1, its seven sets and its seven duties.
+pub accepted-answer : (e : List ℕ) → refusalAlone issueE e ≡ 0 → judgedAlone issueE e ≡ acceptedAlone e
+unfolding judgedAlone
+accepted-answer e h = ap (λ (b : Bool). cond b (acceptedAlone e) (refusedAlone (refusalAlone issueE e))) (eq-eqb (refusalAlone issueE e) 0 h)
+
+-- What is refused is answered with its number, place 0, seven empty sets and duties 0.
+pub refused-answer : (e : List ℕ) → (refusalAlone issueE e ≡ 0 → ⊥) → judgedAlone issueE e ≡ refusedAlone (refusalAlone issueE e)
+unfolding judgedAlone
+refused-answer e h = ap (λ (b : Bool). cond b (acceptedAlone e) (refusedAlone (refusalAlone issueE e))) (ne-eqb (refusalAlone issueE e) 0 h)
+
 -- DEMAND 2, THE SETS: a state after is in the set of a state before exactly when a permitted step leads there, under the seen tag state or
 -- any of the three, with the seen state after or any.
 pub sets-exact : (e : List ℕ) → refusalAlone issueE e ≡ 0 → (s s′ : ℕ) → s < 7 → s′ < 7
     → bit (getD (judgedAlone issueE e .sets) s 0) s′ ≡ true ↔ Step e s s′
-unfolding judgedAlone
 sets-exact e h s s′ k l =
-    (λ b. in-set-step e s s′ k l (sym accepted ∙ b), λ p. accepted ∙ step-in-set e s s′ p)
+    (λ b. in-set-step e s s′ k l (sym answered-so ∙ b), λ p. answered-so ∙ step-in-set e s s′ p)
   where
-    accepted : bit (getD (judgedAlone issueE e .sets) s 0) s′ ≡ bit (getD (setsAfter e) s 0) s′
-    accepted = ap (λ (b : Bool). bit (getD (cond b (acceptedAlone e) (refusedAlone (refusalAlone issueE e)) .sets) s 0) s′) (eq-eqb (refusalAlone issueE e) 0 h)
+    answered-so : bit (getD (judgedAlone issueE e .sets) s 0) s′ ≡ bit (getD (setsAfter e) s 0) s′
+    answered-so = ap (λ (j : Judgment). bit (getD (j .sets) s 0) s′) (accepted-answer e h)
 
 -- No step leaves the seven states.
-pub within-states : (e : List ℕ) (s s′ : ℕ) → Step e s s′ → (s < 7) × (s′ < 7)
-within-states e s s′ p = (step-before e s s′ p, step-after e s s′ p)
+pub within-states : (e : List ℕ) (t s s′ : ℕ) → permitted e t s s′ ≡ true → (s < 7) × (s′ < 7)
+within-states e t s s′ h = (permitted-before e t s s′ h, permitted-after e t s s′ h)
 
 -- DEMAND 2, THE DUTY: in every permitted step where a Dirty line ends not Dirty, and the answer isn't a non-data error, exactly one of
 -- Requester and Home is told that it holds the duty, and the duty byte says which.
@@ -56,8 +67,21 @@ pub duty-converse : (e : List ℕ) (t s s′ : ℕ) → permitted e t s s′ ≡
 duty-converse e t s s′ h = nobody e (dirty s) (dirty s′) (row-law e t s s′ h)
 
 -- A non-data error loses the duty of a Dirty line, and of no other.
-pub duty-lost : (e : List ℕ) (t s s′ : ℕ) → permitted e t s s′ ≡ true → s < 7 → nonDataError e ≡ true → duty e (2 ^ s) ≡ cond (dirty s) lost noDuty
-duty-lost e t s s′ h k n = lost-alone e s (dirty s′) (row-law e t s s′ h) k n
+pub duty-lost : (e : List ℕ) (t s s′ : ℕ) → permitted e t s s′ ≡ true → nonDataError e ≡ true → duty e (2 ^ s) ≡ cond (dirty s) lost noDuty
+duty-lost e t s s′ h n = lost-alone e s (dirty s′) (row-law e t s s′ h) (permitted-before e t s s′ h) n
+
+-- The duty that the judge answers for a state before is that byte, where a step exists.
+pub duties-exact : (e : List ℕ) → refusalAlone issueE e ≡ 0 → (s s′ : ℕ) → Step e s s′ → getD (judgedAlone issueE e .duties) s 0 ≡ duty e (2 ^ s)
+duties-exact e h s s′ p = ap (λ (j : Judgment). getD (j .duties) s 0) (accepted-answer e h) ∙ duty-of-step e s s′ p
+
+-- Where no step exists it is 0.
+pub duties-silent : (e : List ℕ) (s : ℕ) → s < 7 → ((s′ : ℕ) → Step e s s′ → ⊥) → getD (judgedAlone issueE e .duties) s 0 ≡ noDuty
+unfolding judgedAlone
+duties-silent e s k none = go (eqb (refusalAlone issueE e) 0)
+  where
+    go : (b : Bool) → getD (cond b (acceptedAlone e) (refusedAlone (refusalAlone issueE e)) .duties) s 0 ≡ noDuty
+    go true = duty-of-none e s k none
+    go false = at-state (λ n. 0) s k
 
 -- ENTRIES a TO n of the notebook, a single list.
 pub notebook : all right entries ≡ true

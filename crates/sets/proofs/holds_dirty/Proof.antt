@@ -1,21 +1,45 @@
--- `sets::holds_dirty` meets its contract: of the seven states three are Dirty.
+-- `sets::holds_dirty` meets its contract: the seven states are tried one by one.
 -- Assumes nothing.
 use Rattle.sets.proofs.Laws.{dirty-chain}
 use borrow.Author.Needs.{needs}
 use Rattle.sets.proofs.holds_dirty.Statement.{statement}
 use Rattle.sets.proofs.holds_dirty.Tie as tie
 
-has-requires : tie.Need-has-requires
-has-requires c κs = search needs
+held-dirty-requires : tie.Need-held-dirty-requires
+held-dirty-requires c κs = search needs
 
-has-requires-2 : tie.Need-has-requires-2
-has-requires-2 c κs = search needs
+held-dirty-requires-2 : tie.Need-held-dirty-requires-2
+held-dirty-requires-2 c κs = search needs
 
-has-requires-3 : tie.Need-has-requires-3
-has-requires-3 c κs = search needs
+held-dirty-requires-3 : tie.Need-held-dirty-requires-3
+held-dirty-requires-3 c κs = search needs
+
+held-dirty-requires-4 : tie.Need-held-dirty-requires-4
+held-dirty-requires-4 c κs = search needs
+
+held-dirty-requires-5 : tie.Need-held-dirty-requires-5
+held-dirty-requires-5 c κs = search needs
+
+held-dirty-requires-6 : tie.Need-held-dirty-requires-6
+held-dirty-requires-6 c κs = search needs
+
+held-dirty-requires-7 : tie.Need-held-dirty-requires-7
+held-dirty-requires-7 c κs = search needs
 
 returns : tie.Need-returns
-returns c = dirty-chain (c .before .before .before .args .set) (c .before .before .has .result) (c .before .has2 .result) (c .has3 .result) (c .before .before .has .ensures) (c .before .has2 .ensures) (c .has3 .ensures)
+returns c = dirty-chain (c .before .before .before .before .before .before .before .args .set)
+    (c .before .before .before .before .before .before .held-dirty .result) (c .before .before .before .before .before .held-dirty2 .result) (c .before .before .before .before .held-dirty3 .result) (c .before .before .before .held-dirty4 .result) (c .before .before .held-dirty5 .result) (c .before .held-dirty6 .result) (c .held-dirty7 .result)
+    (c .before .before .before .before .before .before .held-dirty .ensures) (c .before .before .before .before .before .held-dirty2 .ensures) (c .before .before .before .before .held-dirty3 .ensures) (c .before .before .before .held-dirty4 .ensures) (c .before .before .held-dirty5 .ensures) (c .before .held-dirty6 .ensures) (c .held-dirty7 .ensures)
 
 pub holds-dirty-spec : {M : Type 1} → statement M
-holds-dirty-spec = tie.close (tie.spec has-requires has-requires-2 has-requires-3 returns)
+holds-dirty-spec =
+    tie.close
+    (tie.spec
+    held-dirty-requires
+    held-dirty-requires-2
+    held-dirty-requires-3
+    held-dirty-requires-4
+    held-dirty-requires-5
+    held-dirty-requires-6
+    held-dirty-requires-7
+    returns)
