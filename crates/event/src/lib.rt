@@ -98,7 +98,7 @@ pub fn judge_event(event: &[u8]) -> Judgment
     Judgment {
         refusal,
         place: 1,
-        sets,
-        duties,
+        sets: sets,
+        duties: duties,
     }
 }
