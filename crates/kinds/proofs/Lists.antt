@@ -1,9 +1,13 @@
--- Laws of tests over lists: what `any` finds, what `all` grants, and when two tests are the same.
+-- Laws of tests over lists: what `any` finds, what `all` grants, when two tests are the same, and the seven states one by one.
 -- Assumes nothing.
 use mathlib.Core.Path.{_≡_, refl, sym, _∙_, ap, subst}
 use mathlib.Core.Bool.{Bool, true, false, _&&_, _||_, false≢true}
-use mathlib.Core.List.{List, [], _∷_, _++_}
+use mathlib.Core.List.{List, [], _∷_, _++_, map}
+use Prim.Native.Nat.{ℕ, zero, suc, _<_}
+use native.Mathlib.Omega.{arith}
+use lib.ListN.{getD}
 use Rattle.kinds.specs.Tests.{any, all}
+use Rattle.kinds.specs.Codes.{I, UC, UCE, UD, UDP, SC, SD, states}
 
 -- the element stands in the list
 pub data In {ℓ} {A : Type ℓ} : A → List A → Type ℓ where
@@ -35,6 +39,21 @@ or-right false b h = h
 
 pub or-left : {a : Bool} (b : Bool) → a ≡ true → a || b ≡ true
 or-left b h = ap (λ (x : Bool). x || b) h
+
+-- what holds of each of the seven states holds of every number below seven
+pub each-state {ℓ} : (P : ℕ → Type ℓ) → P I → P UC → P UCE → P UD → P UDP → P SC → P SD → (n : ℕ) → n < 7 → P n
+each-state P i uc uce ud udp sc sd zero h = i
+each-state P i uc uce ud udp sc sd (suc zero) h = uc
+each-state P i uc uce ud udp sc sd (suc (suc zero)) h = uce
+each-state P i uc uce ud udp sc sd (suc (suc (suc zero))) h = ud
+each-state P i uc uce ud udp sc sd (suc (suc (suc (suc zero)))) h = udp
+each-state P i uc uce ud udp sc sd (suc (suc (suc (suc (suc zero))))) h = sc
+each-state P i uc uce ud udp sc sd (suc (suc (suc (suc (suc (suc zero)))))) h = sd
+each-state P i uc uce ud udp sc sd (suc (suc (suc (suc (suc (suc (suc n))))))) h = absurd (omega arith)
+
+-- one of seven values, one a state
+pub at-state : (f : ℕ → ℕ) (n : ℕ) → n < 7 → getD (map f states) n 0 ≡ f n
+at-state f = each-state (λ n. getD (map f states) n 0 ≡ f n) refl refl refl refl refl refl refl
 
 module _ {ℓ} {A : Type ℓ} where
   -- what `any` found

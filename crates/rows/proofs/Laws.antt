@@ -3,10 +3,10 @@
 use mathlib.Core.Path.{_≡_, refl, sym, _∙_, ap, ap₂, subst⁻¹}
 use mathlib.Core.Bool.{Bool, true, false, cond, not, _&&_, _||_, false≢true}
 use mathlib.Core.List.{List, [], _∷_}
-use Prim.Native.Nat.{ℕ, zero, suc, _<_, _≤_}
+use Prim.Native.Nat.{ℕ, _<_, _≤_}
 use native.Mathlib.Omega.{arith}
-use borrow.Author.Tests.{ne-eqb}
-use lib.Dec.{eqb}
+use borrow.Author.Tests.{ne-eqb, ltb-true, ltb-false}
+use lib.Dec.{eqb, ltb}
 use lib.ListN.{getD}
 use Rattle.kinds.specs.Tests.{_∈?_, same, any}
 use Rattle.kinds.specs.Codes.{UD, SD, OK, DERR, opInvalid, opTransfer, opUpdate, tagInvalid, tagClean, tagDirty, tagNotSeen, tags, stateNotSeen}
@@ -14,6 +14,7 @@ use Rattle.kinds.specs.declared.Answer.{Answer}
 use Rattle.kinds.specs.declared.Answer.the-variants.{SnpResp, SnpRespData, SnpRespDataPtl}
 use Rattle.kinds.specs.declared.Forward.the-variants.{NoForward, CompData}
 use Rattle.kinds.specs.Answers.{wire}
+use Rattle.kinds.proofs.Lists.{each-state}
 use Rattle.kinds.proofs.Laws.{one-of-1, one-of-2, and-6, or-3}
 use Rattle.rows.specs.declared.Table.{Table}
 use Rattle.rows.specs.Permitted.{rulesOf, asked, answered, tagged}
@@ -92,18 +93,17 @@ some-tag e T s a x₀ y₀ x₁ y₁ x₂ y₂ p₀ q₀ p₁ q₁ p₂ q₂ =
     ap₂ _||_ (ap₂ _||_ (ap₂ _&&_ p₀ q₀) (ap₂ _&&_ p₁ q₁)) (ap₂ _&&_ p₂ q₂)
     ∙ any-tag (λ t. seen tagNotSeen (tagOf e) t && tagged e t T s a)
 
--- the sets of the states after that were seen, by what was seen
+-- the set of the states after that were seen: by one of the seven, by 7 for not seen, by no other number
 pub seen-at : (n : ℕ) → n < 8 → getD (1 ∷ 2 ∷ 4 ∷ 8 ∷ 16 ∷ 32 ∷ 64 ∷ 127 ∷ []) n 0 ≡ setOf (seen stateNotSeen n)
 unfolding setOf
-seen-at zero h = refl
-seen-at (suc zero) h = refl
-seen-at (suc (suc zero)) h = refl
-seen-at (suc (suc (suc zero))) h = refl
-seen-at (suc (suc (suc (suc zero)))) h = refl
-seen-at (suc (suc (suc (suc (suc zero))))) h = refl
-seen-at (suc (suc (suc (suc (suc (suc zero)))))) h = refl
-seen-at (suc (suc (suc (suc (suc (suc (suc zero))))))) h = refl
-seen-at (suc (suc (suc (suc (suc (suc (suc (suc n)))))))) h = absurd (omega arith)
+seen-at n h = go (ltb n 7) refl
+  where
+    go : (b : Bool) → ltb n 7 ≡ b → getD (1 ∷ 2 ∷ 4 ∷ 8 ∷ 16 ∷ 32 ∷ 64 ∷ 127 ∷ []) n 0 ≡ setOf (seen stateNotSeen n)
+    go true k = each-state (λ m. getD (1 ∷ 2 ∷ 4 ∷ 8 ∷ 16 ∷ 32 ∷ 64 ∷ 127 ∷ []) m 0 ≡ setOf (seen stateNotSeen m)) refl refl refl refl refl refl refl n (ltb-true n 7 k)
+    go false k = last n (omega (arith, ltb-false n 7 k))
+      where
+        last : (m : ℕ) → m ≡ 7 → getD (1 ∷ 2 ∷ 4 ∷ 8 ∷ 16 ∷ 32 ∷ 64 ∷ 127 ∷ []) m 0 ≡ setOf (seen stateNotSeen m)
+        last m e = subst⁻¹ (λ (i : ℕ). getD (1 ∷ 2 ∷ 4 ∷ 8 ∷ 16 ∷ 32 ∷ 64 ∷ 127 ∷ []) i 0 ≡ setOf (seen stateNotSeen i)) e refl
 
 pub seen-past : (n : ℕ) → 8 ≤ n → 0 ≡ setOf (seen stateNotSeen n)
 unfolding setOf

@@ -9,7 +9,7 @@ use lib.Dec.{eqb, ltb}
 use lib.ListN.{getD}
 use Rattle.kinds.specs.Tests.{any, all, _∈?_}
 use Rattle.kinds.specs.Codes.{stateNotSeen, tags, tagNotSeen}
-use Rattle.kinds.proofs.Lists.{any-found, found-any, all-at, and-left, and-right, and-both}
+use Rattle.kinds.proofs.Lists.{any-found, found-any, all-at, at-state, and-left, and-right, and-both}
 use Rattle.sets.specs.Sets.{setOf, bit}
 use Rattle.sets.proofs.Laws.{bit-setOf}
 use Rattle.rows.specs.Event.{tagOf, afterOf}
@@ -17,7 +17,6 @@ use Rattle.rows.specs.Rows.{Row, rows}
 use Rattle.rows.specs.Permitted.{permitted}
 use Rattle.rows.specs.Steps.{seen, Step, steps, setAfter, setsAfter}
 use Rattle.rows.proofs.ByRows.{permitted-row, by-rows}
-use Rattle.rows.proofs.Walk.{at-state}
 
 pub steps-step : (e : List ℕ) (s s′ : ℕ) → steps e s s′ ≡ true → Step e s s′
 unfolding steps

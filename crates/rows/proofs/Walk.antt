@@ -15,7 +15,7 @@ use lib.ListN.{length, getD, set, take, length-set, List·getD-map, length-map}
 use lib.Seq.{take-suc, take-all, ext-getD, getD-set-same, getD-set-other}
 use Rattle.kinds.specs.Tests.{any, all, _∈?_}
 use Rattle.kinds.specs.Codes.{I, states, stateNotSeen, tags, tagNotSeen}
-use Rattle.kinds.proofs.Lists.{In, here, there, Found, any-found, found-any, all-at, any-snoc, same-truth, and-left, and-right, and-both}
+use Rattle.kinds.proofs.Lists.{In, here, there, Found, any-found, found-any, all-at, any-snoc, same-truth, at-state, and-left, and-right, and-both}
 use Rattle.sets.specs.Sets.{setOf}
 use Rattle.sets.proofs.Laws.{or-setOf, and-setOf, cond-setOf, setOf-ext}
 use Rattle.rows.specs.declared.Row as code
@@ -39,17 +39,6 @@ reach e rs s = setOf (λ s′. any (by e s s′) rs)
 -- the seven sets after some of the rows
 pub walked : List ℕ → List Row → List ℕ
 walked e rs = map (reach e rs) states
-
--- one of the seven
-pub at-state : (f : ℕ → ℕ) (n : ℕ) → n < 7 → getD (map f states) n 0 ≡ f n
-at-state f zero h = refl
-at-state f (suc zero) h = refl
-at-state f (suc (suc zero)) h = refl
-at-state f (suc (suc (suc zero))) h = refl
-at-state f (suc (suc (suc (suc zero)))) h = refl
-at-state f (suc (suc (suc (suc (suc zero))))) h = refl
-at-state f (suc (suc (suc (suc (suc (suc zero)))))) h = refl
-at-state f (suc (suc (suc (suc (suc (suc (suc n))))))) h = absurd (omega arith)
 
 -- one of the seven changed
 set-state : (f g : ℕ → ℕ) (b v : ℕ) → b < 7 → v ≡ g b → ((s : ℕ) → s ≢ b → f s ≡ g s) → set (map f states) b v ≡ map g states

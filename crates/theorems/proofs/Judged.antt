@@ -12,7 +12,7 @@ use Rattle.sets.specs.Sets.{setOf}
 use Rattle.sets.proofs.Laws.{setOf-holds, setOf-empty}
 use Rattle.rows.specs.Steps.{Step, steps, setAfter, duty, noDuty, dutyAlone}
 use Rattle.rows.proofs.Stepping.{permitted-before, permitted-after, steps-step, step-steps}
-use Rattle.rows.proofs.Walk.{at-state}
+use Rattle.kinds.proofs.Lists.{at-state}
 
 -- a step makes the set after not empty
 set-of-step : (e : List ℕ) (s s′ : ℕ) → Step e s s′ → eqb (setAfter e s) 0 ≡ false

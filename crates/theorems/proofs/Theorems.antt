@@ -18,7 +18,7 @@ use Rattle.rows.specs.Rows.{rows}
 use Rattle.rows.specs.Permitted.{asked, answered, tagged, permitted}
 use Rattle.rows.specs.Steps.{Step, steps, setAfter, setsAfter, duty, noDuty, Home, Requester, lost}
 use Rattle.rows.proofs.Stepping.{permitted-before, permitted-after, in-set-step, step-in-set}
-use Rattle.rows.proofs.Walk.{at-state}
+use Rattle.kinds.proofs.Lists.{at-state}
 use Rattle.event.specs.declared.Judgment.{Judgment}
 use Rattle.event.specs.Refusals.{issueE, fault, refusalAlone}
 use Rattle.event.specs.Alone.{acceptedAlone, refusedAlone, judgedAlone}

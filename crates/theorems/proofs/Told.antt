@@ -4,10 +4,11 @@ use mathlib.Core.Path.{_≡_, refl, sym, _∙_, ap}
 use mathlib.Core.Logic.{_⊎_, inl, inr, ⊎-elim}
 use mathlib.Core.Bool.{Bool, true, false, cond, not, _&&_, false≢true, true≢false}
 use mathlib.Core.List.{List}
-use Prim.Native.Nat.{ℕ, zero, suc, _+_, _^_, _<_}
+use Prim.Native.Nat.{ℕ, _+_, _^_, _<_}
 use native.Mathlib.Omega.{arith}
 use lib.Dec.{eqb}
 use Rattle.kinds.specs.Codes.{dirty}
+use Rattle.kinds.proofs.Lists.{each-state}
 use Rattle.sets.specs.Sets.{one, bit, holdsDirty}
 use Rattle.rows.specs.Steps.{duty, noDuty, Home, Requester, lost}
 use Rattle.theorems.specs.Duties.{tellsHome, tellsRequester, nonDataError, HomeHolds, RequesterHolds, NobodyTold}
@@ -66,14 +67,7 @@ error-byte e m h r n =
 -- the set of one state holds a Dirty one when that state is
 only-dirty : (s : ℕ) → s < 7 → holdsDirty (2 ^ s) ≡ dirty s
 unfolding bit
-only-dirty zero h = refl
-only-dirty (suc zero) h = refl
-only-dirty (suc (suc zero)) h = refl
-only-dirty (suc (suc (suc zero))) h = refl
-only-dirty (suc (suc (suc (suc zero)))) h = refl
-only-dirty (suc (suc (suc (suc (suc zero))))) h = refl
-only-dirty (suc (suc (suc (suc (suc (suc zero)))))) h = refl
-only-dirty (suc (suc (suc (suc (suc (suc (suc s))))))) h = absurd (omega arith)
+only-dirty = each-state (λ s. holdsDirty (2 ^ s) ≡ dirty s) refl refl refl refl refl refl refl
 
 pub exactly-one : (e : List ℕ) (a b : Bool) → Law e a b → a ≡ true → b ≡ false → nonDataError e ≡ false → HomeHolds e ⊎ RequesterHolds e
 exactly-one e a b law p q n =
