@@ -1,7 +1,7 @@
 -- The whole answer to one event alone, for any bytes.
 use Prim.Native.Nat.{ℕ}
 use mathlib.Core.Bool.{cond}
-use mathlib.Core.List.{List, [], _∷_, map}
+use mathlib.Core.List.{List, map}
 use lib.Dec.{eqb}
 use Rattle.kinds.specs.Codes.{states}
 use Rattle.rows.specs.Steps.{setsAfter, dutyAlone}

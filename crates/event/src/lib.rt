@@ -5,7 +5,6 @@ ghost use mathlib.Core.Path.{_≡_};
 ghost use mathlib.Core.Bool.{cond};
 ghost use mathlib.Core.List.{map};
 ghost use lib.Dec.{eqb};
-ghost use lib.ListN.{getD};
 ghost use Rattle.rows.specs.Steps.{duty, noDuty, setsAfter, dutyAlone};
 ghost use Rattle.kinds.specs.Codes.{states};
 ghost use Rattle.event.specs.Refusals.{issueE, below, fault, refusalAlone};

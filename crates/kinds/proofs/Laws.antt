@@ -6,10 +6,10 @@ use mathlib.Core.List.{List, [], _∷_}
 use Prim.Native.Nat.{ℕ, _+_, _*_, _-_, _<_, _≤_}
 use native.Mathlib.Nat.{add-sub-cancel-left}
 use native.Mathlib.Omega.{arith}
-use lib.ListN.{length, take, drop, getD, drop-of-length-le, length-drop}
+use lib.ListN.{length, take, drop, drop-of-length-le, length-drop}
 use lib.Seq.{take-nil, take-all}
 use lib.Dec.{eqb}
-use Rattle.kinds.specs.Tests.{_∈?_, same}
+use Rattle.kinds.specs.Tests.{_∈?_}
 use Rattle.kinds.specs.Places.{eventIn}
 
 -- a chain of `|` is the test of a list

@@ -3,7 +3,6 @@ use Prim.Native.Nat.{ℕ}
 use mathlib.Core.Bool.{Bool, true, false}
 use mathlib.Core.List.{List, [], _∷_}
 use Rattle.kinds.specs.declared.Resp.{Resp}
-use Rattle.kinds.specs.declared.FwdState.{FwdState}
 use Rattle.kinds.specs.declared.Forward.{Forward}
 use Rattle.kinds.specs.declared.Forward.the-variants.{NoForward, CompData}
 use Rattle.kinds.specs.declared.Answer.{Answer}

@@ -7,10 +7,10 @@ use Prim.Native.Nat.{ℕ, _<_}
 use borrow.Author.Tests.{eqb-true, eq-eqb, ltb-true}
 use lib.Dec.{eqb, ltb}
 use lib.ListN.{getD}
-use Rattle.kinds.specs.Tests.{any, all, _∈?_}
+use Rattle.kinds.specs.Tests.{any, all}
 use Rattle.kinds.specs.Codes.{stateNotSeen, tags, tagNotSeen}
 use Rattle.kinds.proofs.Lists.{any-found, found-any, all-at, at-state, and-left, and-right, and-both}
-use Rattle.sets.specs.Sets.{setOf, bit}
+use Rattle.sets.specs.Sets.{bit}
 use Rattle.sets.proofs.Laws.{bit-setOf}
 use Rattle.rows.specs.Event.{tagOf, afterOf}
 use Rattle.rows.specs.Rows.{Row, rows}

@@ -7,15 +7,14 @@ use mathlib.Core.Logic.{_≢_}
 use Prim.Native.Nat.{ℕ, zero, suc, _+_, _<_, _≤_}
 use native.Mathlib.Nat.{not-suc-le-zero, le-of-suc-le-suc}
 use native.Mathlib.Numerals.{add-one}
-use native.Mathlib.Omega.{arith}
 use borrow.Author.Tests.{eqb-true, eqb-false, eq-eqb, ne-eqb, ltb-true}
 use lib.Dec.{eqb, ltb}
 use lib.Bits.{bitAnd, bitOr, or-zero-r}
-use lib.ListN.{length, getD, set, take, length-set, List·getD-map, length-map}
+use lib.ListN.{length, getD, set, take, length-set, List·getD-map}
 use lib.Seq.{take-suc, take-all, ext-getD, getD-set-same, getD-set-other}
 use Rattle.kinds.specs.Tests.{any, all, _∈?_}
 use Rattle.kinds.specs.Codes.{I, states, stateNotSeen, tags, tagNotSeen}
-use Rattle.kinds.proofs.Lists.{In, here, there, Found, any-found, found-any, all-at, any-snoc, same-truth, at-state, and-left, and-right, and-both}
+use Rattle.kinds.proofs.Lists.{In, here, there, any-found, found-any, all-at, any-snoc, same-truth, at-state, and-left, and-right, and-both}
 use Rattle.sets.specs.Sets.{setOf}
 use Rattle.sets.proofs.Laws.{or-setOf, and-setOf, cond-setOf, setOf-ext}
 use Rattle.rows.specs.declared.Row as code
@@ -23,7 +22,7 @@ use Rattle.rows.specs.Event.{tagOf, afterOf}
 use Rattle.rows.specs.Rows.{Row, row, rows}
 use Rattle.rows.specs.declared.Table.the-variants.{B46}
 use Rattle.kinds.specs.Answers.{SnpResp-I}
-use Rattle.rows.specs.Permitted.{asked, answered, tagged, holds, permitted}
+use Rattle.rows.specs.Permitted.{asked, answered, tagged, permitted}
 use Rattle.rows.specs.Steps.{seen, steps, setAfter, setsAfter}
 use Rattle.rows.proofs.ByRows.{Permits, permitted-row, row-permitted}
 use Rattle.rows.specs.Code.{codeOf, rowAt, eventBytes, someTag, rowFits, withRow}

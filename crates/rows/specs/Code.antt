@@ -1,7 +1,7 @@
 -- What the code's own parts compute, in the words of the rows. Nobody has to believe this file: the claims above it don't name it.
 use Prim.Native.Nat.{ℕ, _/_, _%_, _^_}
 use mathlib.Core.Bool.{Bool, cond, _&&_}
-use mathlib.Core.List.{List, [], _∷_, map}
+use mathlib.Core.List.{List, [], _∷_}
 use lib.ListN.{getD, set}
 use lib.Bits.{bitAnd, bitOr}
 use lib.Dec.{eqb}
@@ -16,7 +16,7 @@ use Rattle.rows.specs.declared.Table.{Table}
 use Rattle.rows.specs.declared.Table.the-variants.{B46, B57, B59, B60, NdErr}
 use Rattle.rows.specs.declared.Row as code
 use Rattle.rows.specs.Event.{byte, tagOf}
-use Rattle.rows.specs.Rows.{Row, rows}
+use Rattle.rows.specs.Rows.{Row}
 use Rattle.rows.specs.Permitted.{asked, answered, tagged}
 use Rattle.rows.specs.Steps.{seen}
 

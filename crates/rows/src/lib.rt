@@ -10,7 +10,7 @@ use kinds::RespErr;
 use kinds::TagOp;
 use kinds::TagState;
 ghost use mathlib.Core.Path.{_≡_};
-ghost use mathlib.Core.Bool.{cond, _&&_};
+ghost use mathlib.Core.Bool.{cond};
 ghost use mathlib.Core.List.{[], _∷_};
 ghost use Prim.Native.Nat.{_<_};
 ghost use Rattle.kinds.specs.Tests.{_∈?_, same};

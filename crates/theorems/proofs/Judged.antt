@@ -8,7 +8,6 @@ use borrow.Author.Tests.{ne-eqb, eq-eqb}
 use lib.Dec.{eqb}
 use lib.ListN.{getD}
 use Rattle.kinds.specs.Codes.{states}
-use Rattle.sets.specs.Sets.{setOf}
 use Rattle.sets.proofs.Laws.{setOf-holds, setOf-empty}
 use Rattle.rows.specs.Steps.{Step, steps, setAfter, duty, noDuty, dutyAlone}
 use Rattle.rows.proofs.Stepping.{permitted-before, permitted-after, steps-step, step-steps}

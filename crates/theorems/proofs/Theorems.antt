@@ -1,19 +1,18 @@
 -- The theorems. Whoever believes the checker reads this file and the definitions that it names.
 -- Assumes nothing.
 use mathlib.Core.Path.{_≡_, refl, sym, _∙_, ap}
-use mathlib.Core.Logic.{_↔_, _⊎_, inl, inr}
-use mathlib.Core.Bool.{Bool, true, false, cond, not, _&&_, false≢true, true≢false}
+use mathlib.Core.Logic.{_↔_, _⊎_}
+use mathlib.Core.Bool.{Bool, true, false, cond, not, _&&_, false≢true}
 use mathlib.Core.List.{List}
-use Prim.Native.Nat.{ℕ, _+_, _^_, _<_}
+use Prim.Native.Nat.{ℕ, _^_, _<_}
 use native.Mathlib.Omega.{arith}
 use borrow.Author.Tests.{eq-eqb, ne-eqb}
 use lib.Dec.{eqb}
 use lib.ListN.{getD}
-use Rattle.kinds.specs.Tests.{all, any}
+use Rattle.kinds.specs.Tests.{all}
 use Rattle.kinds.specs.Codes.{I, UC, UD, SC, dirty, NDERR, OK, opInvalid, tagInvalid, SnpClean, SnpShared, SnpCleanFwd, SnpPreferUniqueFwd}
 use Rattle.kinds.specs.Answers.{SnpResp-I, SnpResp-SC, SnpRespData-SC-Fwded-SD-PD, SnpResp-SC-Fwded-SC}
-use Rattle.sets.specs.Sets.{setOf, bit, one}
-use Rattle.rows.specs.Event.{respErrOf}
+use Rattle.sets.specs.Sets.{setOf, bit}
 use Rattle.rows.specs.Rows.{rows}
 use Rattle.rows.specs.Permitted.{asked, answered, tagged, permitted}
 use Rattle.rows.specs.Steps.{Step, steps, setAfter, setsAfter, duty, noDuty, Home, Requester, lost}
@@ -23,7 +22,7 @@ use Rattle.event.specs.declared.Judgment.{Judgment}
 use Rattle.event.specs.Refusals.{issueE, fault, refusalAlone}
 use Rattle.event.specs.Alone.{acceptedAlone, refusedAlone, judgedAlone}
 use Rattle.theorems.specs.Notebook.{event, entries, right}
-use Rattle.theorems.specs.Duties.{tellsHome, tellsRequester, nonDataError, HomeHolds, RequesterHolds, NobodyTold, DataIsDuty, SCIsKept, B60Alone, NderrFromUDIllegal}
+use Rattle.theorems.specs.Duties.{nonDataError, HomeHolds, RequesterHolds, NobodyTold, DataIsDuty, SCIsKept, B60Alone, NderrFromUDIllegal}
 use Rattle.theorems.proofs.RowLaw.{row-law}
 use Rattle.theorems.proofs.Told.{exactly-one, nobody, lost-alone}
 use Rattle.theorems.proofs.Judged.{duty-of-step, duty-of-none}

@@ -1,12 +1,11 @@
 -- From the row law to who is told: plain reasoning on the tests that it names.
 -- Assumes nothing.
-use mathlib.Core.Path.{_≡_, refl, sym, _∙_, ap}
+use mathlib.Core.Path.{_≡_, refl, _∙_, ap}
 use mathlib.Core.Logic.{_⊎_, inl, inr, ⊎-elim}
 use mathlib.Core.Bool.{Bool, true, false, cond, not, _&&_, false≢true, true≢false}
 use mathlib.Core.List.{List}
 use Prim.Native.Nat.{ℕ, _+_, _^_, _<_}
 use native.Mathlib.Omega.{arith}
-use lib.Dec.{eqb}
 use Rattle.kinds.specs.Codes.{dirty}
 use Rattle.kinds.proofs.Lists.{each-state}
 use Rattle.sets.specs.Sets.{one, bit, holdsDirty}

@@ -2,7 +2,6 @@
 -- Assumes nothing.
 use denote.Ref.{now}
 use Rattle.rows.proofs.Laws.{fits-none, fits-rest}
-use Rattle.rows.specs.Code.{rowFits}
 use borrow.Author.Needs.{needs}
 use Rattle.rows.proofs.row_fits.Statement.{statement}
 use Rattle.rows.proofs.row_fits.Tie as tie
