@@ -26,15 +26,12 @@ use Rattle.rows.specs.Code.{someTag, tableAt, forwardAt, answerAt, event
 use Rattle.rows.specs.declared.Row as code
 use Rattle.kinds.specs.declared.Forward.{Forward}
 
--- a test chosen by a test is the test of the list so chosen
-pub in-cond : (n : ℕ) (b : Bool) (xs ys : List ℕ) → cond b (n ∈? xs) (n ∈? ys) ≡ n ∈? cond b xs ys
-in-cond n true xs ys = refl
-in-cond n false xs ys = refl
-
+-- errors, by whether the answer has data
 pub ok-or-derr : (n : ℕ) (b : Bool) → cond b (eqb n OK || eqb n DERR) (eqb n OK) ≡ n ∈? cond b (OK ∷ DERR ∷ []) (OK ∷ [])
 ok-or-derr n true = one-of-2 n OK DERR
 ok-or-derr n false = one-of-1 n OK
 
+-- TagOps, by Dirty tags, PD and UDP
 pub by-tags : (n : ℕ) (d p u : Bool)
     → cond d (cond p (eqb n opUpdate) (eqb n opTransfer)) (cond u (eqb n opInvalid) (eqb n opInvalid || eqb n opTransfer))
     ≡ n ∈? cond d (cond p (opUpdate ∷ []) (opTransfer ∷ [])) (cond u (opInvalid ∷ []) (opInvalid ∷ opTransfer ∷ []))
@@ -83,6 +80,7 @@ tag-op n false xs = one-of-1 n opInvalid
 pub any-tag : (p : ℕ → Bool) → p tagInvalid || p tagClean || p tagDirty ≡ any p tags
 any-tag p = or-3 (p tagInvalid) (p tagClean) (p tagDirty)
 
+-- the three tries of the code are the test of the list
 pub some-tag : (e : List ℕ) (T : Table) (s : ℕ) (a : Answer) (x₀ y₀ x₁ y₁ x₂ y₂ : Bool)
     → x₀ ≡ seen tagNotSeen (tagOf e) tagInvalid → y₀ ≡ tagged e tagInvalid T s a
     → x₁ ≡ seen tagNotSeen (tagOf e) tagClean → y₁ ≡ tagged e tagClean T s a
@@ -110,12 +108,15 @@ unfolding setOf
 seen-past n h =
     simp (ne-eqb n 7 (omega arith), ne-eqb n 0 (omega arith), ne-eqb n 1 (omega arith), ne-eqb n 2 (omega arith), ne-eqb n 3 (omega arith), ne-eqb n 4 (omega arith), ne-eqb n 5 (omega arith), ne-eqb n 6 (omega arith))
 
+-- a column past the last table's number
 pub table-else : (n : ℕ) → (n ≡ 0 → ⊥) → (n ≡ 1 → ⊥) → (n ≡ 2 → ⊥) → (n ≡ 3 → ⊥) → NdErr ≡ tableAt n
 table-else n a b c d = simp (ne-eqb n 0 a, ne-eqb n 1 b, ne-eqb n 2 c, ne-eqb n 3 d)
 
+-- the answer of a column, by its message
 pub answer-else : (m r f : ℕ) → (m ≡ 0 → ⊥) → (m ≡ 1 → ⊥) → SnpRespDataPtl (record { 0 = r }) ≡ answerAt m r f
 answer-else m r f a b = simp (ne-eqb m 0 a, ne-eqb m 1 b)
 
+-- fourteen bytes, one by one
 pub fourteen : (e : List ℕ) (x₀ x₁ x₂ x₃ x₄ x₅ x₆ x₇ x₈ x₉ x₁₀ x₁₁ x₁₂ x₁₃ : ℕ)
     → x₀ ≡ byte e 0 → x₁ ≡ byte e 1 → x₂ ≡ byte e 2 → x₃ ≡ byte e 3 → x₄ ≡ byte e 4 → x₅ ≡ byte e 5 → x₆ ≡ byte e 6
     → x₇ ≡ byte e 7 → x₈ ≡ byte e 8 → x₉ ≡ byte e 9 → x₁₀ ≡ byte e 10 → x₁₁ ≡ byte e 11 → x₁₂ ≡ byte e 12 → x₁₃ ≡ byte e 13

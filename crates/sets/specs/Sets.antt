@@ -17,10 +17,6 @@ setOf p = one (p I) * 1 + one (p UC) * 2 + one (p UCE) * 4 + one (p UD) * 8 + on
 unfoldable pub bit : ℕ → ℕ → Bool
 bit m n = eqb (m / 2 ^ n % 2) 1
 
--- the set that holds every state
-abbrev pub everyState : ℕ
-everyState = 127
-
 -- the set holds a Dirty state
 abbrev pub holdsDirty : ℕ → Bool
 holdsDirty m = any (λ s. dirty s && bit m s) states
