@@ -1,6 +1,6 @@
 // Answers events one by one, each alone: records from standard input, answers to standard output.
-// A record is 41 bytes: how many of the forty that follow are the event (0 to 40), and the forty.
-// An answer is 16 bytes: refusal number, place, the seven sets, the seven duties.
+// A record is 41 bytes: how many of the forty that follow are the event (more than 40 counts as 40), and the forty.
+// An answer is 16 bytes: refusal number, place, the seven sets, the seven duties. A last record that is cut has no answer.
 use event::Judgment;
 use libc::STDIN_FILENO;
 use libc::STDOUT_FILENO;
@@ -90,6 +90,7 @@ fn turn(block: &mut [u8], room: &mut [u8]) -> bool {
     written & (got == block.len())
 }
 
+// A proved loop has to end, and nothing says that an input does: the turns count down from a number that no run uses up.
 fn main() {
     let mut block = [0u8; 41984];
     let mut room = [0u8; 16384];

@@ -14,9 +14,38 @@ pub record Issue : Type 0 where
   pub limits : List ℕ
   pub requests : List ℕ
 
--- RetToSrc, DoNotGoToSD, excl, tag state, channel, opcode, Resp, FwdState, TagOp, RespErr, forwarded data present, its Resp, state after
+abbrev limitsE : List ℕ
+limitsE =
+    -- RetToSrc
+    2 ∷
+    -- DoNotGoToSD
+    2 ∷
+    -- excl
+    2 ∷
+    -- tag state, or 3 for not seen
+    4 ∷
+    -- channel
+    2 ∷
+    -- opcode
+    32 ∷
+    -- Resp
+    8 ∷
+    -- FwdState
+    8 ∷
+    -- TagOp
+    4 ∷
+    -- RespErr
+    4 ∷
+    -- forwarded data present
+    2 ∷
+    -- its Resp
+    8 ∷
+    -- state after, or 7 for not seen
+    8 ∷
+    []
+
 abbrev pub issueE : Issue
-issueE = record { limits = 2 ∷ 2 ∷ 2 ∷ 4 ∷ 2 ∷ 32 ∷ 8 ∷ 8 ∷ 4 ∷ 4 ∷ 2 ∷ 8 ∷ 8 ∷ []; requests = requests }
+issueE = record { limits = limitsE; requests = requests }
 
 -- each byte from place i on is below its limit
 abbrev pub below : List ℕ → ℕ → List ℕ → Bool

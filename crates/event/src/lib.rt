@@ -1,6 +1,9 @@
 // One event judged alone: whatever bytes are handed in, its refusal, or its seven sets and duties.
+use kinds::Duty;
+use kinds::EVENT_BYTES;
 use kinds::Refusal;
 use kinds::Request;
+use rows::place;
 ghost use mathlib.Core.Path.{_≡_};
 ghost use mathlib.Core.Bool.{cond};
 ghost use mathlib.Core.List.{map};
@@ -11,7 +14,28 @@ ghost use Rattle.event.specs.Refusals.{issueE, below, fault, refusalAlon
 ghost use Rattle.event.specs.Alone.{judgedAlone};
 
 // Below which number each byte of an event is, from byte 1 on.
-const LIMITS: [u8; 13] = [2, 2, 2, 4, 2, 32, 8, 8, 4, 4, 2, 8, 8];
+const LIMITS: [u8; 13] = [
+    // RetToSrc, DoNotGoToSD, excl
+    2,
+    2,
+    2,
+    // tag state
+    4,
+    // channel, opcode
+    2,
+    32,
+    // Resp, FwdState
+    8,
+    8,
+    // TagOp, RespErr
+    4,
+    4,
+    // forwarded data present, its Resp
+    2,
+    8,
+    // state after
+    8,
+];
 
 // The answer to one event alone: for each of the seven states before, a set of states after and a duty.
 pub struct Judgment {
@@ -40,7 +64,7 @@ pub fn fault(event: &[u8]) -> Refusal
 {
     let limits = LIMITS;
     let fine = in_range(event, &limits);
-    let known = Request(rows::byte_at(event, 0)).known();
+    let known = Request(rows::byte_at(event, place::REQUEST)).known();
     let request = sets::choose(known, Refusal::ACCEPTED.0, Refusal::REQUEST.0);
     Refusal(sets::choose(fine, request, Refusal::RANGE.0))
 }
@@ -49,7 +73,7 @@ pub fn fault(event: &[u8]) -> Refusal
 fn refusal_alone(event: &[u8]) -> Refusal
     ensures { λ r. ⌜ r .0 ≡ refusalAlone issueE (now (event .entry)) ⌝ }
 {
-    let whole = event.len() == 14;
+    let whole = event.len() == EVENT_BYTES;
     let refusal = fault(event);
     Refusal(sets::choose(whole, refusal.0, Refusal::LENGTHS.0))
 }
@@ -59,7 +83,7 @@ fn duty_from(event: &[u8], before: u8, after: u8) -> u8
     ensures { λ r. ⌜ r ≡ cond (eqb after 0) noDuty (duty (now (event .entry)) before) ⌝ }
 {
     let duty = rows::duty(event, before);
-    sets::choose(after == 0, 0, duty.0)
+    sets::choose(after == 0, Duty::NONE.0, duty.0)
 }
 
 // The seven duties, each judged from its state alone.
@@ -84,7 +108,7 @@ pub fn judge_event(event: &[u8]) -> Judgment
 {
     let refusal = refusal_alone(event);
     let number = refusal.0;
-    if number != 0 {
+    if number != Refusal::ACCEPTED.0 {
         return Judgment {
             refusal,
             place: 0,

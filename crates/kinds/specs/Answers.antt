@@ -2,19 +2,20 @@
 use Prim.Native.Nat.{ℕ}
 use mathlib.Core.Bool.{Bool, true, false}
 use mathlib.Core.List.{List, [], _∷_}
+use Rattle.kinds.specs.Codes.{RSP, DAT, op-SnpResp, op-SnpRespFwded, op-SnpRespData, op-SnpRespDataPtl, op-SnpRespDataFwded, Resp-I, Resp-SC, Resp-SD, Resp-I-PD, Resp-SC-PD, Fwd-SC, Fwd-UC, Fwd-UD-PD, Fwd-SD-PD}
 use Rattle.kinds.specs.declared.Resp.{Resp}
 use Rattle.kinds.specs.declared.Forward.{Forward}
 use Rattle.kinds.specs.declared.Forward.the-variants.{NoForward, CompData}
 use Rattle.kinds.specs.declared.Answer.{Answer}
 use Rattle.kinds.specs.declared.Answer.the-variants.{SnpResp, SnpRespData, SnpRespDataPtl}
 
--- channel (RSP 0, DAT 1), opcode, Resp, FwdState, forwarded data present, its Resp: event bytes 5, 6, 7, 8, 11 and 12
+-- channel, opcode, Resp, FwdState, forwarded data present, its Resp: event bytes 5, 6, 7, 8, 11 and 12
 abbrev pub wire : Answer → List ℕ
-wire (SnpResp r NoForward) = 0 ∷ 1 ∷ r .0 ∷ 0 ∷ 0 ∷ 0 ∷ []
-wire (SnpResp r (CompData f)) = 0 ∷ 9 ∷ r .0 ∷ f .0 ∷ 1 ∷ f .0 ∷ []
-wire (SnpRespData r NoForward) = 1 ∷ 1 ∷ r .0 ∷ 0 ∷ 0 ∷ 0 ∷ []
-wire (SnpRespData r (CompData f)) = 1 ∷ 6 ∷ r .0 ∷ f .0 ∷ 1 ∷ f .0 ∷ []
-wire (SnpRespDataPtl r) = 1 ∷ 5 ∷ r .0 ∷ 0 ∷ 0 ∷ 0 ∷ []
+wire (SnpResp r NoForward) = RSP ∷ op-SnpResp ∷ r .0 ∷ 0 ∷ 0 ∷ 0 ∷ []
+wire (SnpResp r (CompData f)) = RSP ∷ op-SnpRespFwded ∷ r .0 ∷ f .0 ∷ 1 ∷ f .0 ∷ []
+wire (SnpRespData r NoForward) = DAT ∷ op-SnpRespData ∷ r .0 ∷ 0 ∷ 0 ∷ 0 ∷ []
+wire (SnpRespData r (CompData f)) = DAT ∷ op-SnpRespDataFwded ∷ r .0 ∷ f .0 ∷ 1 ∷ f .0 ∷ []
+wire (SnpRespDataPtl r) = DAT ∷ op-SnpRespDataPtl ∷ r .0 ∷ 0 ∷ 0 ∷ 0 ∷ []
 
 -- the answer brings data to Home: it goes on DAT
 abbrev pub hasData : Answer → Bool
@@ -23,47 +24,47 @@ hasData (SnpRespData r f) = true
 hasData (SnpRespDataPtl r) = true
 
 -- its Resp
-abbrev pub respOf : Answer → ℕ
-respOf (SnpResp r f) = r .0
-respOf (SnpRespData r f) = r .0
-respOf (SnpRespDataPtl r) = r .0
+abbrev pub answerResp : Answer → ℕ
+answerResp (SnpResp r f) = r .0
+answerResp (SnpRespData r f) = r .0
+answerResp (SnpRespDataPtl r) = r .0
 
 -- its FwdState, 0 without a forward
-abbrev pub fwdOf : Answer → ℕ
-fwdOf (SnpResp r NoForward) = 0
-fwdOf (SnpResp r (CompData f)) = f .0
-fwdOf (SnpRespData r NoForward) = 0
-fwdOf (SnpRespData r (CompData f)) = f .0
-fwdOf (SnpRespDataPtl r) = 0
+abbrev pub answerFwd : Answer → ℕ
+answerFwd (SnpResp r NoForward) = 0
+answerFwd (SnpResp r (CompData f)) = f .0
+answerFwd (SnpRespData r NoForward) = 0
+answerFwd (SnpRespData r (CompData f)) = f .0
+answerFwd (SnpRespDataPtl r) = 0
 
--- Resp: I 0, SC 1, SD 3, I_PD 4, SC_PD 5.
+-- the Resp of an answer
 abbrev r-I : Resp
-r-I = record { 0 = 0 }
+r-I = record { 0 = Resp-I }
 
 abbrev r-SC : Resp
-r-SC = record { 0 = 1 }
+r-SC = record { 0 = Resp-SC }
 
 abbrev r-SD : Resp
-r-SD = record { 0 = 3 }
+r-SD = record { 0 = Resp-SD }
 
 abbrev r-I-PD : Resp
-r-I-PD = record { 0 = 4 }
+r-I-PD = record { 0 = Resp-I-PD }
 
 abbrev r-SC-PD : Resp
-r-SC-PD = record { 0 = 5 }
+r-SC-PD = record { 0 = Resp-SC-PD }
 
--- CompData, and FwdState with it: SC 1, UC 2, UD_PD 6, SD_PD 7.
+-- what is forwarded
 abbrev CompData-SC : Forward
-CompData-SC = CompData (record { 0 = 1 })
+CompData-SC = CompData (record { 0 = Fwd-SC })
 
 abbrev CompData-UC : Forward
-CompData-UC = CompData (record { 0 = 2 })
+CompData-UC = CompData (record { 0 = Fwd-UC })
 
 abbrev CompData-UD-PD : Forward
-CompData-UD-PD = CompData (record { 0 = 6 })
+CompData-UD-PD = CompData (record { 0 = Fwd-UD-PD })
 
 abbrev CompData-SD-PD : Forward
-CompData-SD-PD = CompData (record { 0 = 7 })
+CompData-SD-PD = CompData (record { 0 = Fwd-SD-PD })
 
 -- The 22 answers by their names in the tables, with - where those have _.
 abbrev pub SnpResp-I : Answer

@@ -64,9 +64,15 @@ opTransfer = 1
 abbrev pub opUpdate : ℕ
 opUpdate = 2
 
+abbrev pub opMatch : ℕ
+opMatch = 3
+
 -- RespErr.
 abbrev pub OK : ℕ
 OK = 0
+
+abbrev pub EXOK : ℕ
+EXOK = 1
 
 abbrev pub DERR : ℕ
 DERR = 2
@@ -108,10 +114,62 @@ requests =
     SnpPreferUniqueFwd ∷
     []
 
--- Resp carries PD, Pass Dirty: it is I_PD or SC_PD.
-abbrev pub respPD : ℕ → Bool
-respPD r = r ∈? (4 ∷ 5 ∷ [])
+-- Channels.
+abbrev pub RSP : ℕ
+RSP = 0
 
--- FwdState carries PD: it is UD_PD or SD_PD.
+abbrev pub DAT : ℕ
+DAT = 1
+
+-- Opcodes: the first two of RSP, the others of DAT.
+abbrev pub op-SnpResp : ℕ
+op-SnpResp = 1
+
+abbrev pub op-SnpRespFwded : ℕ
+op-SnpRespFwded = 9
+
+abbrev pub op-SnpRespData : ℕ
+op-SnpRespData = 1
+
+abbrev pub op-SnpRespDataPtl : ℕ
+op-SnpRespDataPtl = 5
+
+abbrev pub op-SnpRespDataFwded : ℕ
+op-SnpRespDataFwded = 6
+
+-- Resp.
+abbrev pub Resp-I : ℕ
+Resp-I = 0
+
+abbrev pub Resp-SC : ℕ
+Resp-SC = 1
+
+abbrev pub Resp-SD : ℕ
+Resp-SD = 3
+
+abbrev pub Resp-I-PD : ℕ
+Resp-I-PD = 4
+
+abbrev pub Resp-SC-PD : ℕ
+Resp-SC-PD = 5
+
+-- it carries PD, Pass Dirty
+abbrev pub respPD : ℕ → Bool
+respPD r = r ∈? (Resp-I-PD ∷ Resp-SC-PD ∷ [])
+
+-- FwdState, and the Resp of CompData.
+abbrev pub Fwd-SC : ℕ
+Fwd-SC = 1
+
+abbrev pub Fwd-UC : ℕ
+Fwd-UC = 2
+
+abbrev pub Fwd-UD-PD : ℕ
+Fwd-UD-PD = 6
+
+abbrev pub Fwd-SD-PD : ℕ
+Fwd-SD-PD = 7
+
+-- it carries PD
 abbrev pub fwdPD : ℕ → Bool
-fwdPD f = f ∈? (6 ∷ 7 ∷ [])
+fwdPD f = f ∈? (Fwd-UD-PD ∷ Fwd-SD-PD ∷ [])

@@ -1,4 +1,7 @@
 -- Tests on numbers and lists that compute: what the page says in words such as "one of" and "the same".
+-- How these files read: `f x y` is f of x and y; a definition is a line with its type and one with its value, and the words before the name
+-- (abbrev, unfoldable, pub) concern the checker alone; `a ∷ b ∷ []` is the list of a and b; `cond t a b` is a where the test t holds, else b;
+-- `λ x. ..` is the function of x; `&&`, `||` and `not` are and, or and not; `r .field` is a field of r.
 use Prim.Native.Nat.{ℕ}
 use mathlib.Core.Bool.{Bool, true, false, _&&_, _||_}
 use mathlib.Core.List.{List, [], _∷_}

@@ -2,8 +2,11 @@
 ghost use mathlib.Core.Path.{_≡_};
 ghost use Rattle.kinds.specs.Codes.{dirty, requests, respPD, fwdPD};
 ghost use Rattle.kinds.specs.Tests.{_∈?_};
-ghost use Rattle.kinds.specs.Answers.{wire, hasData, respOf, fwdOf};
+ghost use Rattle.kinds.specs.Answers.{wire, hasData, answerResp, answerFwd};
 ghost use Rattle.kinds.specs.Places.{setIn, eventIn};
+
+// An event is this many bytes.
+pub const EVENT_BYTES: usize = 14;
 
 // The state of a line in a cache.
 pub struct LineState(pub u8);
@@ -130,7 +133,7 @@ impl Opcode {
     pub const SNP_RESP_DATA_FWDED: Opcode = Opcode(6);
 }
 
-// The state that an answer names, and whether it passes the duty to write back to Home.
+// The state that an answer names, and whether it passes to Home the duty to write back.
 pub struct Resp(pub u8);
 
 impl Resp {
@@ -153,7 +156,7 @@ impl Resp {
     }
 }
 
-// The state that forwarded data names, and whether it passes the duty to write back to the Requester.
+// The state that forwarded data names, and whether it passes to the Requester the duty to write back.
 pub struct FwdState(pub u8);
 
 impl FwdState {
@@ -219,7 +222,7 @@ impl Answer {
 
     // Its Resp.
     pub fn resp(self) -> Resp
-        ensures { λ r. ⌜ r .0 ≡ respOf self ⌝ }
+        ensures { λ r. ⌜ r .0 ≡ answerResp self ⌝ }
     {
         match self {
             Answer::SnpResp(r, _) => r,
@@ -230,7 +233,7 @@ impl Answer {
 
     // Its FwdState.
     pub fn fwd_state(self) -> FwdState
-        ensures { λ r. ⌜ r .0 ≡ fwdOf self ⌝ }
+        ensures { λ r. ⌜ r .0 ≡ answerFwd self ⌝ }
     {
         match self {
             Answer::SnpResp(_, forward) => match forward {
@@ -321,19 +324,19 @@ impl PairNumber {
 pub struct EventNumber(pub u32);
 
 impl EventNumber {
-    // The event's bytes, in place: a part of the trace that starts at 14 times the number.
+    // The event's bytes, in place: a part of the trace that starts at the number times an event's length.
     pub fn event_in(self, events: &[u8]) -> &[u8]
         ensures { λ r. ⌜ now r ≡ eventIn (now (events .entry)) (self .0) ⌝ }
     {
         let number = self.0;
-        let start = (number as usize) * 14;
+        let start = (number as usize) * EVENT_BYTES;
         let len = events.len();
         if len <= start {
             return &events[..0];
         }
-        if len - start < 14 {
+        if len - start < EVENT_BYTES {
             return &events[start..];
         }
-        &events[start..start + 14]
+        &events[start..start + EVENT_BYTES]
     }
 }

@@ -131,13 +131,13 @@ pub answer-dat : (m r f : ℕ) (g : Forward) → m ≡ 1 → g ≡ forwardAt f �
 answer-dat m r f g h k = ap (SnpRespData (record { 0 = r })) k ∙ sym (ap (λ (n : ℕ). answerAt n r f) h)
 
 -- the answer first, then the rest
-pub fits-none : (e : List ℕ) (r : code.Row) (b : Bool) → b ≡ answered e (r .0) (r .3) → not b ≡ true → false ≡ rowFits e r
+pub fits-none : (e : List ℕ) (r : code.Row) (b : Bool) → b ≡ answered e (r .table) (r .answer) → not b ≡ true → false ≡ rowFits e r
 unfolding rowFits
 fits-none e r true h k = absurd (false≢true k)
-fits-none e r false h k = ap (λ (x : Bool). x && asked e (r .0) (r .2) (r .5) && someTag e (r .0) (r .1 .0) (r .3)) h
+fits-none e r false h k = ap (λ (x : Bool). x && asked e (r .table) (r .ret) (r .marked) && someTag e (r .table) (r .before .0) (r .answer)) h
 
-pub fits-rest : (e : List ℕ) (r : code.Row) (b x y : Bool) → b ≡ answered e (r .0) (r .3) → not b ≡ false
-    → x ≡ asked e (r .0) (r .2) (r .5) → y ≡ someTag e (r .0) (r .1 .0) (r .3) → x && y ≡ rowFits e r
+pub fits-rest : (e : List ℕ) (r : code.Row) (b x y : Bool) → b ≡ answered e (r .table) (r .answer) → not b ≡ false
+    → x ≡ asked e (r .table) (r .ret) (r .marked) → y ≡ someTag e (r .table) (r .before .0) (r .answer) → x && y ≡ rowFits e r
 unfolding rowFits
-fits-rest e r true x y h k p q = ap₂ _&&_ p q ∙ ap (λ (z : Bool). z && asked e (r .0) (r .2) (r .5) && someTag e (r .0) (r .1 .0) (r .3)) h
+fits-rest e r true x y h k p q = ap₂ _&&_ p q ∙ ap (λ (z : Bool). z && asked e (r .table) (r .ret) (r .marked) && someTag e (r .table) (r .before .0) (r .answer)) h
 fits-rest e r false x y h k p q = absurd (false≢true (sym k))

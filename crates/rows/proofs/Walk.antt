@@ -207,9 +207,9 @@ word-row {ws} i h =
     ∙ List·getD-map codeOf rows i no-row
 
 -- the state before of a word's row is one of the seven
-pub word-before : {ws : List ℕ} (i : ℕ) (r : code.Row) → Printed ws → i < 73 → r ≡ rowAt (getD ws i 0) → r .1 .0 < 7
+pub word-before : {ws : List ℕ} (i : ℕ) (r : code.Row) → Printed ws → i < 73 → r ≡ rowAt (getD ws i 0) → r .before .0 < 7
 word-before i r h l k =
-    subst (λ (x : code.Row). x .1 .0 < 7) (sym (k ∙ word-row i h))
+    subst (λ (x : code.Row). x .before .0 < 7) (sym (k ∙ word-row i h))
     (ltb-true (getD rows i no-row .before) 7 (all-at (λ x. ltb (x .before) 7) states-before (getD-In no-row rows i (subst (λ (n : ℕ). i < n) (sym seventy-three) l))))
 
 -- a turn of the walk

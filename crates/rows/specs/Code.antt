@@ -41,7 +41,7 @@ eventBytes e =
 
 -- a printed row in the code's kinds
 abbrev pub codeOf : Row → code.Row
-codeOf r = record { 0 = r .table; 1 = record { 0 = r .before }; 2 = r .ret; 3 = r .answer; 4 = setOf (λ s. s ∈? r .after); 5 = r .marked }
+codeOf r = record { table = r .table; before = record { 0 = r .before }; ret = r .ret; answer = r .answer; after = setOf (λ s. s ∈? r .after); marked = r .marked }
 
 -- the three bits at a place of a word
 abbrev pub columnAt : ℕ → ℕ → ℕ
@@ -60,12 +60,12 @@ answerAt m r f = cond (eqb m 0) (SnpResp (record { 0 = r }) (forwardAt f)) (cond
 unfoldable pub rowAt : ℕ → code.Row
 rowAt w =
     record {
-      0 = tableAt (columnAt w 16);
-      1 = record { 0 = columnAt w 8 };
-      2 = columnAt w 12;
-      3 = answerAt (columnAt w 28) (columnAt w 20) (columnAt w 24);
-      4 = w % 128;
-      5 = eqb (w / 128 % 2) 1;
+      table = tableAt (columnAt w 16);
+      before = record { 0 = columnAt w 8 };
+      ret = columnAt w 12;
+      answer = answerAt (columnAt w 28) (columnAt w 20) (columnAt w 24);
+      after = w % 128;
+      marked = eqb (w / 128 % 2) 1;
     }
 
 -- some tag state that was seen, or any, fits the row
@@ -74,8 +74,8 @@ someTag e T s a = any (λ t. seen tagNotSeen (tagOf e) t && tagged e t T s a) ta
 
 -- the row is the event's, whatever the state before
 unfoldable pub rowFits : List ℕ → code.Row → Bool
-rowFits e r = answered e (r .0) (r .3) && asked e (r .0) (r .2) (r .5) && someTag e (r .0) (r .1 .0) (r .3)
+rowFits e r = answered e (r .table) (r .answer) && asked e (r .table) (r .ret) (r .marked) && someTag e (r .table) (r .before .0) (r .answer)
 
 -- the seven sets with what the row adds
 unfoldable pub withRow : List ℕ → ℕ → code.Row → List ℕ → List ℕ
-withRow e among r sets = set sets (r .1 .0) (bitOr (getD sets (r .1 .0) 0) (cond (rowFits e r) (bitAnd (r .4) among) 0))
+withRow e among r sets = set sets (r .before .0) (bitOr (getD sets (r .before .0) 0) (cond (rowFits e r) (bitAnd (r .after) among) 0))

@@ -6,7 +6,7 @@ use lib.Dec.{eqb}
 use Rattle.kinds.specs.Tests.{any, _∈?_, same}
 use Rattle.kinds.specs.Codes.{UD, UDP, SD, tagDirty, opInvalid, opTransfer, opUpdate, OK, DERR, NDERR, SnpShared, SnpClean, SnpNotSharedDirty, SnpCleanFwd, SnpNotSharedDirtyFwd, SnpPreferUnique, SnpPreferUniqueFwd, requests, respPD, fwdPD}
 use Rattle.kinds.specs.declared.Answer.{Answer}
-use Rattle.kinds.specs.Answers.{wire, hasData, respOf, fwdOf}
+use Rattle.kinds.specs.Answers.{wire, hasData, answerResp, answerFwd}
 use Rattle.rows.specs.declared.Table.{Table}
 use Rattle.rows.specs.declared.Table.the-variants.{B46, B57, B59, B60, NdErr}
 use Rattle.rows.specs.Event.{requestOf, retToSrcOf, doNotGoToSDOf, exclOf, answerOf, tagOpOf, respErrOf}
@@ -27,22 +27,25 @@ pub record Rules : Type 0 where
 abbrev pub okOrDerr : Answer → List ℕ
 okOrDerr a = cond (hasData a) (OK ∷ DERR ∷ []) (OK ∷ [])
 
+-- Invalid, Transfer or Update, whatever the tags
 abbrev pub upToUpdate : ℕ → ℕ → Answer → List ℕ
 upToUpdate t s a = opInvalid ∷ opTransfer ∷ opUpdate ∷ []
 
--- Dirty tags go with PD as Update, else as Transfer; other tags are Invalid or Transfer, and Invalid for UDP
+-- Dirty tags go with PD as Update, else as Transfer (`tagsAllow` leaves of the others only those that say SD); other tags are Invalid or
+-- Transfer, and Invalid for UDP
 abbrev pub byTags : ℕ → ℕ → Answer → List ℕ
 byTags t s a =
     cond (eqb t tagDirty)
-    (cond (respPD (respOf a)) (opUpdate ∷ []) (opTransfer ∷ []))
+    (cond (respPD (answerResp a)) (opUpdate ∷ []) (opTransfer ∷ []))
     (cond (eqb s UDP) (opInvalid ∷ []) (opInvalid ∷ opTransfer ∷ []))
 
+-- request 22 uses B4.59 with either excl, and B4.60 beside it with excl 0 alone; the answer of NDERR has no data
 abbrev pub rulesOf : Table → Rules
 rulesOf B46 = record { asks = SnpShared ∷ SnpClean ∷ SnpNotSharedDirty ∷ SnpPreferUnique ∷ []; excl = X; errors = okOrDerr; onData = upToUpdate }
 rulesOf B57 = record { asks = SnpCleanFwd ∷ SnpNotSharedDirtyFwd ∷ []; excl = X; errors = okOrDerr; onData = byTags }
 rulesOf B59 = record { asks = SnpPreferUniqueFwd ∷ []; excl = X; errors = okOrDerr; onData = byTags }
 rulesOf B60 = record { asks = SnpPreferUniqueFwd ∷ []; excl = 0; errors = okOrDerr; onData = byTags }
-rulesOf NdErr = record { asks = requests; excl = X; errors = λ a. NDERR ∷ []; onData = upToUpdate }
+rulesOf NdErr = record { asks = requests; excl = X; errors = λ a. NDERR ∷ []; onData = λ t s a. [] }
 
 -- a column that is 0, 1 or X, against a flag
 abbrev pub fits : ℕ → ℕ → Bool
@@ -66,7 +69,7 @@ tagOps t T s a = cond (hasData a) (rulesOf T .onData t s a) (opInvalid ∷ [])
 
 -- Dirty tags exist only with UD and SD, and aren't forwarded with PD
 abbrev pub tagsAllow : ℕ → ℕ → Answer → Bool
-tagsAllow t s a = not (eqb t tagDirty) || ((s ∈? (UD ∷ SD ∷ [])) && not (fwdPD (fwdOf a)))
+tagsAllow t s a = not (eqb t tagDirty) || ((s ∈? (UD ∷ SD ∷ [])) && not (fwdPD (answerFwd a)))
 
 -- the tag state and the TagOp fit the row
 unfoldable pub tagged : List ℕ → ℕ → Table → ℕ → Answer → Bool

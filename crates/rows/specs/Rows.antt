@@ -1,6 +1,7 @@
 -- The rows, one line a printed row, in the printed order, under the table's number.
--- A line reads: table, state before, states after (expected and permitted), RetToSrc, answer to Home with what it forwards.
--- row* is a row with the mark that it isn't permitted with DoNotGoToSD.
+-- A line reads: table, initial state, final states (expected, then permitted), RetToSrc, response to Home. The printed response to Requester is
+-- what the name has after Fwded, and No Fwd where it has nothing. What the TagOp columns say is `tagsAllow` and `byTags` of Permitted.
+-- row* is a row with the mark that it isn't permitted with DoNotGoToSD. (`∷` ends a line and `[]` the list.)
 use Prim.Native.Nat.{ℕ}
 use mathlib.Core.Bool.{Bool, true, false}
 use mathlib.Core.List.{List, [], _∷_, _++_, map}
@@ -24,7 +25,7 @@ row T s s′ r a = record { table = T; before = s; after = s′; ret = r; answer
 abbrev pub row* : Table → ℕ → List ℕ → ℕ → Answer → Row
 row* T s s′ r a = record { table = T; before = s; after = s′; ret = r; answer = a; marked = true }
 
--- in the column of RetToSrc: it doesn't matter
+-- in a column of RetToSrc or excl: it doesn't matter
 abbrev pub X : ℕ
 X = 2
 
@@ -42,8 +43,9 @@ abbrev to-SD : List ℕ
 to-SD = SD ∷ []
 
 -- Table B4.46: SnpClean, SnpShared, SnpNotSharedDirty and SnpPreferUnique
-abbrev pub B4·46 : List Row
-B4·46 =
+-- (SnpPreferUnique stands here whatever excl is, and whatever the text after the table says.)
+abbrev pub rows·B4·46 : List Row
+rows·B4·46 =
     row B46 I to-I X SnpResp-I ∷
     row B46 UC SC-or-I X SnpResp-SC ∷
     row B46 UC SC-or-I X SnpRespData-SC ∷
@@ -64,8 +66,9 @@ B4·46 =
     []
 
 -- Table B4.57: SnpCleanFwd and SnpNotSharedDirtyFwd
-abbrev pub B4·57 : List Row
-B4·57 =
+-- (Both letters on SD are read as the mark.)
+abbrev pub rows·B4·57 : List Row
+rows·B4·57 =
     row B57 I to-I X SnpResp-I ∷
     row B57 UC SC-or-I 0 SnpResp-SC-Fwded-SC ∷
     row B57 UC SC-or-I 1 SnpRespData-SC-Fwded-SC ∷
@@ -95,9 +98,10 @@ B4·57 =
     row B57 SD to-I X SnpRespData-I-PD-Fwded-SC ∷
     []
 
--- Table B4.59: SnpPreferUniqueFwd, in an exclusive sequence
-abbrev pub B4·59 : List Row
-B4·59 =
+-- Table B4.59: SnpPreferUniqueFwd, with excl 1, and with excl 0 too
+-- (The star on SD is read as the mark.)
+abbrev pub rows·B4·59 : List Row
+rows·B4·59 =
     row B59 I to-I X SnpResp-I ∷
     row B59 UC to-SC 0 SnpResp-SC-Fwded-SC ∷
     row B59 UC to-SC 1 SnpRespData-SC-Fwded-SC ∷
@@ -113,9 +117,9 @@ B4·59 =
     row B59 SD to-SC X SnpRespData-SC-PD-Fwded-SC ∷
     []
 
--- Table B4.60: SnpPreferUniqueFwd, not in an exclusive sequence
-abbrev pub B4·60 : List Row
-B4·60 =
+-- Table B4.60: SnpPreferUniqueFwd, with excl 0 beside B4.59
+abbrev pub rows·B4·60 : List Row
+rows·B4·60 =
     row B60 I to-I X SnpResp-I ∷
     row B60 UC to-I X SnpResp-I-Fwded-UC ∷
     row B60 UCE to-I X SnpResp-I ∷
@@ -128,8 +132,8 @@ B4·60 =
     []
 
 -- NDERR: its one row, for every state
-abbrev pub NDERR-row : List Row
-NDERR-row = map (λ s. row NdErr s to-I X SnpResp-I) states
+abbrev pub rows·NDERR : List Row
+rows·NDERR = map (λ s. row NdErr s to-I X SnpResp-I) states
 
 unfoldable pub rows : List Row
-rows = B4·46 ++ B4·57 ++ B4·59 ++ B4·60 ++ NDERR-row
+rows = rows·B4·46 ++ rows·B4·57 ++ rows·B4·59 ++ rows·B4·60 ++ rows·NDERR

@@ -34,7 +34,7 @@ setAfter e s = setOf (steps e s)
 abbrev pub setsAfter : List ℕ → List ℕ
 setsAfter e = map (setAfter e) states
 
--- The duty byte of an explained event, from the set before.
+-- Duties.
 abbrev pub noDuty : ℕ
 noDuty = 0
 
@@ -47,6 +47,7 @@ Requester = 2
 abbrev pub lost : ℕ
 lost = 3
 
+-- the duty byte of an explained event, from the set before: the first of these that holds
 unfoldable pub duty : List ℕ → ℕ → ℕ
 duty e before =
     cond (respPD (respOf e)) Home

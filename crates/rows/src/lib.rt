@@ -1,6 +1,7 @@
 // The rows of the tables, and one event walked along them.
 use kinds::Answer;
 use kinds::Duty;
+use kinds::EVENT_BYTES;
 use kinds::Forward;
 use kinds::FwdState;
 use kinds::LineState;
@@ -14,10 +15,10 @@ ghost use mathlib.Core.Bool.{cond};
 ghost use mathlib.Core.List.{[], _∷_};
 ghost use Prim.Native.Nat.{_<_};
 ghost use Rattle.kinds.specs.Tests.{_∈?_, same};
-ghost use Rattle.kinds.specs.Codes.{stateNotSeen, opInvalid, opTransfer, opUpdate, NDERR};
+ghost use Rattle.kinds.specs.Codes.{stateNotSeen, tagNotSeen, opInvalid, opTransfer, opUpdate, NDERR};
 ghost use Rattle.kinds.specs.Answers.{wire};
 ghost use Rattle.sets.specs.Sets.{setOf};
-ghost use Rattle.rows.specs.Event.{byte, answerOf};
+ghost use Rattle.rows.specs.Event.{byte, answerOf, tagOf};
 ghost use Rattle.rows.specs.Permitted.{rulesOf, okOrDerr, byTags, tagsAllow, asked, answered, tagged, fits};
 ghost use Rattle.rows.specs.Steps.{seen, setsAfter, duty};
 ghost use Rattle.rows.specs.Code.{
@@ -32,6 +33,7 @@ ghost use Rattle.rows.specs.Code.{
   withRow,
 };
 
+pub mod place;
 mod printed;
 
 // The printed tables, and the row of NDERR.
@@ -43,15 +45,18 @@ pub enum Table {
     NdErr,
 }
 
-// A row: table, state before, RetToSrc or X, answer, set of states after, and whether DoNotGoToSD forbids it.
-pub struct Row(
-    pub Table,
-    pub LineState,
-    pub u8,
-    pub Answer,
-    pub u8,
-    pub bool,
-);
+// A row: its table, state before, RetToSrc or X, answer, set of states after, and whether DoNotGoToSD forbids it.
+pub struct Row {
+    pub table: Table,
+    pub before: LineState,
+    pub ret: u8,
+    pub answer: Answer,
+    pub after: u8,
+    pub marked: bool,
+}
+
+// In a column of RetToSrc or excl: it doesn't matter.
+const X: u8 = 2;
 
 // The byte at a place of an event, 0 past its end.
 pub fn byte_at(event: &[u8], at: usize) -> u8
@@ -64,14 +69,14 @@ pub fn byte_at(event: &[u8], at: usize) -> u8
 fn fits(column: u8, flag: u8) -> bool
     ensures { λ r. ⌜ r ≡ fits column flag ⌝ }
 {
-    (column == 2) | (column == flag)
+    (column == X) | (column == flag)
 }
 
-// What was seen, which may be that nothing was, leaves room for this.
-fn sees(not_seen: u8, what: u8, this: u8) -> bool
-    ensures { λ r. ⌜ r ≡ seen «not_seen» what this ⌝ }
+// Whether the tag state that was seen leaves room for this one: it is this one, or none was seen.
+fn sees_tag(e: &[u8; EVENT_BYTES], tag: TagState) -> bool
+    ensures { λ r. ⌜ r ≡ seen tagNotSeen (tagOf (now (e .entry))) (tag .0) ⌝ }
 {
-    (what == not_seen) | (what == this)
+    (e[place::TAG] == TagState::NOT_SEEN.0) | (e[place::TAG] == tag.0)
 }
 
 // The first of two answers where the test holds, else the second.
@@ -108,11 +113,11 @@ impl Table {
         ensures { λ r. ⌜ r ≡ rulesOf self .excl ⌝ }
     {
         match self {
-            Table::B46 => 2,
-            Table::B57 => 2,
-            Table::B59 => 2,
+            Table::B46 => X,
+            Table::B57 => X,
+            Table::B59 => X,
             Table::B60 => 0,
-            Table::NdErr => 2,
+            Table::NdErr => X,
         }
     }
 
@@ -138,7 +143,7 @@ impl Table {
             Table::B57 => by_tags(tag, before, answer, op),
             Table::B59 => by_tags(tag, before, answer, op),
             Table::B60 => by_tags(tag, before, answer, op),
-            Table::NdErr => up_to_update(op),
+            Table::NdErr => false,
         }
     }
 }
@@ -191,52 +196,62 @@ fn tags_allow(tag: TagState, before: LineState, answer: Answer) -> bool
 }
 
 // Whether the snoop is one that the row is for.
-fn asked(e: &[u8; 14], table: Table, ret: u8, marked: bool) -> bool
+fn asked(e: &[u8; EVENT_BYTES], table: Table, ret: u8, marked: bool) -> bool
     ensures { λ r. ⌜ r ≡ asked (now (e .entry)) table ret marked ⌝ }
 {
-    table.asks(Request(e[0])) & fits(table.excl(), e[3]) & fits(ret, e[1]) & !(marked & (e[2] == 1))
+    table.asks(Request(e[place::REQUEST]))
+        & fits(table.excl(), e[place::EXCL])
+        & fits(ret, e[place::RET_TO_SRC])
+        & !(marked & (e[place::DO_NOT_GO_TO_SD] == 1))
 }
 
 // Whether the answer is the row's.
-fn answered(e: &[u8; 14], table: Table, answer: Answer) -> bool
+fn answered(e: &[u8; EVENT_BYTES], table: Table, answer: Answer) -> bool
     ensures { λ r. ⌜ r ≡ answered (now (e .entry)) table answer ⌝ }
 {
-    same_answer(e, answer) & table.errors(answer, RespErr(e[10]))
+    same_answer(e, answer) & table.errors(answer, RespErr(e[place::RESP_ERR]))
 }
 
 // Whether the event shows just this answer.
-fn same_answer(e: &[u8; 14], answer: Answer) -> bool
+fn same_answer(e: &[u8; EVENT_BYTES], answer: Answer) -> bool
     ensures { λ r. ⌜ r ≡ same (answerOf (now (e .entry))) (wire answer) ⌝ }
 {
     let w = answer.wire();
-    (e[5] == w[0])
-        & (e[6] == w[1])
-        & (e[7] == w[2])
-        & (e[8] == w[3])
-        & (e[11] == w[4])
-        & (e[12] == w[5])
+    (e[place::CHANNEL] == w[0])
+        & (e[place::OPCODE] == w[1])
+        & (e[place::RESP] == w[2])
+        & (e[place::FWD_STATE] == w[3])
+        & (e[place::FORWARDED] == w[4])
+        & (e[place::FORWARDED_RESP] == w[5])
 }
 
 // Whether the tag state and the TagOp fit the row.
-fn tagged(e: &[u8; 14], tag: TagState, table: Table, before: LineState, answer: Answer) -> bool
+fn tagged(
+    e: &[u8; EVENT_BYTES],
+    tag: TagState,
+    table: Table,
+    before: LineState,
+    answer: Answer,
+) -> bool
     ensures { λ r. ⌜ r ≡ tagged (now (e .entry)) (tag .0) table (before .0) answer ⌝ }
 {
-    let op = TagOp(e[9]);
+    let op = TagOp(e[place::TAG_OP]);
     let fine = pick(
         answer.has_data(),
         table.on_data(tag, before, answer, op),
-        e[9] == TagOp::INVALID.0,
+        e[place::TAG_OP] == TagOp::INVALID.0,
     );
     tags_allow(tag, before, answer) & fine
 }
 
 // Whether some tag state that was seen, or any, fits the row.
-fn some_tag(e: &[u8; 14], table: Table, before: LineState, answer: Answer) -> bool
+fn some_tag(e: &[u8; EVENT_BYTES], table: Table, before: LineState, answer: Answer) -> bool
     ensures { λ r. ⌜ r ≡ someTag (now (e .entry)) table (before .0) answer ⌝ }
 {
-    let invalid = sees(3, e[4], 0) & tagged(e, TagState::INVALID, table, before, answer);
-    let clean = sees(3, e[4], 1) & tagged(e, TagState::CLEAN, table, before, answer);
-    let dirty = sees(3, e[4], 2) & tagged(e, TagState::DIRTY, table, before, answer);
+    let invalid = sees_tag(e, TagState::INVALID)
+        & tagged(e, TagState::INVALID, table, before, answer);
+    let clean = sees_tag(e, TagState::CLEAN) & tagged(e, TagState::CLEAN, table, before, answer);
+    let dirty = sees_tag(e, TagState::DIRTY) & tagged(e, TagState::DIRTY, table, before, answer);
     invalid | clean | dirty
 }
 
@@ -292,53 +307,53 @@ fn row_of(word: u32) -> Row
     let before = LineState(column(word, 8));
     let answer = answer_of(column(word, 28), column(word, 20), column(word, 24));
     let after = (word % 128) as u8;
-    Row(
+    Row {
         table,
         before,
-        column(word, 12),
+        ret: column(word, 12),
         answer,
         after,
-        word / 128 % 2 == 1,
-    )
+        marked: word / 128 % 2 == 1,
+    }
 }
 
 // Whether the row is the event's, whatever the state before.
-fn row_fits(e: &[u8; 14], row: Row) -> bool
+fn row_fits(e: &[u8; EVENT_BYTES], row: Row) -> bool
     ensures { λ r. ⌜ r ≡ rowFits (now (e .entry)) row ⌝ }
 {
-    let table = row.0;
-    let answer = row.3;
+    let table = row.table;
+    let answer = row.answer;
     if !answered(e, table, answer) {
         return false;
     }
-    let before = row.1;
-    asked(e, table, row.2, row.5) & some_tag(e, table, before, answer)
+    let before = row.before;
+    asked(e, table, row.ret, row.marked) & some_tag(e, table, before, answer)
 }
 
 // The seven sets with what the row adds.
-fn with_row(e: &[u8; 14], among: u8, row: Row, sets: [u8; 7]) -> [u8; 7]
-    requires { ⌜ row .1 .0 < 7 ⌝ }
+fn with_row(e: &[u8; EVENT_BYTES], among: u8, row: Row, sets: [u8; 7]) -> [u8; 7]
+    requires { ⌜ row .before .0 < 7 ⌝ }
     ensures { λ r. ⌜ r ≡ withRow (now (e .entry)) among row sets ⌝ }
 {
-    let before = row.1;
+    let before = row.before;
     let at = before.0 as usize;
-    let added = sets::choose(row_fits(e, row), row.4 & among, 0);
+    let added = sets::choose(row_fits(e, row), row.after & among, 0);
     let mut next = sets;
     next[at] = next[at] | added;
     next
 }
 
 // The set of the states after that were seen: one, or all where it wasn't seen.
-fn seen_states(after: u8) -> u8
-    ensures { λ r. ⌜ r ≡ setOf (seen stateNotSeen after) ⌝ }
+fn seen_states(after: LineState) -> u8
+    ensures { λ r. ⌜ r ≡ setOf (seen stateNotSeen (after .0)) ⌝ }
 {
     let weights: [u8; 8] = [1, 2, 4, 8, 16, 32, 64, 127];
-    let at = after as usize;
+    let at = after.0 as usize;
     if at < 8 { weights[at] } else { 0 }
 }
 
-// An event's fourteen bytes.
-fn event_bytes(event: &[u8]) -> [u8; 14]
+// An event's bytes, read once where they lie so that the walk along the rows doesn't ask for the slice's length again.
+fn event_bytes(event: &[u8]) -> [u8; EVENT_BYTES]
     ensures { λ r. ⌜ r ≡ eventBytes (now (event .entry)) ⌝ }
 {
     [
@@ -364,11 +379,11 @@ pub fn sets_after(event: &[u8]) -> [u8; 7]
     ensures { λ r. ⌜ r ≡ setsAfter (now (event .entry)) ⌝ }
 {
     let e = event_bytes(event);
-    let among = seen_states(e[13]);
+    let among = seen_states(LineState(e[place::AFTER]));
     let rows = printed::ROWS;
     let mut sets = [0u8; 7];
     let mut i: usize = 0;
-    while i < 73 {
+    while i < printed::ROW_COUNT {
         let row = row_of(rows[i]);
         let next = with_row(&e, among, row, sets);
         sets = next;
@@ -381,9 +396,9 @@ pub fn sets_after(event: &[u8]) -> [u8; 7]
 pub fn duty(event: &[u8], before: u8) -> Duty
     ensures { λ r. ⌜ r .0 ≡ duty (now (event .entry)) before ⌝ }
 {
-    let to_home = Resp(byte_at(event, 7)).passes_dirty();
-    let to_requester = FwdState(byte_at(event, 8)).passes_dirty();
-    let lost = (byte_at(event, 10) == RespErr::NDERR.0) & sets::holds_dirty(before);
+    let to_home = Resp(byte_at(event, place::RESP)).passes_dirty();
+    let to_requester = FwdState(byte_at(event, place::FWD_STATE)).passes_dirty();
+    let lost = (byte_at(event, place::RESP_ERR) == RespErr::NDERR.0) & sets::holds_dirty(before);
     let unpassed = sets::choose(lost, Duty::LOST.0, Duty::NONE.0);
     let unhomed = sets::choose(to_requester, Duty::REQUESTER.0, unpassed);
     Duty(sets::choose(to_home, Duty::HOME.0, unhomed))

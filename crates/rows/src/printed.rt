@@ -118,7 +118,10 @@ const SnpRespData_I_Fwded_SD_PD: u32 = SNP_RESP_DATA + RESP_I + FWDED_SD_PD;
 
 const SnpRespData_I_PD_Fwded_SC: u32 = SNP_RESP_DATA + RESP_I_PD + FWDED_SC;
 
-pub const ROWS: [u32; 73] = [
+// How many rows there are: 66 printed, and NDERR's for each state.
+pub const ROW_COUNT: usize = 73;
+
+pub const ROWS: [u32; ROW_COUNT] = [
     // Table B4.46: SnpClean, SnpShared, SnpNotSharedDirty and SnpPreferUnique
     B46 + I + TO_I + X + SnpResp_I,
     B46 + UC + SC_OR_I + X + SnpResp_SC,
@@ -165,7 +168,7 @@ pub const ROWS: [u32; 73] = [
     B57 + SD + TO_I + RET_0 + SnpResp_I_Fwded_SD_PD,
     B57 + SD + TO_I + RET_1 + SnpRespData_I_Fwded_SD_PD,
     B57 + SD + TO_I + X + SnpRespData_I_PD_Fwded_SC,
-    // Table B4.59: SnpPreferUniqueFwd, in an exclusive sequence
+    // Table B4.59: SnpPreferUniqueFwd, with excl 1, and with excl 0 too
     B59 + I + TO_I + X + SnpResp_I,
     B59 + UC + TO_SC + RET_0 + SnpResp_SC_Fwded_SC,
     B59 + UC + TO_SC + RET_1 + SnpRespData_SC_Fwded_SC,
@@ -179,7 +182,7 @@ pub const ROWS: [u32; 73] = [
     B59 + SD + TO_SD + RET_0 + SnpResp_SD_Fwded_SC + MARK,
     B59 + SD + TO_SD + RET_1 + SnpRespData_SD_Fwded_SC + MARK,
     B59 + SD + TO_SC + X + SnpRespData_SC_PD_Fwded_SC,
-    // Table B4.60: SnpPreferUniqueFwd, not in an exclusive sequence
+    // Table B4.60: SnpPreferUniqueFwd, with excl 0 beside B4.59
     B60 + I + TO_I + X + SnpResp_I,
     B60 + UC + TO_I + X + SnpResp_I_Fwded_UC,
     B60 + UCE + TO_I + X + SnpResp_I,

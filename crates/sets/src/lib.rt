@@ -6,17 +6,14 @@ ghost use Rattle.kinds.specs.Codes.{dirty};
 ghost use Rattle.sets.specs.Sets.{bit, holdsDirty};
 
 // Whether a state is in a set.
-pub fn has(set: u8, state: u8) -> bool
-    ensures { λ r. ⌜ r ≡ bit «set» state ⌝ }
+pub fn has(set: u8, state: LineState) -> bool
+    ensures { λ r. ⌜ r ≡ bit «set» (state .0) ⌝ }
 {
-    if state < 8 {
-        (set >> state) % 2 == 1
-    } else {
-        false
-    }
+    let n = state.0;
+    if n < 8 { (set >> n) % 2 == 1 } else { false }
 }
 
-// The first of two sets where the test holds, else the second.
+// The first of two bytes where the test holds, else the second.
 pub fn choose(test: bool, first: u8, second: u8) -> u8
     ensures { λ r. ⌜ r ≡ cond test first second ⌝ }
 {
@@ -27,7 +24,7 @@ pub fn choose(test: bool, first: u8, second: u8) -> u8
 fn held_dirty(set: u8, state: LineState) -> bool
     ensures { λ r. ⌜ r ≡ dirty (state .0) && bit «set» (state .0) ⌝ }
 {
-    state.dirty() & has(set, state.0)
+    state.dirty() & has(set, state)
 }
 
 // Whether a set holds a Dirty state.

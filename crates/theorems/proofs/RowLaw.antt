@@ -1,6 +1,6 @@
 -- The row law: in every permitted step Dirty before is Dirty after, or a duty that leaves, and never two of them.
 -- Assumes nothing.
-use mathlib.Core.Path.{_≡_, refl, sym, _∙_, ap}
+use mathlib.Core.Path.{_≡_, refl, sym, _∙_, ap, ap₂}
 use mathlib.Core.Bool.{Bool, true, false, cond, not, _&&_, false≢true}
 use mathlib.Core.List.{List, [], _∷_}
 use Prim.Native.Nat.{ℕ, zero, suc, _+_}
@@ -10,12 +10,14 @@ use lib.ListN.{getD}
 use Rattle.kinds.specs.Tests.{all, _∈?_, same}
 use Rattle.kinds.specs.Codes.{dirty, NDERR, OK, DERR, respPD, fwdPD}
 use Rattle.kinds.specs.declared.Answer.{Answer}
+use Rattle.kinds.specs.declared.Answer.the-variants.{SnpResp, SnpRespData, SnpRespDataPtl}
+use Rattle.kinds.specs.declared.Forward.the-variants.{NoForward, CompData}
 use Rattle.kinds.specs.Answers.{wire, hasData}
 use Rattle.kinds.proofs.Lists.{any-found, all-at, and-left, and-right}
 use Rattle.sets.specs.Sets.{one}
 use Rattle.rows.specs.declared.Table.{Table}
 use Rattle.rows.specs.declared.Table.the-variants.{B46, B57, B59, B60, NdErr}
-use Rattle.rows.specs.Event.{answerOf, respOf, fwdStateOf, respErrOf}
+use Rattle.rows.specs.Event.{byte, answerOf, respOf, fwdStateOf, respErrOf}
 use Rattle.rows.specs.Rows.{Row, rows}
 use Rattle.rows.specs.Permitted.{rulesOf, answered, permitted}
 use Rattle.rows.proofs.ByRows.{permitted-row, by-rows}
@@ -85,3 +87,21 @@ row-law e t s s′ h =
     ∙ ap (λ (x : ℕ). one (dirty s′) + (one (respPD (respOf e)) + one (fwdPD x) + one (isNdErr (r .table) && dirty (r .before)))) (sym (same-at (answerOf e) (wire (r .answer)) 3 said))
     ∙ ap (λ (b : Bool). one (dirty s′) + (one (respPD (respOf e)) + one (fwdPD (fwdStateOf e)) + one (b && dirty (r .before)))) (sym (error-row e (r .table) (r .answer) error))
     ∙ ap (λ (x : ℕ). one (dirty s′) + (one (respPD (respOf e)) + one (fwdPD (fwdStateOf e)) + one (eqb (respErrOf e) NDERR && dirty x))) (sym same-state)
+
+-- what FwdState tells Home of the forward is what the forwarded data tells the Requester
+fwd-told : (a : Answer) → fwdPD (getD (wire a) 3 0) ≡ eqb (getD (wire a) 4 0) 1 && fwdPD (getD (wire a) 5 0)
+fwd-told (SnpResp r NoForward) = refl
+fwd-told (SnpResp r (CompData f)) = refl
+fwd-told (SnpRespData r NoForward) = refl
+fwd-told (SnpRespData r (CompData f)) = refl
+fwd-told (SnpRespDataPtl r) = refl
+
+pub requester-told : (e : List ℕ) (t s s′ : ℕ) → permitted e t s s′ ≡ true → fwdPD (fwdStateOf e) ≡ eqb (byte e 11) 1 && fwdPD (byte e 12)
+unfolding answered
+requester-told e t s s′ h =
+    let p = permitted-row e t s s′ h in
+    let a = p .row .answer in
+    let said = and-left (same (answerOf e) (wire a)) (respErrOf e ∈? rulesOf (p .row .table) .errors a) (p .is-answered) in
+    ap fwdPD (same-at (answerOf e) (wire a) 3 said)
+    ∙ fwd-told a
+    ∙ sym (ap₂ (λ (x y : ℕ). eqb x 1 && fwdPD y) (same-at (answerOf e) (wire a) 4 said) (same-at (answerOf e) (wire a) 5 said))

@@ -1,4 +1,5 @@
--- The theorems. Whoever believes the checker reads this file and the definitions that it names.
+-- The theorems. Whoever believes the checker reads this file, the definitions that it names, and the `ensures` of `event::judge_event`,
+-- which says that the judge's answer to any bytes is `judgedAlone issueE` of them.
 -- Assumes nothing.
 use mathlib.Core.Path.{_≡_, refl, sym, _∙_, ap}
 use mathlib.Core.Logic.{_↔_, _⊎_}
@@ -10,26 +11,45 @@ use borrow.Author.Tests.{eq-eqb, ne-eqb}
 use lib.Dec.{eqb}
 use lib.ListN.{getD}
 use Rattle.kinds.specs.Tests.{all}
-use Rattle.kinds.specs.Codes.{I, UC, UD, SC, dirty, NDERR, OK, opInvalid, tagInvalid, SnpClean, SnpShared, SnpCleanFwd, SnpPreferUniqueFwd}
-use Rattle.kinds.specs.Answers.{SnpResp-I, SnpResp-SC, SnpRespData-SC-Fwded-SD-PD, SnpResp-SC-Fwded-SC}
+use Rattle.kinds.specs.Codes.{I, UC, UD, SC, dirty, Resp-SC, Resp-SC-PD, NDERR, OK, opInvalid, tagInvalid, SnpClean, SnpShared, SnpCleanFwd, SnpPreferUniqueFwd}
+use Rattle.kinds.specs.Answers.{SnpResp-I, SnpResp-SC, SnpRespData-SC-PD, SnpRespData-SC-Fwded-SD-PD, SnpResp-SC-Fwded-SC}
 use Rattle.sets.specs.Sets.{setOf, bit}
 use Rattle.rows.specs.Rows.{rows}
 use Rattle.rows.specs.Permitted.{asked, answered, tagged, permitted}
 use Rattle.rows.specs.Steps.{Step, steps, setAfter, setsAfter, duty, noDuty, Home, Requester, lost}
 use Rattle.rows.proofs.Stepping.{permitted-before, permitted-after, in-set-step, step-in-set}
 use Rattle.kinds.proofs.Lists.{at-state}
+use Rattle.kinds.specs.declared.Refusal.{Refusal}
+use Rattle.kinds.specs.declared.Duty.{Duty}
+use Rattle.kinds.specs.declared.Resp.{Resp}
+use Rattle.kinds.specs.declared.FwdState.{FwdState}
 use Rattle.event.specs.declared.Judgment.{Judgment}
 use Rattle.event.specs.Refusals.{issueE, fault, refusalAlone}
 use Rattle.event.specs.Alone.{acceptedAlone, refusedAlone, judgedAlone}
 use Rattle.theorems.specs.Notebook.{event, entries, right}
 use Rattle.theorems.specs.Duties.{nonDataError, HomeHolds, RequesterHolds, NobodyTold, DataIsDuty, SCIsKept, B60Alone, NderrFromUDIllegal}
-use Rattle.theorems.proofs.RowLaw.{row-law}
-use Rattle.theorems.proofs.Told.{exactly-one, nobody, lost-alone}
+use Rattle.theorems.proofs.Told.{law, only, exactly-one, nobody, lost-alone, byte-exactly}
 use Rattle.theorems.proofs.Judged.{duty-of-step, duty-of-none}
 
 -- DEMAND 1, ONE EVENT: any two outcomes that the claim of `event::judge_event` allows are equal.
 pub one-outcome : (bytes : List ℕ) (r r′ : Judgment) → r ≡ judgedAlone issueE bytes → r′ ≡ judgedAlone issueE bytes → r ≡ r′
-one-outcome bytes r r′ p q = p ∙ sym q
+one-outcome bytes = only (judgedAlone issueE bytes)
+
+-- So for every claim that gives the result whole, and for those that give the number of a kind, which is all that the kind holds.
+pub one-result : {A : Type 0} (claimed r r′ : A) → r ≡ claimed → r′ ≡ claimed → r ≡ r′
+one-result = only
+
+pub one-refusal : (claimed : ℕ) (r r′ : Refusal) → r .0 ≡ claimed → r′ .0 ≡ claimed → r ≡ r′
+one-refusal claimed r r′ p q = ap (λ (n : ℕ). record { 0 = n }) (only claimed (r .0) (r′ .0) p q)
+
+pub one-duty : (claimed : ℕ) (r r′ : Duty) → r .0 ≡ claimed → r′ .0 ≡ claimed → r ≡ r′
+one-duty claimed r r′ p q = ap (λ (n : ℕ). record { 0 = n }) (only claimed (r .0) (r′ .0) p q)
+
+pub one-resp : (claimed : ℕ) (r r′ : Resp) → r .0 ≡ claimed → r′ .0 ≡ claimed → r ≡ r′
+one-resp claimed r r′ p q = ap (λ (n : ℕ). record { 0 = n }) (only claimed (r .0) (r′ .0) p q)
+
+pub one-fwd-state : (claimed : ℕ) (r r′ : FwdState) → r .0 ≡ claimed → r′ .0 ≡ claimed → r ≡ r′
+one-fwd-state claimed r r′ p q = ap (λ (n : ℕ). record { 0 = n }) (only claimed (r .0) (r′ .0) p q)
 
 -- What is accepted is answered with place 1, its seven sets and its seven duties.
 pub accepted-answer : (e : List ℕ) → refusalAlone issueE e ≡ 0 → judgedAlone issueE e ≡ acceptedAlone e
@@ -59,15 +79,19 @@ within-states e t s s′ h = (permitted-before e t s s′ h, permitted-after e t
 -- Requester and Home is told that it holds the duty, and the duty byte says which.
 pub duty-clause : (e : List ℕ) (t s s′ : ℕ) → permitted e t s s′ ≡ true → dirty s ≡ true → dirty s′ ≡ false → nonDataError e ≡ false
     → HomeHolds e ⊎ RequesterHolds e
-duty-clause e t s s′ h = exactly-one e (dirty s) (dirty s′) (row-law e t s s′ h)
+duty-clause e t s s′ h = exactly-one e (dirty s) (dirty s′) (law e t s s′ h)
 
 -- The converse: no other permitted step hands over a duty.
 pub duty-converse : (e : List ℕ) (t s s′ : ℕ) → permitted e t s s′ ≡ true → dirty s && not (dirty s′) && not (nonDataError e) ≡ false → NobodyTold e
-duty-converse e t s s′ h = nobody e (dirty s) (dirty s′) (row-law e t s s′ h)
+duty-converse e t s s′ h = nobody e (dirty s) (dirty s′) (law e t s s′ h)
 
 -- A non-data error loses the duty of a Dirty line, and of no other.
 pub duty-lost : (e : List ℕ) (t s s′ : ℕ) → permitted e t s s′ ≡ true → nonDataError e ≡ true → duty e (2 ^ s) ≡ cond (dirty s) lost noDuty
-duty-lost e t s s′ h n = lost-alone e s (dirty s′) (row-law e t s s′ h) (permitted-before e t s s′ h) n
+duty-lost e t s s′ h n = lost-alone e s (dirty s′) (law e t s s′ h) (permitted-before e t s s′ h) n
+
+-- In every permitted step the duty byte, judged from that state alone, is not 0 exactly when the state before is Dirty and the state after isn't.
+pub duty-exactly : (e : List ℕ) (t s s′ : ℕ) → permitted e t s s′ ≡ true → eqb (duty e (2 ^ s)) noDuty ≡ not (dirty s && not (dirty s′))
+duty-exactly e t s s′ h = byte-exactly e s (dirty s′) (law e t s s′ h) (permitted-before e t s s′ h)
 
 -- The duty that the judge answers for a state before is that byte, where a step exists.
 pub duties-exact : (e : List ℕ) → refusalAlone issueE e ≡ 0 → (s s′ : ℕ) → Step e s s′ → getD (judgedAlone issueE e .duties) s 0 ≡ duty e (2 ^ s)
@@ -95,11 +119,18 @@ data-is-not-duty reading =
     let wrong : _≡_ {A = ℕ} Requester Home = reading e tagInvalid UD SC refl refl refl refl in
     omega arith
 
-pub SC-is-not-kept : SCIsKept → ⊥
+pub SC-is-not-kept : SCIsKept Resp-SC → ⊥
 unfolding rows asked answered tagged permitted
 SC-is-not-kept reading =
     let e = event SnpClean 0 0 0 tagInvalid SnpResp-SC opInvalid OK in
     let wrong : _≡_ {A = ℕ} I SC = reading e tagInvalid UC I refl refl in
+    omega arith
+
+pub SC-PD-is-not-kept : SCIsKept Resp-SC-PD → ⊥
+unfolding rows asked answered tagged permitted
+SC-PD-is-not-kept reading =
+    let e = event SnpClean 0 0 0 tagInvalid SnpRespData-SC-PD opInvalid OK in
+    let wrong : _≡_ {A = ℕ} I SC = reading e tagInvalid UD I refl refl in
     omega arith
 
 pub B60-is-not-alone : B60Alone → ⊥

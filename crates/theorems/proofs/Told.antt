@@ -1,20 +1,36 @@
 -- From the row law to who is told: plain reasoning on the tests that it names.
 -- Assumes nothing.
-use mathlib.Core.Path.{_≡_, refl, _∙_, ap}
+use mathlib.Core.Path.{_≡_, refl, sym, _∙_, ap}
 use mathlib.Core.Logic.{_⊎_, inl, inr, ⊎-elim}
 use mathlib.Core.Bool.{Bool, true, false, cond, not, _&&_, false≢true, true≢false}
 use mathlib.Core.List.{List}
 use Prim.Native.Nat.{ℕ, _+_, _^_, _<_}
 use native.Mathlib.Omega.{arith}
-use Rattle.kinds.specs.Codes.{dirty}
+use lib.Dec.{eqb}
+use Rattle.kinds.specs.Codes.{dirty, fwdPD}
 use Rattle.kinds.proofs.Lists.{each-state}
 use Rattle.sets.specs.Sets.{one, bit, holdsDirty}
+use Rattle.rows.specs.Event.{fwdStateOf}
 use Rattle.rows.specs.Steps.{duty, noDuty, Home, Requester, lost}
+use Rattle.rows.specs.Permitted.{permitted}
+use Rattle.theorems.proofs.RowLaw.{row-law, requester-told}
 use Rattle.theorems.specs.Duties.{tellsHome, tellsRequester, nonDataError, HomeHolds, RequesterHolds, NobodyTold}
 
--- what the row law says of an event, with Dirty before and after as tests
-abbrev pub Law : List ℕ → Bool → Bool → Type 0
-Law e a b = one a ≡ one b + (one (tellsHome e) + one (tellsRequester e) + one (nonDataError e && a))
+-- FwdState says that the Requester was told
+abbrev fwdTells : List ℕ → Bool
+fwdTells e = fwdPD (fwdStateOf e)
+
+-- what is known of an event in a permitted step, with Dirty before and after as tests: the row law, and that FwdState tells the truth
+pub record Law (e : List ℕ) (a b : Bool) : Type 0 where
+  pub sum : one a ≡ one b + (one (tellsHome e) + one (fwdTells e) + one (nonDataError e && a))
+  pub told : fwdTells e ≡ tellsRequester e
+
+pub law : (e : List ℕ) (t s s′ : ℕ) → permitted e t s s′ ≡ true → Law e (dirty s) (dirty s′)
+law e t s s′ h = record { sum = row-law e t s s′ h; told = requester-told e t s s′ h }
+
+-- two results that are both the one that is claimed
+pub only : {A : Type 0} (claimed r r′ : A) → r ≡ claimed → r′ ≡ claimed → r ≡ r′
+only claimed r r′ p q = p ∙ sym q
 
 -- of two tests whose ones add up to 1, one holds
 one-of-two : (h r : Bool) → _≡_ {A = ℕ} 1 (one h + one r) → ((h ≡ true) × (r ≡ false)) ⊎ ((h ≡ false) × (r ≡ true))
@@ -48,20 +64,16 @@ leaves-with-error a b h r false law k = absurd (false≢true k)
 -- the duty byte by what the answer tells
 home-byte : (e : List ℕ) (m : ℕ) → tellsHome e ≡ true → duty e m ≡ Home
 unfolding duty
-home-byte e m h = ap (λ (x : Bool). cond x Home (cond (tellsRequester e) Requester (cond (nonDataError e && holdsDirty m) lost noDuty))) h
+home-byte e m h = ap (λ (x : Bool). cond x Home (cond (fwdTells e) Requester (cond (nonDataError e && holdsDirty m) lost noDuty))) h
 
-requester-byte : (e : List ℕ) (m : ℕ) → tellsHome e ≡ false → tellsRequester e ≡ true → duty e m ≡ Requester
+unhomed-byte : (e : List ℕ) (m : ℕ) (r : Bool) → tellsHome e ≡ false → fwdTells e ≡ r → duty e m ≡ cond r Requester (cond (nonDataError e && holdsDirty m) lost noDuty)
 unfolding duty
-requester-byte e m h r =
-    ap (λ (x : Bool). cond x Home (cond (tellsRequester e) Requester (cond (nonDataError e && holdsDirty m) lost noDuty))) h
-    ∙ ap (λ (x : Bool). cond x Requester (cond (nonDataError e && holdsDirty m) lost noDuty)) r
+unhomed-byte e m r h k =
+    ap (λ (x : Bool). cond x Home (cond (fwdTells e) Requester (cond (nonDataError e && holdsDirty m) lost noDuty))) h
+    ∙ ap (λ (x : Bool). cond x Requester (cond (nonDataError e && holdsDirty m) lost noDuty)) k
 
-error-byte : (e : List ℕ) (m : ℕ) → tellsHome e ≡ false → tellsRequester e ≡ false → nonDataError e ≡ true → duty e m ≡ cond (holdsDirty m) lost noDuty
-unfolding duty
-error-byte e m h r n =
-    ap (λ (x : Bool). cond x Home (cond (tellsRequester e) Requester (cond (nonDataError e && holdsDirty m) lost noDuty))) h
-    ∙ ap (λ (x : Bool). cond x Requester (cond (nonDataError e && holdsDirty m) lost noDuty)) r
-    ∙ ap (λ (x : Bool). cond (x && holdsDirty m) lost noDuty) n
+untold-byte : (e : List ℕ) (m : ℕ) (n : Bool) → tellsHome e ≡ false → fwdTells e ≡ false → nonDataError e ≡ n → duty e m ≡ cond (n && holdsDirty m) lost noDuty
+untold-byte e m n h r k = unhomed-byte e m false h r ∙ ap (λ (x : Bool). cond (x && holdsDirty m) lost noDuty) k
 
 -- the set of one state holds a Dirty one when that state is
 only-dirty : (s : ℕ) → s < 7 → holdsDirty (2 ^ s) ≡ dirty s
@@ -71,16 +83,37 @@ only-dirty = each-state (λ s. holdsDirty (2 ^ s) ≡ dirty s) refl refl refl re
 pub exactly-one : (e : List ℕ) (a b : Bool) → Law e a b → a ≡ true → b ≡ false → nonDataError e ≡ false → HomeHolds e ⊎ RequesterHolds e
 exactly-one e a b law p q n =
     ⊎-elim
-    (λ w. inl (record { home = w .0; not-requester = w .1; says = λ m. home-byte e m (w .0) }))
-    (λ w. inr (record { not-home = w .0; requester = w .1; says = λ m. requester-byte e m (w .0) (w .1) }))
-    (one-of-two (tellsHome e) (tellsRequester e) (leaves-one a b (tellsHome e) (tellsRequester e) (nonDataError e) law p q n))
+    (λ w. inl (record { home = w .0; not-requester = sym (law .told) ∙ w .1; says = λ m. home-byte e m (w .0) }))
+    (λ w. inr (record { not-home = w .0; requester = sym (law .told) ∙ w .1; says = λ m. unhomed-byte e m true (w .0) (w .1) }))
+    (one-of-two (tellsHome e) (fwdTells e) (leaves-one a b (tellsHome e) (fwdTells e) (nonDataError e) (law .sum) p q n))
 
 pub nobody : (e : List ℕ) (a b : Bool) → Law e a b → a && not b && not (nonDataError e) ≡ false → NobodyTold e
 nobody e a b law k =
-    let w = zero-of-two (tellsHome e) (tellsRequester e) (leaves-none a b (tellsHome e) (tellsRequester e) (nonDataError e) law k) in
-    record { not-home = w .0; not-requester = w .1 }
+    let w = zero-of-two (tellsHome e) (fwdTells e) (leaves-none a b (tellsHome e) (fwdTells e) (nonDataError e) (law .sum) k) in
+    record { not-home = w .0; not-requester = sym (law .told) ∙ w .1; says = λ n m. untold-byte e m false (w .0) (w .1) n }
 
 pub lost-alone : (e : List ℕ) (s : ℕ) (b : Bool) → Law e (dirty s) b → s < 7 → nonDataError e ≡ true → duty e (2 ^ s) ≡ cond (dirty s) lost noDuty
 lost-alone e s b law h n =
-    let w = zero-of-two (tellsHome e) (tellsRequester e) (leaves-with-error (dirty s) b (tellsHome e) (tellsRequester e) (nonDataError e) law n) in
-    error-byte e (2 ^ s) (w .0) (w .1) n ∙ ap (λ (x : Bool). cond x lost noDuty) (only-dirty s h)
+    let w = zero-of-two (tellsHome e) (fwdTells e) (leaves-with-error (dirty s) b (tellsHome e) (fwdTells e) (nonDataError e) (law .sum) n) in
+    untold-byte e (2 ^ s) true (w .0) (w .1) n ∙ ap (λ (x : Bool). cond x lost noDuty) (only-dirty s h)
+
+-- the duty byte is not 0 exactly where a Dirty line ends not Dirty
+byte-of-law : (a b h r n : Bool) → one a ≡ one b + (one h + one r + one (n && a)) → eqb (cond h Home (cond r Requester (cond (n && a) lost noDuty))) 0 ≡ not (a && not b)
+byte-of-law false b true r n law = absurd (omega arith)
+byte-of-law true true true r n law = absurd (omega arith)
+byte-of-law true false true r n law = refl
+byte-of-law false b false true n law = absurd (omega arith)
+byte-of-law true true false true n law = absurd (omega arith)
+byte-of-law true false false true n law = refl
+byte-of-law false b false false true law = refl
+byte-of-law true true false false true law = absurd (omega arith)
+byte-of-law true false false false true law = refl
+byte-of-law false b false false false law = refl
+byte-of-law true true false false false law = refl
+byte-of-law true false false false false law = absurd (omega arith)
+
+pub byte-exactly : (e : List ℕ) (s : ℕ) (b : Bool) → Law e (dirty s) b → s < 7 → eqb (duty e (2 ^ s)) 0 ≡ not (dirty s && not b)
+unfolding duty
+byte-exactly e s b law h =
+    ap (λ (x : Bool). eqb (cond (tellsHome e) Home (cond (fwdTells e) Requester (cond (nonDataError e && x) lost noDuty))) 0) (only-dirty s h)
+    ∙ byte-of-law (dirty s) b (tellsHome e) (fwdTells e) (nonDataError e) (law .sum)

@@ -1,23 +1,23 @@
 -- Who is told of the duty, and the readings of the notebook that are wrong.
 use Prim.Native.Nat.{ℕ, _^_}
 use mathlib.Core.Path.{_≡_}
-use mathlib.Core.Bool.{Bool, true, false}
+use mathlib.Core.Bool.{Bool, true, false, _&&_}
 use mathlib.Core.List.{List}
 use lib.Dec.{eqb}
 use Rattle.kinds.specs.Tests.{any}
-use Rattle.kinds.specs.Codes.{SC, UD, dirty, NDERR, SnpPreferUniqueFwd, respPD, fwdPD}
-use Rattle.rows.specs.Event.{byte, requestOf, exclOf, respOf, fwdStateOf, respErrOf}
-use Rattle.rows.specs.Rows.{B4·60}
+use Rattle.kinds.specs.Codes.{SC, UD, dirty, NDERR, DAT, SnpPreferUniqueFwd, respPD, fwdPD}
+use Rattle.rows.specs.Event.{byte, requestOf, exclOf, respOf, respErrOf}
+use Rattle.rows.specs.Rows.{rows·B4·60}
 use Rattle.rows.specs.Permitted.{holds, permitted}
-use Rattle.rows.specs.Steps.{duty, Home, Requester}
+use Rattle.rows.specs.Steps.{duty, noDuty, Home, Requester}
 
--- the answer tells Home that it holds the duty
+-- Home is told that it holds the duty: by the answer's Resp
 abbrev pub tellsHome : List ℕ → Bool
 tellsHome e = respPD (respOf e)
 
--- the answer tells the Requester
+-- the Requester is told: by the Resp of the data forwarded to it
 abbrev pub tellsRequester : List ℕ → Bool
-tellsRequester e = fwdPD (fwdStateOf e)
+tellsRequester e = eqb (byte e 11) 1 && fwdPD (byte e 12)
 
 -- the answer is a non-data error
 abbrev pub nonDataError : List ℕ → Bool
@@ -35,23 +35,24 @@ pub record RequesterHolds (e : List ℕ) : Type 0 where
   pub requester : tellsRequester e ≡ true
   pub says : (before : ℕ) → duty e before ≡ Requester
 
--- nobody is told
+-- nobody is told, and unless the answer is a non-data error the duty byte says so
 pub record NobodyTold (e : List ℕ) : Type 0 where
   pub not-home : tellsHome e ≡ false
   pub not-requester : tellsRequester e ≡ false
+  pub says : nonDataError e ≡ false → (before : ℕ) → duty e before ≡ noDuty
 
 -- Wrong: data sent Home is the duty to Home.
 abbrev pub DataIsDuty : Type 0
-DataIsDuty = (e : List ℕ) (t s s′ : ℕ) → permitted e t s s′ ≡ true → dirty s ≡ true → dirty s′ ≡ false → byte e 5 ≡ 1 → duty e (2 ^ s) ≡ Home
+DataIsDuty = (e : List ℕ) (t s s′ : ℕ) → permitted e t s s′ ≡ true → dirty s ≡ true → dirty s′ ≡ false → byte e 5 ≡ DAT → duty e (2 ^ s) ≡ Home
 
--- Wrong: SC in the answer is SC kept.
-abbrev pub SCIsKept : Type 0
-SCIsKept = (e : List ℕ) (t s s′ : ℕ) → permitted e t s s′ ≡ true → respOf e ≡ 1 → s′ ≡ SC
+-- Wrong: SC in the answer, as SC or as SC_PD, is SC kept.
+abbrev pub SCIsKept : ℕ → Type 0
+SCIsKept resp = (e : List ℕ) (t s s′ : ℕ) → permitted e t s s′ ≡ true → respOf e ≡ resp → s′ ≡ SC
 
 -- Wrong: B4.60 alone for excl 0.
 abbrev pub B60Alone : Type 0
 B60Alone =
-    (e : List ℕ) (t s s′ : ℕ) → requestOf e ≡ SnpPreferUniqueFwd → exclOf e ≡ 0 → nonDataError e ≡ false → permitted e t s s′ ≡ true → any (holds e t s s′) B4·60 ≡ true
+    (e : List ℕ) (t s s′ : ℕ) → requestOf e ≡ SnpPreferUniqueFwd → exclOf e ≡ 0 → nonDataError e ≡ false → permitted e t s s′ ≡ true → any (holds e t s s′) rows·B4·60 ≡ true
 
 -- Wrong: NDERR from UD is illegal.
 abbrev pub NderrFromUDIllegal : Type 0

@@ -33,13 +33,13 @@ event request ret noSD excl tag a op err =
 
 -- An entry: the event, the state before, the states after, the duty.
 pub record Entry : Type 0 where
-  pub seen : List ℕ
+  pub bytes : List ℕ
   pub before : ℕ
   pub after : List ℕ
   pub duty : ℕ
 
 abbrev entry : List ℕ → ℕ → List ℕ → ℕ → Entry
-entry e s after d = record { seen = e; before = s; after = after; duty = d }
+entry e s after d = record { bytes = e; before = s; after = after; duty = d }
 
 abbrev pub entries : List Entry
 entries =
@@ -76,6 +76,6 @@ entries =
 -- the event is accepted, its set after is the entry's, and so is its duty
 abbrev pub right : Entry → Bool
 right n =
-    eqb (refusalAlone issueE (n .seen)) 0
-    && eqb (setAfter (n .seen) (n .before)) (setOf (λ s. s ∈? n .after))
-    && eqb (dutyAlone (n .seen) (n .before)) (n .duty)
+    eqb (refusalAlone issueE (n .bytes)) 0
+    && eqb (setAfter (n .bytes) (n .before)) (setOf (λ s. s ∈? n .after))
+    && eqb (dutyAlone (n .bytes) (n .before)) (n .duty)

@@ -1,7 +1,7 @@
 -- `rows::by_tags` meets its contract: the choices of the code are those of `byTags`.
 -- Assumes nothing.
 use Rattle.rows.proofs.Laws.{by-tags}
-use Rattle.kinds.specs.Answers.{respOf}
+use Rattle.kinds.specs.Answers.{answerResp}
 use Rattle.kinds.specs.Codes.{respPD}
 use lib.Dec.{eqb}
 use borrow.Author.Needs.{needs}
@@ -24,7 +24,7 @@ pick-requires-3 : tie.Need-pick-requires-3
 pick-requires-3 c κs = search needs
 
 returns : tie.Need-returns
-returns c = cc (by-tags (c .before .before .before .before .before .before .before .before .before .before .before .before .args .op .0) (eqb (c .before .before .before .before .before .before .before .before .before .before .before .before .args .tag .0) 2) (respPD (respOf (c .before .before .before .before .before .before .before .before .before .before .before .before .args .answer))) (eqb (c .before .before .before .before .before .before .before .before .before .before .before .before .args .before .0) 4))
+returns c = cc (by-tags (c .before .before .before .before .before .before .before .before .before .before .before .before .args .op .0) (eqb (c .before .before .before .before .before .before .before .before .before .before .before .before .args .tag .0) 2) (respPD (answerResp (c .before .before .before .before .before .before .before .before .before .before .before .before .args .answer))) (eqb (c .before .before .before .before .before .before .before .before .before .before .before .before .args .before .0) 4))
 
 pub by-tags-spec : {M : Type 1} → statement M
 by-tags-spec =

@@ -24,8 +24,8 @@ abbrev μ-loop : tie.MeasureT-loop
 event-bytes-requires : tie.Need-event-bytes-requires Inv-loop μ-loop
 event-bytes-requires c κs = search needs
 
-array-read-seen-states : tie.Need-array-read-seen-states Inv-loop μ-loop
-array-read-seen-states c = search needs
+array-read-t12 : tie.Need-array-read-t12 Inv-loop μ-loop
+array-read-t12 c = search needs
 
 seen-states-requires : tie.Need-seen-states-requires Inv-loop μ-loop
 seen-states-requires c κs = search needs
@@ -65,7 +65,7 @@ sets-after-spec =
     Inv-loop
     μ-loop
     event-bytes-requires
-    array-read-seen-states
+    array-read-t12
     seen-states-requires
     loop-holds
     mul-row-of

@@ -1,7 +1,7 @@
 -- `rows::tags_allow` meets its contract.
 -- Assumes nothing.
 use Rattle.rows.proofs.Laws.{tags-allow}
-use Rattle.kinds.specs.Answers.{fwdOf}
+use Rattle.kinds.specs.Answers.{answerFwd}
 use Rattle.kinds.specs.Codes.{fwdPD}
 use lib.Dec.{eqb}
 use borrow.Author.Needs.{needs}
@@ -15,7 +15,7 @@ passes-dirty-requires : tie.Need-passes-dirty-requires
 passes-dirty-requires c κs = search needs
 
 returns : tie.Need-returns
-returns c = cc (tags-allow (eqb (c .before .before .before .before .before .before .args .tag .0) 2) (c .before .before .before .before .before .before .args .before .0) (fwdPD (fwdOf (c .before .before .before .before .before .before .args .answer))))
+returns c = cc (tags-allow (eqb (c .before .before .before .before .before .before .args .tag .0) 2) (c .before .before .before .before .before .before .args .before .0) (fwdPD (answerFwd (c .before .before .before .before .before .before .args .answer))))
 
 pub tags-allow-spec : {M : Type 1} → statement M
 tags-allow-spec = tie.close (tie.spec fwd-state-requires passes-dirty-requires returns)

@@ -16,7 +16,7 @@ unfolding bit
 returns c = refl
 
 returns-2 : tie.Need-returns-2
-returns-2 c = sym (bit-past (c .before .args .set) (c .before .args .state) (omega arith) (c .if1 .left))
+returns-2 c = sym (bit-past (c .before .args .set) (c .before .args .state .0) (omega arith) (c .if1 .left))
 
 pub has-spec : {M : Type 1} → statement M
 has-spec = tie.close (tie.spec shr-result returns returns-2)

@@ -1,7 +1,7 @@
 -- `rows::Table::on_data` meets its contract: each arm is the rule of its table.
 -- Assumes nothing.
-use Rattle.rows.specs.declared.Table.the-variants.{B57, B59, B60}
 use Rattle.rows.proofs.Laws.{of-table}
+use Rattle.rows.specs.declared.Table.the-variants.{B57, B59, B60}
 use borrow.Author.Needs.{needs}
 use Rattle.rows.proofs.Table.on_data.Statement.{statement}
 use Rattle.rows.proofs.Table.on_data.Tie as tie
@@ -33,9 +33,6 @@ by-tags-requires-3 c κs = search needs
 enum-told-5 : tie.Need-enum-told-5
 enum-told-5 c = search needs
 
-up-to-update-requires-2 : tie.Need-up-to-update-requires-2
-up-to-update-requires-2 c κs = search needs
-
 returns : tie.Need-returns
 returns c = cc
 
@@ -49,7 +46,7 @@ returns-4 : tie.Need-returns-4
 returns-4 c = of-table (c .before .before .before .args .self) B60 (c .before .before .before .args .op .0) (c .before .before .before .args .tag .0) (c .before .before .before .args .before .0) (c .before .before .before .args .answer) (c .by-tags3 .result) (c .before .enum-told4 .given .1) (c .by-tags3 .ensures)
 
 returns-5 : tie.Need-returns-5
-returns-5 c = cc
+returns-5 c = search needs
 
 pub on-data-spec : {M : Type 1} → statement M
 on-data-spec =
@@ -64,7 +61,6 @@ on-data-spec =
     enum-told-4
     by-tags-requires-3
     enum-told-5
-    up-to-update-requires-2
     returns
     returns-2
     returns-3
