@@ -28,7 +28,7 @@ use Rattle.event.specs.Refusals.{issueE, fault, refusalAlone}
 use Rattle.event.specs.Alone.{acceptedAlone, refusedAlone, judgedAlone}
 use Rattle.theorems.specs.Notebook.{event, entries, right}
 use Rattle.theorems.specs.Duties.{nonDataError, HomeHolds, RequesterHolds, NobodyTold, DataIsDuty, SCIsKept, B60Alone, NderrFromUDIllegal}
-use Rattle.theorems.proofs.Told.{law, only, exactly-one, nobody, lost-alone, byte-exactly}
+use Rattle.theorems.proofs.Told.{law, only, only-number, exactly-one, nobody, lost-alone, byte-exactly}
 use Rattle.theorems.proofs.Judged.{duty-of-step, duty-of-none}
 
 -- DEMAND 1, ONE EVENT: any two outcomes that the claim of `event::judge_event` allows are equal.
@@ -40,16 +40,16 @@ pub one-result : {A : Type 0} (claimed r r′ : A) → r ≡ claimed → r′ �
 one-result = only
 
 pub one-refusal : (claimed : ℕ) (r r′ : Refusal) → r .0 ≡ claimed → r′ .0 ≡ claimed → r ≡ r′
-one-refusal claimed r r′ p q = ap (λ (n : ℕ). record { 0 = n }) (only claimed (r .0) (r′ .0) p q)
+one-refusal = only-number (λ k. k .0) (λ n. record { 0 = n }) (λ k. refl)
 
 pub one-duty : (claimed : ℕ) (r r′ : Duty) → r .0 ≡ claimed → r′ .0 ≡ claimed → r ≡ r′
-one-duty claimed r r′ p q = ap (λ (n : ℕ). record { 0 = n }) (only claimed (r .0) (r′ .0) p q)
+one-duty = only-number (λ k. k .0) (λ n. record { 0 = n }) (λ k. refl)
 
 pub one-resp : (claimed : ℕ) (r r′ : Resp) → r .0 ≡ claimed → r′ .0 ≡ claimed → r ≡ r′
-one-resp claimed r r′ p q = ap (λ (n : ℕ). record { 0 = n }) (only claimed (r .0) (r′ .0) p q)
+one-resp = only-number (λ k. k .0) (λ n. record { 0 = n }) (λ k. refl)
 
 pub one-fwd-state : (claimed : ℕ) (r r′ : FwdState) → r .0 ≡ claimed → r′ .0 ≡ claimed → r ≡ r′
-one-fwd-state claimed r r′ p q = ap (λ (n : ℕ). record { 0 = n }) (only claimed (r .0) (r′ .0) p q)
+one-fwd-state = only-number (λ k. k .0) (λ n. record { 0 = n }) (λ k. refl)
 
 -- What is accepted is answered with place 1, its seven sets and its seven duties.
 pub accepted-answer : (e : List ℕ) → refusalAlone issueE e ≡ 0 → judgedAlone issueE e ≡ acceptedAlone e

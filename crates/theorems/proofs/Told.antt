@@ -32,6 +32,11 @@ law e t s s′ h = record { sum = row-law e t s s′ h; told = requester-told e 
 pub only : {A : Type 0} (claimed r r′ : A) → r ≡ claimed → r′ ≡ claimed → r ≡ r′
 only claimed r r′ p q = p ∙ sym q
 
+-- so for a kind, which is its number
+pub only-number : {K : Type 0} (number : K → ℕ) (make : ℕ → K) → ((k : K) → make (number k) ≡ k) → (claimed : ℕ) (r r′ : K)
+    → number r ≡ claimed → number r′ ≡ claimed → r ≡ r′
+only-number number make whole claimed r r′ p q = sym (whole r) ∙ ap make (only claimed (number r) (number r′) p q) ∙ whole r′
+
 -- of two tests whose ones add up to 1, one holds
 one-of-two : (h r : Bool) → _≡_ {A = ℕ} 1 (one h + one r) → ((h ≡ true) × (r ≡ false)) ⊎ ((h ≡ false) × (r ≡ true))
 one-of-two true true k = absurd (omega arith)
