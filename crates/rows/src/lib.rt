@@ -303,17 +303,19 @@ fn answer_of(message: u8, resp: u8, state: u8) -> Answer
 fn row_of(word: u32) -> Row
     ensures { λ r. ⌜ r ≡ rowAt word ⌝ }
 {
-    let table = table_of(column(word, 16));
-    let before = LineState(column(word, 8));
-    let answer = answer_of(column(word, 28), column(word, 20), column(word, 24));
-    let after = (word % 128) as u8;
+    let table = table_of(column(word, printed::TABLE_AT));
+    let before = LineState(column(word, printed::BEFORE_AT));
+    let message = column(word, printed::MESSAGE_AT);
+    let resp = column(word, printed::RESP_AT);
+    let answer = answer_of(message, resp, column(word, printed::FWD_AT));
+    let after = (word % printed::MARK) as u8;
     Row {
         table,
         before,
-        ret: column(word, 12),
+        ret: column(word, printed::RET_AT),
         answer,
         after,
-        marked: word / 128 % 2 == 1,
+        marked: word / printed::MARK % 2 == 1,
     }
 }
 
@@ -399,7 +401,7 @@ pub fn duty(event: &[u8], before: u8) -> Duty
     let to_home = Resp(byte_at(event, place::RESP)).passes_dirty();
     let to_requester = FwdState(byte_at(event, place::FWD_STATE)).passes_dirty();
     let lost = (byte_at(event, place::RESP_ERR) == RespErr::NDERR.0) & sets::holds_dirty(before);
-    let unpassed = sets::choose(lost, Duty::LOST.0, Duty::NONE.0);
-    let unhomed = sets::choose(to_requester, Duty::REQUESTER.0, unpassed);
-    Duty(sets::choose(to_home, Duty::HOME.0, unhomed))
+    let else_lost = sets::choose(lost, Duty::LOST.0, Duty::NONE.0);
+    let else_requester = sets::choose(to_requester, Duty::REQUESTER.0, else_lost);
+    Duty(sets::choose(to_home, Duty::HOME.0, else_requester))
 }

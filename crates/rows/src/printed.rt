@@ -3,33 +3,46 @@ use kinds::FwdState;
 use kinds::LineState;
 use kinds::Resp;
 
-// The columns. The table is three bits from place 16.
-const B46: u32 = 0 << 16;
+// Where the columns stand in a word, three bits each; the set of states after lies below them all.
+pub const BEFORE_AT: u32 = 8;
 
-const B57: u32 = 1 << 16;
+pub const RET_AT: u32 = 12;
 
-const B59: u32 = 2 << 16;
+pub const TABLE_AT: u32 = 16;
 
-const B60: u32 = 3 << 16;
+pub const RESP_AT: u32 = 20;
 
-const ND_ERR: u32 = 4 << 16;
+pub const FWD_AT: u32 = 24;
 
-// The state before, from place 8.
-const I: u32 = (LineState::I.0 as u32) << 8;
+pub const MESSAGE_AT: u32 = 28;
 
-const UC: u32 = (LineState::UC.0 as u32) << 8;
+// The table.
+const B46: u32 = 0 << TABLE_AT;
 
-const UCE: u32 = (LineState::UCE.0 as u32) << 8;
+const B57: u32 = 1 << TABLE_AT;
 
-const UD: u32 = (LineState::UD.0 as u32) << 8;
+const B59: u32 = 2 << TABLE_AT;
 
-const UDP: u32 = (LineState::UDP.0 as u32) << 8;
+const B60: u32 = 3 << TABLE_AT;
 
-const SC: u32 = (LineState::SC.0 as u32) << 8;
+const ND_ERR: u32 = 4 << TABLE_AT;
 
-const SD: u32 = (LineState::SD.0 as u32) << 8;
+// The state before.
+const I: u32 = (LineState::I.0 as u32) << BEFORE_AT;
 
-// The set of states after, by weight, from place 0.
+const UC: u32 = (LineState::UC.0 as u32) << BEFORE_AT;
+
+const UCE: u32 = (LineState::UCE.0 as u32) << BEFORE_AT;
+
+const UD: u32 = (LineState::UD.0 as u32) << BEFORE_AT;
+
+const UDP: u32 = (LineState::UDP.0 as u32) << BEFORE_AT;
+
+const SC: u32 = (LineState::SC.0 as u32) << BEFORE_AT;
+
+const SD: u32 = (LineState::SD.0 as u32) << BEFORE_AT;
+
+// The set of states after, by weight.
 const TO_I: u32 = 1;
 
 const TO_SC: u32 = 32;
@@ -38,40 +51,40 @@ const SC_OR_I: u32 = 33;
 
 const TO_SD: u32 = 64;
 
-// DoNotGoToSD forbids the row.
-const MARK: u32 = 128;
+// DoNotGoToSD forbids the row. Below it lies the set of states after.
+pub const MARK: u32 = 128;
 
-// RetToSrc, from place 12: 0, 1, or it doesn't matter.
+// RetToSrc: 0, 1, or it doesn't matter.
 const RET_0: u32 = 0;
 
-const RET_1: u32 = 1 << 12;
+const RET_1: u32 = 1 << RET_AT;
 
-const X: u32 = 2 << 12;
+const X: u32 = 2 << RET_AT;
 
-// The answer: its message from place 28, its Resp from 20, and the state of what it forwards from 24.
+// The answer: its message, its Resp, and the state of what it forwards.
 const SNP_RESP: u32 = 0;
 
-const SNP_RESP_DATA: u32 = 1 << 28;
+const SNP_RESP_DATA: u32 = 1 << MESSAGE_AT;
 
-const SNP_RESP_DATA_PTL: u32 = 2 << 28;
+const SNP_RESP_DATA_PTL: u32 = 2 << MESSAGE_AT;
 
-const RESP_I: u32 = (Resp::I.0 as u32) << 20;
+const RESP_I: u32 = (Resp::I.0 as u32) << RESP_AT;
 
-const RESP_SC: u32 = (Resp::SC.0 as u32) << 20;
+const RESP_SC: u32 = (Resp::SC.0 as u32) << RESP_AT;
 
-const RESP_SD: u32 = (Resp::SD.0 as u32) << 20;
+const RESP_SD: u32 = (Resp::SD.0 as u32) << RESP_AT;
 
-const RESP_I_PD: u32 = (Resp::I_PD.0 as u32) << 20;
+const RESP_I_PD: u32 = (Resp::I_PD.0 as u32) << RESP_AT;
 
-const RESP_SC_PD: u32 = (Resp::SC_PD.0 as u32) << 20;
+const RESP_SC_PD: u32 = (Resp::SC_PD.0 as u32) << RESP_AT;
 
-const FWDED_SC: u32 = (FwdState::SC.0 as u32) << 24;
+const FWDED_SC: u32 = (FwdState::SC.0 as u32) << FWD_AT;
 
-const FWDED_UC: u32 = (FwdState::UC.0 as u32) << 24;
+const FWDED_UC: u32 = (FwdState::UC.0 as u32) << FWD_AT;
 
-const FWDED_UD_PD: u32 = (FwdState::UD_PD.0 as u32) << 24;
+const FWDED_UD_PD: u32 = (FwdState::UD_PD.0 as u32) << FWD_AT;
 
-const FWDED_SD_PD: u32 = (FwdState::SD_PD.0 as u32) << 24;
+const FWDED_SD_PD: u32 = (FwdState::SD_PD.0 as u32) << FWD_AT;
 
 // The answers by their names in the tables.
 const SnpResp_I: u32 = SNP_RESP + RESP_I;
