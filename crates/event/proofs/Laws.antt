@@ -12,7 +12,7 @@ use lib.Seq.{drop-cons}
 use Rattle.kinds.specs.Codes.{states}
 use Rattle.kinds.specs.declared.Refusal.{Refusal}
 use Rattle.rows.specs.Event.{byte}
-use Rattle.rows.specs.Steps.{duty, noDuty, setAfter, setsAfter, dutyAlone}
+use Rattle.steps.specs.Steps.{duty, noDuty, setAfter, setsAfter, dutyAlone}
 use Rattle.event.specs.declared.Judgment.{Judgment}
 use Rattle.event.specs.Refusals.{Issue, below, refusalAlone}
 use Rattle.event.specs.Alone.{sevenZeros, acceptedAlone, refusedAlone, judgedAlone}

@@ -4,7 +4,7 @@ use mathlib.Core.Bool.{cond}
 use mathlib.Core.List.{List, map}
 use lib.Dec.{eqb}
 use Rattle.kinds.specs.Codes.{states}
-use Rattle.rows.specs.Steps.{setsAfter, dutyAlone}
+use Rattle.steps.specs.Steps.{setsAfter, dutyAlone}
 use Rattle.event.specs.Refusals.{Issue, refusalAlone}
 use Rattle.event.specs.declared.Judgment.{Judgment}
 

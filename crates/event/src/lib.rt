@@ -8,7 +8,7 @@ ghost use mathlib.Core.Path.{_≡_};
 ghost use mathlib.Core.Bool.{cond};
 ghost use mathlib.Core.List.{map};
 ghost use lib.Dec.{eqb};
-ghost use Rattle.rows.specs.Steps.{duty, noDuty, setsAfter, dutyAlone};
+ghost use Rattle.steps.specs.Steps.{duty, noDuty, setsAfter, dutyAlone};
 ghost use Rattle.kinds.specs.Codes.{states};
 ghost use Rattle.event.specs.Refusals.{issueE, below, fault, refusalAlone};
 ghost use Rattle.event.specs.Alone.{judgedAlone};
@@ -82,7 +82,7 @@ fn refusal_alone(event: &[u8]) -> Refusal
 fn duty_from(event: &[u8], before: u8, after: u8) -> u8
     ensures { λ r. ⌜ r ≡ cond (eqb after 0) noDuty (duty (now (event .entry)) before) ⌝ }
 {
-    let duty = rows::duty(event, before);
+    let duty = steps::duty(event, before);
     sets::choose(after == 0, Duty::NONE.0, duty.0)
 }
 
@@ -116,7 +116,7 @@ pub fn judge_event(event: &[u8]) -> Judgment
             duties: [0; 7],
         };
     }
-    let sets = rows::sets_after(event);
+    let sets = steps::sets_after(event);
     let duties = duties_alone(event, sets);
     Judgment {
         refusal,

@@ -1,4 +1,2 @@
 pub mod Laws
 pub mod ByRows
-pub mod Walk
-pub mod Stepping

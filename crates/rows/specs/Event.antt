@@ -1,7 +1,9 @@
 -- An event's bytes, by what they are.
 use Prim.Native.Nat.{ℕ}
+use mathlib.Core.Bool.{Bool, _||_}
 use mathlib.Core.List.{List, [], _∷_}
 use lib.ListN.{getD}
+use lib.Dec.{eqb}
 
 -- the byte at a place, 0 past the end
 abbrev pub byte : List ℕ → ℕ → ℕ
@@ -40,3 +42,7 @@ respErrOf e = byte e 10
 
 abbrev pub afterOf : List ℕ → ℕ
 afterOf e = byte e 13
+
+-- x is what was seen, or nothing was seen
+abbrev pub seen : ℕ → ℕ → ℕ → Bool
+seen notSeen what x = eqb what notSeen || eqb what x

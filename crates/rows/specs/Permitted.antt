@@ -4,12 +4,12 @@ use mathlib.Core.Bool.{Bool, cond, not, _&&_, _||_}
 use mathlib.Core.List.{List, [], _∷_}
 use lib.Dec.{eqb}
 use Rattle.kinds.specs.Tests.{any, _∈?_, same}
-use Rattle.kinds.specs.Codes.{UD, UDP, SD, tagDirty, opInvalid, opTransfer, opUpdate, OK, DERR, NDERR, SnpShared, SnpClean, SnpNotSharedDirty, SnpCleanFwd, SnpNotSharedDirtyFwd, SnpPreferUnique, SnpPreferUniqueFwd, requests, respPD, fwdPD}
+use Rattle.kinds.specs.Codes.{UD, UDP, SD, tagDirty, tags, tagNotSeen, opInvalid, opTransfer, opUpdate, OK, DERR, NDERR, SnpShared, SnpClean, SnpNotSharedDirty, SnpCleanFwd, SnpNotSharedDirtyFwd, SnpPreferUnique, SnpPreferUniqueFwd, requests, respPD, fwdPD}
 use Rattle.kinds.specs.declared.Answer.{Answer}
 use Rattle.kinds.specs.Answers.{wire, hasData, answerResp, answerFwd}
 use Rattle.rows.specs.declared.Table.{Table}
 use Rattle.rows.specs.declared.Table.the-variants.{B46, B57, B59, B60, NdErr}
-use Rattle.rows.specs.Event.{requestOf, retToSrcOf, doNotGoToSDOf, exclOf, answerOf, tagOpOf, respErrOf}
+use Rattle.rows.specs.Event.{seen, requestOf, retToSrcOf, doNotGoToSDOf, exclOf, tagOf, answerOf, tagOpOf, respErrOf}
 use Rattle.rows.specs.Rows.{Row, X, rows}
 
 -- What holds for a table as a whole.
@@ -74,6 +74,10 @@ tagsAllow t s a = not (eqb t tagDirty) || ((s ∈? (UD ∷ SD ∷ [])) && not (f
 -- the tag state and the TagOp fit the row
 unfoldable pub tagged : List ℕ → ℕ → Table → ℕ → Answer → Bool
 tagged e t T s a = tagsAllow t s a && (tagOpOf e ∈? tagOps t T s a)
+
+-- some tag state, as seen or any of the three, fits the row
+unfoldable pub someTag : List ℕ → Table → ℕ → Answer → Bool
+someTag e T s a = any (λ t. seen tagNotSeen (tagOf e) t && tagged e t T s a) tags
 
 -- the row permits the event as a step from s, with tag state t, to s′
 abbrev pub holds : List ℕ → ℕ → ℕ → ℕ → Row → Bool

@@ -9,8 +9,8 @@ use lib.Dec.{eqb}
 use lib.ListN.{getD}
 use Rattle.kinds.specs.Codes.{states}
 use Rattle.sets.proofs.Laws.{setOf-holds, setOf-empty}
-use Rattle.rows.specs.Steps.{Step, steps, setAfter, duty, noDuty, dutyAlone}
-use Rattle.rows.proofs.Stepping.{permitted-before, permitted-after, steps-step, step-steps}
+use Rattle.steps.specs.Steps.{Step, steps, setAfter, duty, noDuty, dutyAlone}
+use Rattle.steps.proofs.Stepping.{permitted-before, permitted-after, steps-step, step-steps}
 use Rattle.kinds.proofs.Lists.{at-state}
 
 -- a step makes the set after not empty

@@ -16,8 +16,8 @@ use Rattle.kinds.specs.Answers.{SnpResp-I, SnpResp-SC, SnpRespData-SC-PD, SnpRe
 use Rattle.sets.specs.Sets.{setOf, bit}
 use Rattle.rows.specs.Rows.{rows}
 use Rattle.rows.specs.Permitted.{asked, answered, tagged, permitted}
-use Rattle.rows.specs.Steps.{Step, steps, setAfter, setsAfter, duty, noDuty, Home, Requester, lost}
-use Rattle.rows.proofs.Stepping.{permitted-before, permitted-after, in-set-step, step-in-set}
+use Rattle.steps.specs.Steps.{Step, steps, setAfter, setsAfter, duty, noDuty, Home, Requester, lost}
+use Rattle.steps.proofs.Stepping.{permitted-before, permitted-after, in-set-step, step-in-set}
 use Rattle.kinds.proofs.Lists.{at-state}
 use Rattle.kinds.specs.declared.Refusal.{Refusal}
 use Rattle.kinds.specs.declared.Duty.{Duty}

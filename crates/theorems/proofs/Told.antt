@@ -11,7 +11,7 @@ use Rattle.kinds.specs.Codes.{dirty, fwdPD}
 use Rattle.kinds.proofs.Lists.{each-state}
 use Rattle.sets.specs.Sets.{one, bit, holdsDirty}
 use Rattle.rows.specs.Event.{fwdStateOf}
-use Rattle.rows.specs.Steps.{duty, noDuty, Home, Requester, lost}
+use Rattle.steps.specs.Steps.{duty, noDuty, Home, Requester, lost}
 use Rattle.rows.specs.Permitted.{permitted}
 use Rattle.theorems.proofs.RowLaw.{row-law, requester-told}
 use Rattle.theorems.specs.Duties.{tellsHome, tellsRequester, nonDataError, HomeHolds, RequesterHolds, NobodyTold}

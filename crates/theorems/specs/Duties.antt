@@ -9,7 +9,7 @@ use Rattle.kinds.specs.Codes.{SC, UD, dirty, NDERR, DAT, SnpPreferUniqueFwd, re
 use Rattle.rows.specs.Event.{byte, requestOf, exclOf, respOf, respErrOf}
 use Rattle.rows.specs.Rows.{rows·B4·60}
 use Rattle.rows.specs.Permitted.{holds, permitted}
-use Rattle.rows.specs.Steps.{duty, noDuty, Home, Requester}
+use Rattle.steps.specs.Steps.{duty, noDuty, Home, Requester}
 
 -- Home is told that it holds the duty: by the answer's Resp
 abbrev pub tellsHome : List ℕ → Bool

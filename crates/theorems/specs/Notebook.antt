@@ -9,7 +9,7 @@ use Rattle.kinds.specs.Codes.{I, UC, UD, SC, SD, stateNotSeen, tagInvalid, tagD
 use Rattle.kinds.specs.declared.Answer.{Answer}
 use Rattle.kinds.specs.Answers.{wire, SnpResp-I, SnpResp-SC, SnpRespData-SD, SnpResp-SC-Fwded-SD-PD, SnpRespData-SC-PD-Fwded-SC, SnpResp-I-Fwded-UC, SnpResp-SC-Fwded-SC}
 use Rattle.sets.specs.Sets.{setOf}
-use Rattle.rows.specs.Steps.{setAfter, dutyAlone, noDuty, Home, Requester, lost}
+use Rattle.steps.specs.Steps.{setAfter, dutyAlone, noDuty, Home, Requester, lost}
 use Rattle.event.specs.Refusals.{issueE, refusalAlone}
 
 -- An event by its fields: request, RetToSrc, DoNotGoToSD, excl, tag state, answer with what it forwards, TagOp, RespErr; the state after isn't seen.

@@ -3,7 +3,7 @@
 use Rattle.event.proofs.Laws.{seven, duty-at}
 use denote.Ref.{now}
 use mathlib.Core.Path.{refl}
-use Rattle.rows.specs.Steps.{dutyAlone}
+use Rattle.steps.specs.Steps.{dutyAlone}
 use borrow.Author.Needs.{needs}
 use Rattle.event.proofs.duties_alone.Statement.{statement}
 use Rattle.event.proofs.duties_alone.Tie as tie

@@ -1,9 +1,9 @@
--- `rows::row_of` meets its contract: each column is read off the word.
+-- `steps::row_of` meets its contract: each column is read off the word.
 -- Assumes nothing.
-use Rattle.rows.specs.Code.{rowAt}
+use Rattle.steps.specs.Code.{rowAt}
 use borrow.Author.Needs.{needs}
-use Rattle.rows.proofs.row_of.Statement.{statement}
-use Rattle.rows.proofs.row_of.Tie as tie
+use Rattle.steps.proofs.row_of.Statement.{statement}
+use Rattle.steps.proofs.row_of.Tie as tie
 
 column-requires : tie.Need-column-requires
 column-requires c κs = search needs

@@ -1,9 +1,9 @@
--- `rows::with_row` meets its contract: one of the seven sets is changed.
+-- `steps::with_row` meets its contract: one of the seven sets is changed.
 -- Assumes nothing.
-use Rattle.rows.specs.Code.{withRow}
+use Rattle.steps.specs.Code.{withRow}
 use borrow.Author.Needs.{needs}
-use Rattle.rows.proofs.with_row.Statement.{statement}
-use Rattle.rows.proofs.with_row.Tie as tie
+use Rattle.steps.proofs.with_row.Statement.{statement}
+use Rattle.steps.proofs.with_row.Tie as tie
 
 cast-at : tie.Need-cast-at
 cast-at c = search needs

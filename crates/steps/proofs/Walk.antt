@@ -17,15 +17,15 @@ use Rattle.kinds.specs.Codes.{I, states, stateNotSeen, tags, tagNotSeen}
 use Rattle.kinds.proofs.Lists.{In, here, there, any-found, found-any, all-at, any-snoc, same-truth, at-state, and-left, and-right, and-both}
 use Rattle.sets.specs.Sets.{setOf}
 use Rattle.sets.proofs.Laws.{or-setOf, and-setOf, cond-setOf, setOf-ext}
-use Rattle.rows.specs.declared.Row as code
-use Rattle.rows.specs.Event.{tagOf, afterOf}
+use Rattle.steps.specs.declared.Row as code
+use Rattle.rows.specs.Event.{tagOf, afterOf, seen}
 use Rattle.rows.specs.Rows.{Row, row, rows}
 use Rattle.rows.specs.declared.Table.the-variants.{B46}
 use Rattle.kinds.specs.Answers.{SnpResp-I}
-use Rattle.rows.specs.Permitted.{asked, answered, tagged, permitted}
-use Rattle.rows.specs.Steps.{seen, steps, setAfter, setsAfter}
+use Rattle.rows.specs.Permitted.{asked, answered, tagged, permitted, someTag}
+use Rattle.steps.specs.Steps.{steps, setAfter, setsAfter}
 use Rattle.rows.proofs.ByRows.{Permits, permitted-row, row-permitted}
-use Rattle.rows.specs.Code.{codeOf, rowAt, eventBytes, someTag, rowFits, withRow}
+use Rattle.steps.specs.Code.{codeOf, rowAt, eventBytes, rowFits, withRow}
 
 -- the row leads from s to s′, under some tag state and with a state after that was seen
 by : List ℕ → ℕ → ℕ → Row → Bool

@@ -1,9 +1,9 @@
--- `rows::duty` meets its contract: the choices of the code are those of `duty`.
+-- `steps::duty` meets its contract: the choices of the code are those of `duty`.
 -- Assumes nothing.
-use Rattle.rows.specs.Steps.{duty}
+use Rattle.steps.specs.Steps.{duty}
 use borrow.Author.Needs.{needs}
-use Rattle.rows.proofs.duty.Statement.{statement}
-use Rattle.rows.proofs.duty.Tie as tie
+use Rattle.steps.proofs.duty.Statement.{statement}
+use Rattle.steps.proofs.duty.Tie as tie
 
 byte-at-requires : tie.Need-byte-at-requires
 byte-at-requires c κs = search needs

@@ -1,10 +1,9 @@
--- `rows::answer_of` meets its contract: each arm is a case of `answerAt`.
+-- `steps::answer_of` meets its contract: each arm is a case of `answerAt`.
 -- Assumes nothing.
-use Rattle.rows.proofs.Laws.{answer-rsp, answer-dat}
-use Rattle.rows.proofs.Laws.{answer-else}
+use Rattle.steps.proofs.Laws.{answer-rsp, answer-dat, answer-else}
 use borrow.Author.Needs.{needs}
-use Rattle.rows.proofs.answer_of.Statement.{statement}
-use Rattle.rows.proofs.answer_of.Tie as tie
+use Rattle.steps.proofs.answer_of.Statement.{statement}
+use Rattle.steps.proofs.answer_of.Tie as tie
 
 forward-of-requires : tie.Need-forward-of-requires
 forward-of-requires c κs = search needs

@@ -12,11 +12,11 @@ use Rattle.kinds.specs.Codes.{stateNotSeen, tags, tagNotSeen}
 use Rattle.kinds.proofs.Lists.{any-found, found-any, all-at, at-state, and-left, and-right, and-both}
 use Rattle.sets.specs.Sets.{bit}
 use Rattle.sets.proofs.Laws.{bit-setOf}
-use Rattle.rows.specs.Event.{tagOf, afterOf}
+use Rattle.rows.specs.Event.{tagOf, afterOf, seen}
 use Rattle.rows.specs.Rows.{Row, rows}
 use Rattle.rows.specs.Permitted.{permitted}
-use Rattle.rows.specs.Steps.{seen, Step, steps, setAfter, setsAfter}
+use Rattle.steps.specs.Steps.{Step, steps, setAfter, setsAfter}
 use Rattle.rows.proofs.ByRows.{permitted-row, by-rows}
 
 pub steps-step : (e : List ℕ) (s s′ : ℕ) → steps e s s′ ≡ true → Step e s s′
 unfolding steps

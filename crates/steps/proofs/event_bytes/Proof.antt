@@ -1,10 +1,10 @@
--- `rows::event_bytes` meets its contract: fourteen bytes, each as `byte` has it.
+-- `steps::event_bytes` meets its contract: fourteen bytes, each as `byte` has it.
 -- Assumes nothing.
-use Rattle.rows.proofs.Laws.{fourteen}
+use Rattle.steps.proofs.Laws.{fourteen}
 use denote.Ref.{now}
 use borrow.Author.Needs.{needs}
-use Rattle.rows.proofs.event_bytes.Statement.{statement}
-use Rattle.rows.proofs.event_bytes.Tie as tie
+use Rattle.steps.proofs.event_bytes.Statement.{statement}
+use Rattle.steps.proofs.event_bytes.Tie as tie
 
 byte-at-requires : tie.Need-byte-at-requires
 byte-at-requires c κs = search needs

@@ -1,8 +1,8 @@
--- `rows::table_of` meets its contract: each arm is a case of `tableAt`.
+-- `steps::table_of` meets its contract: each arm is a case of `tableAt`.
 -- Assumes nothing.
-use Rattle.rows.proofs.Laws.{table-else}
-use Rattle.rows.proofs.table_of.Statement.{statement}
-use Rattle.rows.proofs.table_of.Tie as tie
+use Rattle.steps.proofs.Laws.{table-else}
+use Rattle.steps.proofs.table_of.Statement.{statement}
+use Rattle.steps.proofs.table_of.Tie as tie
 
 returns : tie.Need-returns
 returns c = rw (c .match .keys1)

@@ -5,20 +5,18 @@ use mathlib.Core.List.{List, [], _∷_}
 use lib.ListN.{getD, set}
 use lib.Bits.{bitAnd, bitOr}
 use lib.Dec.{eqb}
-use Rattle.kinds.specs.Tests.{any, _∈?_}
-use Rattle.kinds.specs.Codes.{tags, tagNotSeen}
+use Rattle.kinds.specs.Tests.{_∈?_}
 use Rattle.kinds.specs.declared.Answer.{Answer}
 use Rattle.kinds.specs.declared.Answer.the-variants.{SnpResp, SnpRespData, SnpRespDataPtl}
 use Rattle.kinds.specs.declared.Forward.{Forward}
 use Rattle.kinds.specs.declared.Forward.the-variants.{NoForward, CompData}
 use Rattle.sets.specs.Sets.{setOf}
 use Rattle.rows.specs.declared.Table.{Table}
 use Rattle.rows.specs.declared.Table.the-variants.{B46, B57, B59, B60, NdErr}
-use Rattle.rows.specs.declared.Row as code
-use Rattle.rows.specs.Event.{byte, tagOf}
+use Rattle.steps.specs.declared.Row as code
+use Rattle.rows.specs.Event.{byte}
 use Rattle.rows.specs.Rows.{Row}
-use Rattle.rows.specs.Permitted.{asked, answered, tagged}
-use Rattle.rows.specs.Steps.{seen}
+use Rattle.rows.specs.Permitted.{asked, answered, someTag}
 
 -- an event's fourteen bytes
 abbrev pub eventBytes : List ℕ → List ℕ
@@ -67,10 +65,6 @@ rowAt w =
       after = w % 128;
       marked = eqb (w / 128 % 2) 1;
     }
-
--- some tag state that was seen, or any, fits the row
-unfoldable pub someTag : List ℕ → Table → ℕ → Answer → Bool
-someTag e T s a = any (λ t. seen tagNotSeen (tagOf e) t && tagged e t T s a) tags
 
 -- the row is the event's, whatever the state before
 unfoldable pub rowFits : List ℕ → code.Row → Bool

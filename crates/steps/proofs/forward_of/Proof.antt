@@ -1,8 +1,8 @@
--- `rows::forward_of` meets its contract: each arm is a case of `forwardAt`.
+-- `steps::forward_of` meets its contract: each arm is a case of `forwardAt`.
 -- Assumes nothing.
 use borrow.Author.Tests.{eq-eqb, ne-eqb}
-use Rattle.rows.proofs.forward_of.Statement.{statement}
-use Rattle.rows.proofs.forward_of.Tie as tie
+use Rattle.steps.proofs.forward_of.Statement.{statement}
+use Rattle.steps.proofs.forward_of.Tie as tie
 
 returns : tie.Need-returns
 returns c = simp (eq-eqb (c .before .args .state) 0 (c .if1 .taken))

@@ -1,4 +1,4 @@
--- `rows::sets_after` meets its contract: the walk along the rows. The invariant: the words are the printed rows, and the sets are what the
+-- `steps::sets_after` meets its contract: the walk along the rows. The invariant: the words are the printed rows, and the sets are what the
 -- rows passed so far lead to. The measure is the rows that are left.
 -- Assumes nothing.
 use borrow.Author.Needs.{needs}
@@ -8,11 +8,11 @@ use mathlib.Core.Path.{_≡_, refl}
 use lib.ListN.{take}
 use denote.Ref.{now}
 use Rattle.sets.specs.Sets.{setOf}
 use Rattle.rows.specs.Rows.{rows}
-use Rattle.rows.specs.Code.{rowAt, eventBytes}
-use Rattle.rows.proofs.Walk.{Printed, walked, walk-none, word-before, walk-turn, walk-end}
-use Rattle.rows.proofs.sets_after.Statement.{statement}
-use Rattle.rows.proofs.sets_after.Tie as tie
+use Rattle.steps.specs.Code.{rowAt, eventBytes}
+use Rattle.steps.proofs.Walk.{Printed, walked, walk-none, word-before, walk-turn, walk-end}
+use Rattle.steps.proofs.sets_after.Statement.{statement}
+use Rattle.steps.proofs.sets_after.Tie as tie
 
 abbrev Inv-loop : tie.InvT-loop
 Inv-loop event e among words sets₀ i₀ sets i =

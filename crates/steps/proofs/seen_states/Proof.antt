@@ -1,9 +1,9 @@
--- `rows::seen_states` meets its contract: a table of eight sets, and none past it.
+-- `steps::seen_states` meets its contract: a table of eight sets, and none past it.
 -- Assumes nothing.
-use Rattle.rows.proofs.Laws.{seen-at, seen-past}
+use Rattle.steps.proofs.Laws.{seen-at, seen-past}
 use borrow.Author.Needs.{needs}
-use Rattle.rows.proofs.seen_states.Statement.{statement}
-use Rattle.rows.proofs.seen_states.Tie as tie
+use Rattle.steps.proofs.seen_states.Statement.{statement}
+use Rattle.steps.proofs.seen_states.Tie as tie
 
 cast-at : tie.Need-cast-at
 cast-at c = search needs

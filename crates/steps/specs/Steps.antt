@@ -1,18 +1,14 @@
 -- What one event can do to a line: the states after, and who holds the duty.
 use Prim.Native.Nat.{ℕ, _^_}
 use mathlib.Core.Path.{_≡_}
-use mathlib.Core.Bool.{Bool, true, cond, _&&_, _||_}
+use mathlib.Core.Bool.{Bool, true, cond, _&&_}
 use mathlib.Core.List.{List, map}
 use lib.Dec.{eqb}
 use Rattle.kinds.specs.Tests.{any, _∈?_}
 use Rattle.kinds.specs.Codes.{states, stateNotSeen, tags, tagNotSeen, NDERR, respPD, fwdPD}
 use Rattle.sets.specs.Sets.{setOf, holdsDirty}
-use Rattle.rows.specs.Event.{tagOf, respOf, fwdStateOf, respErrOf, afterOf}
+use Rattle.rows.specs.Event.{seen, tagOf, respOf, fwdStateOf, respErrOf, afterOf}
 use Rattle.rows.specs.Permitted.{permitted}
-
--- x is what was seen, or nothing was seen
-abbrev pub seen : ℕ → ℕ → ℕ → Bool
-seen notSeen what x = eqb what notSeen || eqb what x
 
 -- A step of the event from s to s′: a tag state, as seen or any of the three, and the state after as seen or any, that the rows permit.
 pub record Step (e : List ℕ) (s s′ : ℕ) : Type 0 where

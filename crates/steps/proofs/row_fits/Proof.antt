@@ -1,10 +1,10 @@
--- `rows::row_fits` meets its contract: the answer first, then the rest.
+-- `steps::row_fits` meets its contract: the answer first, then the rest.
 -- Assumes nothing.
 use denote.Ref.{now}
-use Rattle.rows.proofs.Laws.{fits-none, fits-rest}
+use Rattle.steps.proofs.Laws.{fits-none, fits-rest}
 use borrow.Author.Needs.{needs}
-use Rattle.rows.proofs.row_fits.Statement.{statement}
-use Rattle.rows.proofs.row_fits.Tie as tie
+use Rattle.steps.proofs.row_fits.Statement.{statement}
+use Rattle.steps.proofs.row_fits.Tie as tie
 
 answered-requires : tie.Need-answered-requires
 answered-requires c κs = search needs
