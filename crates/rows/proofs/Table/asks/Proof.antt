@@ -5,19 +5,15 @@ use borrow.Author.Needs.{needs}
 use Rattle.rows.proofs.Table.asks.Statement.{statement}
 use Rattle.rows.proofs.Table.asks.Tie as tie
 
--- /work/main/target/rlib/kinds.rlib/interface/lang/src/lib.rt:36:34
 enum-told : tie.Need-enum-told
 enum-told c = search needs
 
--- /work/main/target/rlib/kinds.rlib/interface/lang/src/lib.rt:39:37
 enum-told-2 : tie.Need-enum-told-2
 enum-told-2 c = search needs
 
--- /work/main/target/rlib/kinds.rlib/interface/lang/src/lib.rt:42:45
 enum-told-3 : tie.Need-enum-told-3
 enum-told-3 c = search needs
 
--- /work/main/target/rlib/kinds.rlib/interface/lang/src/lib.rt:42:45
 enum-told-4 : tie.Need-enum-told-4
 enum-told-4 c = search needs
 
