@@ -1,4 +1,4 @@
--- Where a pair's set and an event's bytes stand in what is lent.
+-- Where a pair's set, an event's pair and an event's bytes stand in what is lent.
 use Prim.Native.Nat.{ℕ, _*_}
 use mathlib.Core.List.{List}
 use lib.ListN.{getD, take, drop}
@@ -10,6 +10,10 @@ eventLength = 14
 -- the set of a pair in the table of sets; empty for a pair that the table doesn't have
 abbrev pub setIn : List ℕ → ℕ → ℕ
 setIn table pair = getD table pair 0
+
+-- the pair of event k; pair 0 past the end
+abbrev pub pairIn : List ℕ → ℕ → ℕ
+pairIn pairs k = getD pairs k 0
 
 -- the bytes of event k, which start at k times 14
 abbrev pub eventIn : List ℕ → ℕ → List ℕ

@@ -3,7 +3,9 @@ ghost use mathlib.Core.Path.{_≡_};
 ghost use Rattle.kinds.specs.Codes.{dirty, requests, respPD, fwdPD};
 ghost use Rattle.kinds.specs.Tests.{_∈?_};
 ghost use Rattle.kinds.specs.Answers.{wire, hasData, answerResp, answerFwd};
-ghost use Rattle.kinds.specs.Places.{setIn, eventIn};
+ghost use Rattle.kinds.specs.Places.{setIn, pairIn, eventIn};
+ghost use lib.Dec.{ltb};
+ghost use lib.ListN.{length, set};
 
 // An event is this many bytes.
 pub const EVENT_BYTES: usize = 14;
@@ -276,6 +278,17 @@ fn with_data(r: Resp, forward: Forward) -> [u8; 6]
     }
 }
 
+// What the judge says of an event, from the set of its pair.
+pub struct Verdict(pub u8);
+
+impl Verdict {
+    pub const EXPLAINED: Verdict = Verdict(0);
+
+    pub const UNEXPLAINED: Verdict = Verdict(1);
+
+    pub const NOT_JUDGED: Verdict = Verdict(2);
+}
+
 // Who holds the duty to write back after an explained event.
 pub struct Duty(pub u8);
 
@@ -318,6 +331,25 @@ impl PairNumber {
         let at = pair as usize;
         if at < table.len() { table[at] } else { 0 }
     }
+
+    // Whether the table has the pair.
+    pub fn within(self, table: &[u8]) -> bool
+        ensures { λ r. ⌜ r ≡ ltb (self .0) (length (now (table .entry))) ⌝ }
+    {
+        let pair = self.0;
+        (pair as usize) < table.len()
+    }
+
+    // Puts the pair's set into the table; a table that doesn't have the pair stays as it is.
+    pub fn put_in(self, table: &mut [u8], states: u8)
+        ensures { λ _. ⌜ now (table .exit) ≡ set (now (table .entry)) (self .0) states ⌝ }
+    {
+        let pair = self.0;
+        let at = pair as usize;
+        if at < table.len() {
+            table[at] = states;
+        }
+    }
 }
 
 // The number of an event in a trace.
@@ -338,5 +370,29 @@ impl EventNumber {
             return &events[start..];
         }
         &events[start..start + EVENT_BYTES]
+    }
+
+    // The pair that the event is of; pair 0 past the end.
+    pub fn pair_in(self, pairs: &[u16]) -> PairNumber
+        ensures { λ r. ⌜ r .0 ≡ pairIn (now (pairs .entry)) (self .0) ⌝ }
+    {
+        let number = self.0;
+        let at = number as usize;
+        if at < pairs.len() {
+            PairNumber(pairs[at])
+        } else {
+            PairNumber(0)
+        }
+    }
+
+    // Puts a byte at the event's place; bytes that don't have the place stay as they are.
+    pub fn put_in(self, bytes: &mut [u8], byte: u8)
+        ensures { λ _. ⌜ now (bytes .exit) ≡ set (now (bytes .entry)) (self .0) byte ⌝ }
+    {
+        let number = self.0;
+        let at = number as usize;
+        if at < bytes.len() {
+            bytes[at] = byte;
+        }
     }
 }

@@ -2,15 +2,21 @@
 -- Assumes nothing.
 use mathlib.Core.Path.{_≡_, refl, sym, _∙_, ap, ap₂, fun-ext}
 use mathlib.Core.Bool.{Bool, true, false, cond, _&&_, _||_, true≢false}
+use mathlib.Core.List.{List, [], _∷_, map}
 use Prim.Native.Nat.{ℕ, zero, suc, _+_, _*_, _/_, _%_, _^_, _<_, _≤_, min, max}
-use native.Mathlib.Nat.{add-zero, add-suc, suc-add, zero-add, le-of-suc-le-suc, not-suc-le-zero, div-one, div-div-eq-div-mul, pow-succ', pow-zero, div-eq-of-lt, lt-of-lt-of-le, zero-div}
+use native.Mathlib.Nat.{add-zero, add-suc, suc-add, zero-add, le-of-suc-le-suc, not-suc-le-zero, div-one, div-div-eq-div-mul, pow-suc, pow-succ', pow-zero, div-eq-of-lt, lt-of-lt-of-le, zero-div}
 use lib.Pow.{pow-mono}
 use native.Mathlib.Omega.{arith}
-use lib.Dec.{eqb}
-use lib.Bits.{bitAnd, bitOr, and-step, or-step, and-zero-l, or-zero-l}
+use borrow.Author.Tests.{ltb-true, ltb-false, eqb-true, eqb-false}
+use lib.Dec.{eqb, ltb}
+use lib.Bits.{bitAnd, bitOr, and-step, or-step, and-zero-l, or-zero-l, or-zero-r}
 use Rattle.kinds.specs.Codes.{I, UC, UCE, UD, UDP, SC, SD, dirty}
 use Rattle.kinds.proofs.Laws.{or-7}
-use Rattle.sets.specs.Sets.{one, setOf, bit, holdsDirty}
+use Rattle.kinds.proofs.Lists.{any-found, found-any, state-in}
+use Rattle.kinds.specs.Tests.{any}
+use Rattle.kinds.specs.Codes.{states}
+use lib.ListN.{getD}
+use Rattle.sets.specs.Sets.{one, setOf, bit, holdsDirty, union, apply}
 
 -- the number whose n binary digits say what the test says of k, k + 1, ..
 digits : (ℕ → Bool) → ℕ → ℕ → ℕ
@@ -119,3 +125,86 @@ zero-bit n = ap (λ (m : ℕ). eqb (m % 2) 1) (zero-div (2 ^ n))
 
 pub setOf-holds : (p : ℕ → Bool) (n : ℕ) → n < 7 → p n ≡ true → setOf p ≡ 0 → ⊥
 setOf-holds p n l h k = true≢false (sym h ∙ sym (bit-setOf p n l) ∙ ap (λ (m : ℕ). bit m n) k ∙ zero-bit n)
+
+one-below : (b : Bool) → one b < 2
+one-below true = omega arith
+one-below false = omega arith
+
+-- a set of states is below 128, and in a set below 128 there are states alone
+pub setOf-below : (p : ℕ → Bool) → setOf p < 128
+unfolding setOf
+setOf-below p = omega (arith, one-below (p I), one-below (p UC), one-below (p UCE), one-below (p UD), one-below (p UDP), one-below (p SC), one-below (p SD))
+
+bit-above : (m n : ℕ) → m < 128 → 7 ≤ n → bit m n ≡ false
+unfolding bit
+bit-above m n h k = ap (λ (d : ℕ). eqb (d % 2) 1) (div-eq-of-lt (lt-of-lt-of-le h (pow-mono k)))
+
+pub bit-state : (m n : ℕ) → m < 128 → bit m n ≡ true → n < 7
+bit-state m n h k = go (ltb n 7) refl
+  where
+    go : (b : Bool) → ltb n 7 ≡ b → n < 7
+    go true l = ltb-true n 7 l
+    go false l = absurd (true≢false (sym k ∙ bit-above m n h (ltb-false n 7 l)))
+
+-- a union of sets is the set of the states that are in one of them
+pub union-setOf {ℓ} : {A : Type ℓ} (f : A → ℕ → Bool) (xs : List A) → union (map (λ x. setOf (f x)) xs) ≡ setOf (λ n. any (λ x. f x n) xs)
+union-setOf f [] = sym none
+union-setOf f (x ∷ xs) = ap (bitOr (setOf (f x))) (union-setOf f xs) ∙ or-setOf (f x) (λ n. any (λ y. f y n) xs)
+
+-- so for the sets of the states in m
+pub apply-setOf : (f : ℕ → ℕ → Bool) (m : ℕ) → apply (map (λ s. setOf (f s)) states) m ≡ setOf (λ n. any (λ s. bit m s && f s n) states)
+unfolding apply
+apply-setOf f m = simp cond-setOf (union-setOf (λ s n. bit m s && f s n) states)
+
+-- the seven unions, one a state
+pub apply-chain : (sets : List ℕ) (m x₀ x₁ x₂ x₃ x₄ x₅ x₆ : ℕ)
+    → x₀ ≡ cond (bit m I) (getD sets I 0) 0 → x₁ ≡ cond (bit m UC) (getD sets UC 0) 0 → x₂ ≡ cond (bit m UCE) (getD sets UCE 0) 0
+    → x₃ ≡ cond (bit m UD) (getD sets UD 0) 0 → x₄ ≡ cond (bit m UDP) (getD sets UDP 0) 0 → x₅ ≡ cond (bit m SC) (getD sets SC 0) 0
+    → x₆ ≡ cond (bit m SD) (getD sets SD 0) 0 → bitOr x₀ (bitOr x₁ (bitOr x₂ (bitOr x₃ (bitOr x₄ (bitOr x₅ x₆))))) ≡ apply sets m
+unfolding apply
+apply-chain sets m x₀ x₁ x₂ x₃ x₄ x₅ x₆ h₀ h₁ h₂ h₃ h₄ h₅ h₆ =
+    ap₂ bitOr h₀ (ap₂ bitOr h₁ (ap₂ bitOr h₂ (ap₂ bitOr h₃ (ap₂ bitOr h₄ (ap₂ bitOr h₅ (h₆ ∙ sym (or-zero-r (cond (bit m SD) (getD sets SD 0) 0))))))))
+
+-- a byte below 128 is the set of the states that are in it
+one-odd : (x : ℕ) → one (eqb (x % 2) 1) ≡ x % 2
+one-odd x = go (eqb (x % 2) 1) refl
+  where
+    go : (b : Bool) → eqb (x % 2) 1 ≡ b → one b ≡ x % 2
+    go true h = sym (eqb-true (x % 2) 1 h)
+    go false h = omega (arith, eqb-false (x % 2) 1 h)
+
+half-power : (m k : ℕ) → m / 2 ^ suc k ≡ m / 2 ^ k / 2
+half-power m k = ap (λ (d : ℕ). m / d) (pow-suc 2 k) ∙ sym (div-div-eq-div-mul m (2 ^ k) 2)
+
+digits-bit : (m k n : ℕ) → m / 2 ^ k < 2 ^ n → digits (bit m) k n ≡ m / 2 ^ k
+unfolding digits bit
+digits-bit m k zero h = omega (arith, pow-zero 2)
+digits-bit m k (suc n) h =
+    let rest = digits-bit m (suc k) n (omega (arith, half-power m k, pow-suc 2 n)) in
+    omega (arith, one-odd (m / 2 ^ k), rest, half-power m k)
+
+pub setOf-bit : (m : ℕ) → m < 128 → setOf (bit m) ≡ m
+setOf-bit m h = setOf-digits (bit m) ∙ digits-bit m 0 7 (omega (arith, pow-zero 2, div-one m)) ∙ simp (pow-zero, div-one)
+
+-- a state that is in the set
+pub record Held (m : ℕ) : Type 0 where
+  pub state : ℕ
+  pub inside : bit m state ≡ true
+
+-- a set is empty exactly when no state is in it
+pub held-some : {m : ℕ} → Held m → m ≡ 0 → ⊥
+held-some {m} h z = true≢false (sym (h .inside) ∙ ap (λ (x : ℕ). bit x (h .state)) z ∙ zero-bit (h .state))
+
+pub some-held : (m : ℕ) → m < 128 → (m ≡ 0 → ⊥) → Held m
+some-held m h k = go (any (bit m) states) refl
+  where
+    go : (b : Bool) → any (bit m) states ≡ b → Held m
+    go true l = let f = any-found (bit m) states l in record { state = f .one; inside = f .passes }
+    go false l = absurd (k (sym (setOf-bit m h) ∙ setOf-empty (bit m) each))
+      where
+        each : (n : ℕ) → bit m n ≡ false
+        each n = test (bit m n) refl
+          where
+            test : (b : Bool) → bit m n ≡ b → b ≡ false
+            test true q = absurd (true≢false (sym (found-any (bit m) (state-in n (bit-state m n h q)) q) ∙ l))
+            test false q = refl

@@ -1,7 +1,10 @@
 -- A set of states is a byte: state n has weight 2 to the n.
 use Prim.Native.Nat.{ℕ, _+_, _*_, _/_, _%_, _^_}
 use mathlib.Core.Bool.{Bool, cond, _&&_}
+use mathlib.Core.List.{List, [], _∷_, map}
+use lib.Bits.{bitOr}
 use lib.Dec.{eqb}
+use lib.ListN.{getD}
 use Rattle.kinds.specs.Tests.{any}
 use Rattle.kinds.specs.Codes.{I, UC, UCE, UD, UDP, SC, SD, states, dirty}
 
@@ -20,3 +23,12 @@ bit m n = eqb (m / 2 ^ n % 2) 1
 -- the set holds a Dirty state
 abbrev pub holdsDirty : ℕ → Bool
 holdsDirty m = any (λ s. dirty s && bit m s) states
+
+-- the union of sets
+abbrev pub union : List ℕ → ℕ
+union [] = 0
+union (m ∷ ms) = bitOr m (union ms)
+
+-- of seven sets, one a state, the union of those that stand at a state of m
+unfoldable pub apply : List ℕ → ℕ → ℕ
+apply sets m = union (map (λ s. cond (bit m s) (getD sets s 0) 0) states)

@@ -1,0 +1,197 @@
+-- Laws of the refusals of a trace, over plain variables: the first number that passes a test, and the outcome by its parts.
+-- Assumes nothing.
+use mathlib.Core.Path.{_≡_, refl, sym, _∙_, ap, ap₂}
+use mathlib.Core.Bool.{Bool, true, false, cond, not, _&&_}
+use mathlib.Core.List.{List}
+use Prim.Native.Nat.{ℕ, zero, suc, _+_, _-_, _%_, _<_, _≤_}
+use native.Mathlib.Numerals.{add-one}
+use native.Mathlib.Nat.{sub-zero}
+use native.Mathlib.Omega.{arith}
+use borrow.Author.Tests.{lt-ltb, le-ltb, le-leb, leb-true, eqb-true, eq-eqb, ne-eqb, not-true, not-false}
+use lib.Dec.{eqb, leb, ltb}
+use lib.ListN.{length}
+use Rattle.kinds.specs.Places.{eventLength, pairIn, eventIn}
+use Rattle.kinds.proofs.Lists.{and-left, and-right, and-both}
+use Rattle.event.specs.Refusals.{Issue, fault}
+use Rattle.trace.specs.declared.Outcome.{Outcome}
+use Rattle.verdicts.specs.Verdicts.{after, verdict, dutyByte}
+use Rattle.trace.specs.Entries.{Entry, entries, run, outputs}
+use Rattle.trace.specs.Lent.{Lent, left, count}
+use Rattle.trace.specs.Given.{Fits}
+use Rattle.trace.specs.Judged.{accepts, acceptedLeft, refusedLeft, judged}
+use Rattle.trace.specs.Turns.{Room, AllJudged}
+use Rattle.trace.specs.Refusals.{answer, most, lengthsFit, firstFrom, lowestSet, faultAt, firstEvent, byEvents, outcomeOf}
+
+-- one less is left
+pub minus-suc : (n k : ℕ) → k < n → n - k ≡ suc (n - suc k)
+minus-suc n k h = omega arith
+
+-- nothing is left
+pub minus-end : (n k : ℕ) → n ≤ k → n - k ≡ 0
+minus-end n k h = omega arith
+
+-- the first of n numbers that passes the test is not below k
+pub record First (p : ℕ → Bool) (n k : ℕ) : Type 0 where
+  pub within : k ≤ n
+  pub same : firstFrom p k (n - k) ≡ firstFrom p 0 n
+
+pub first-start : (p : ℕ → Bool) (n : ℕ) → First p n 0
+first-start p n = record { within = omega arith; same = ap (firstFrom p 0) (sub-zero n) }
+
+-- what is left begins with k
+ahead : (p : ℕ → Bool) (n k : ℕ) → k < n → firstFrom p k (n - k) ≡ cond (p k) k (firstFrom p (suc k) (n - suc k))
+ahead p n k h = ap (firstFrom p k) (minus-suc n k h)
+
+pub first-here : {p : ℕ → Bool} {n k : ℕ} → First p n k → k < n → p k ≡ true → k ≡ firstFrom p 0 n
+first-here {p} {n} {k} f h t = sym (ahead p n k h ∙ ap (λ (b : Bool). cond b k (firstFrom p (suc k) (n - suc k))) t) ∙ f .same
+
+pub first-next : {p : ℕ → Bool} {n k : ℕ} → First p n k → k < n → p k ≡ false → First p n (k + 1)
+first-next {p} {n} {k} f h t =
+    record {
+      within = omega arith;
+      same =
+        ap (λ (i : ℕ). firstFrom p i (n - i)) (add-one k)
+        ∙ sym (ahead p n k h ∙ ap (λ (b : Bool). cond b k (firstFrom p (suc k) (n - suc k))) t)
+        ∙ f .same;
+    }
+
+pub first-end : {p : ℕ → Bool} {n k : ℕ} → First p n k → n ≤ k → k ≡ firstFrom p 0 n
+first-end {p} {n} {k} f h = sym (ap (firstFrom p k) (minus-end n k h)) ∙ f .same
+
+-- the lengths fit, as a test and as facts
+module _ (l : Lent) where
+  pub fits : lengthsFit l ≡ true → Fits l
+  unfolding lengthsFit
+  fits h =
+      let a₁ = eqb (length (l .events) % eventLength) 0 in
+      let a₂ = a₁ && leb (count l) most in
+      let a₃ = a₂ && leb (length (l .table)) most in
+      let a₄ = a₃ && eqb (length (l .pairs)) (count l) in
+      let a₅ = a₄ && eqb (length (l .verdicts)) (count l) in
+      let a₆ = a₅ && eqb (length (l .duties)) (count l) in
+      let h₆ = and-left a₆ (eqb (length (l .afters)) (count l)) h in
+      let h₅ = and-left a₅ (eqb (length (l .duties)) (count l)) h₆ in
+      let h₄ = and-left a₄ (eqb (length (l .verdicts)) (count l)) h₅ in
+      let h₃ = and-left a₃ (eqb (length (l .pairs)) (count l)) h₄ in
+      let h₂ = and-left a₂ (leb (length (l .table)) most) h₃ in
+      record {
+        whole = eqb-true (length (l .events) % eventLength) 0 (and-left a₁ (leb (count l) most) h₂);
+        few-events = leb-true (count l) most (and-right a₁ (leb (count l) most) h₂);
+        few-pairs = leb-true (length (l .table)) most (and-right a₂ (leb (length (l .table)) most) h₃);
+        pairs-fit = eqb-true (length (l .pairs)) (count l) (and-right a₃ (eqb (length (l .pairs)) (count l)) h₄);
+        verdicts-fit = eqb-true (length (l .verdicts)) (count l) (and-right a₄ (eqb (length (l .verdicts)) (count l)) h₅);
+        duties-fit = eqb-true (length (l .duties)) (count l) (and-right a₅ (eqb (length (l .duties)) (count l)) h₆);
+        afters-fit = eqb-true (length (l .afters)) (count l) (and-right a₆ (eqb (length (l .afters)) (count l)) h);
+      }
+
+  pub fit : Fits l → lengthsFit l ≡ true
+  unfolding lengthsFit
+  fit f =
+      and-both
+      (and-both
+      (and-both
+      (and-both
+      (and-both
+      (and-both (eq-eqb (length (l .events) % eventLength) 0 (f .whole)) (le-leb (count l) most (f .few-events)))
+      (le-leb (length (l .table)) most (f .few-pairs)))
+      (eq-eqb (length (l .pairs)) (count l) (f .pairs-fit)))
+      (eq-eqb (length (l .verdicts)) (count l) (f .verdicts-fit)))
+      (eq-eqb (length (l .duties)) (count l) (f .duties-fit)))
+      (eq-eqb (length (l .afters)) (count l) (f .afters-fit))
+
+-- the refusal of one event, by its parts
+pub fault-chain : (issue : Issue) (events pairs table : List ℕ) (k p : ℕ) (inside : Bool) (e : List ℕ) (f x : ℕ) → p ≡ pairIn pairs k → inside ≡ ltb p (length table)
+    → e ≡ eventIn events k → f ≡ fault issue e → x ≡ cond inside f 3 → x ≡ faultAt issue events pairs table k
+unfolding faultAt
+fault-chain issue events pairs table k p inside e f x h₁ h₂ h₃ h₄ h₅ =
+    h₅
+    ∙ ap₂ (λ (b : Bool) (n : ℕ). cond b n 3) (h₂ ∙ ap (λ (n : ℕ). ltb n (length table)) h₁) (h₄ ∙ ap (fault issue) h₃)
+
+-- an event is bad where its refusal isn't 0
+pub bad : (x n : ℕ) → x ≡ n → (x ≡ 0 → ⊥) → not (eqb n 0) ≡ true
+bad x n h k = ap not (ne-eqb n 0 (λ z. k (h ∙ z)))
+
+pub good : (x n : ℕ) → x ≡ n → x ≡ 0 → not (eqb n 0) ≡ false
+good x n h k = ap not (eq-eqb n 0 (sym h ∙ k))
+
+module _ (issue : Issue) (events pairs table : List ℕ) where
+  pub refused-event : (k x : ℕ) → k ≡ firstEvent issue events pairs table → k < length pairs → x ≡ faultAt issue events pairs table k
+      → answer x k ≡ byEvents issue events pairs table
+  unfolding byEvents
+  refused-event k x h l p =
+      ap (λ (n : ℕ). answer n k) p
+      ∙ ap (λ (i : ℕ). answer (faultAt issue events pairs table i) i) h
+      ∙ sym (ap (λ (b : Bool). cond b (answer (faultAt issue events pairs table (firstEvent issue events pairs table)) (firstEvent issue events pairs table)) (answer 0 (length pairs))) (ap (λ (i : ℕ). ltb i (length pairs)) (sym h) ∙ lt-ltb k (length pairs) l))
+
+  pub no-event : (k : ℕ) → k ≡ firstEvent issue events pairs table → length pairs ≤ k → answer 0 (length pairs) ≡ byEvents issue events pairs table
+  unfolding byEvents
+  no-event k h l =
+      sym (ap (λ (b : Bool). cond b (answer (faultAt issue events pairs table (firstEvent issue events pairs table)) (firstEvent issue events pairs table)) (answer 0 (length pairs))) (ap (λ (i : ℕ). ltb i (length pairs)) (sym h) ∙ le-ltb k (length pairs) l))
+
+module _ (issue : Issue) (l : Lent) where
+  -- the outcome from the two tests
+  pub by-stages : (fit bad-table : Bool) → lengthsFit l ≡ fit → ltb (lowestSet (l .table)) (length (l .table)) ≡ bad-table
+      → outcomeOf issue l ≡ cond fit (cond bad-table (answer 2 (lowestSet (l .table))) (byEvents issue (l .events) (l .pairs) (l .table))) (answer 1 0)
+  unfolding outcomeOf
+  by-stages fit bad-table p q =
+      ap₂ (λ (a b : Bool). cond a (cond b (answer 2 (lowestSet (l .table))) (byEvents issue (l .events) (l .pairs) (l .table))) (answer 1 0)) p q
+
+  pub refused-lengths : (fit : Bool) → fit ≡ lengthsFit l → not fit ≡ true → answer 1 0 ≡ outcomeOf issue l
+  refused-lengths fit h k = sym (by-stages false (ltb (lowestSet (l .table)) (length (l .table))) (sym h ∙ not-true fit k) refl)
+
+  pub refused-set : (fit : Bool) (p : ℕ) → fit ≡ lengthsFit l → not fit ≡ false → p ≡ lowestSet (l .table) → p < length (l .table)
+      → answer 2 p ≡ outcomeOf issue l
+  refused-set fit p h k q b =
+      ap (answer 2) q
+      ∙ sym (by-stages true true (sym h ∙ not-false fit k) (ap (λ (i : ℕ). ltb i (length (l .table))) (sym q) ∙ lt-ltb p (length (l .table)) b))
+
+  pub left-to-events : (fit : Bool) (p : ℕ) (r : Outcome) → fit ≡ lengthsFit l → not fit ≡ false → p ≡ lowestSet (l .table) → length (l .table) ≤ p
+      → r ≡ byEvents issue (l .events) (l .pairs) (l .table) → r ≡ outcomeOf issue l
+  left-to-events fit p r h k q b e =
+      e
+      ∙ sym (by-stages true false (sym h ∙ not-false fit k) (ap (λ (i : ℕ). ltb i (length (l .table))) (sym q) ∙ le-ltb p (length (l .table)) b))
+
+  -- there are few events where the lengths fit
+  pub few-pair-numbers : (fit-test : Bool) → fit-test ≡ lengthsFit l → not fit-test ≡ false → length (l .pairs) ≤ most
+  few-pair-numbers fit-test h k = let f = fits l (sym h ∙ not-false fit-test k) in omega (arith, f .pairs-fit, f .few-events)
+
+  -- an accepted trace has lengths that fit
+  pub accepted-fits : outcomeOf issue l .refusal .0 ≡ 0 → lengthsFit l ≡ true
+  accepted-fits h = go (lengthsFit l) refl
+    where
+      go : (b : Bool) → lengthsFit l ≡ b → b ≡ true
+      go true k = refl
+      go false k =
+          let wrong : _≡_ {A = ℕ} 1 0 = sym (ap (λ (o : Outcome). o .refusal .0) (by-stages false (ltb (lowestSet (l .table)) (length (l .table))) k refl)) ∙ h in
+          absurd (omega arith)
+
+  -- what is left of a refused trace, and of an accepted one
+  pub left-refused : (o : Outcome) → o ≡ outcomeOf issue l → (o .refusal .0 ≡ 0 → ⊥) → refusedLeft o l ≡ judged issue l
+  unfolding judged accepts
+  left-refused o h k =
+      ap (λ (x : Outcome). refusedLeft x l) h
+      ∙ sym (ap (λ (b : Bool). cond b (acceptedLeft (outcomeOf issue l) l) (refusedLeft (outcomeOf issue l) l)) (ne-eqb (outcomeOf issue l .refusal .0) 0 (λ z. k (ap (λ (x : Outcome). x .refusal .0) h ∙ z))))
+
+  pub left-accepted : (o : Outcome) (t v d a : List ℕ) → o ≡ outcomeOf issue l → o .refusal .0 ≡ 0 → length (l .pairs) ≡ count l
+      → AllJudged (l .events) (l .pairs) (l .table) t v d a → left o t v d a ≡ judged issue l
+  unfolding judged accepts
+  left-accepted o t v d a h k n all =
+      ap₂ (λ (x y : List ℕ). left o x y d a) (all .in-table) (all .in-verdicts)
+      ∙ ap₂ (λ (x y : List ℕ). left o (run (l .table) whole) (outputs verdict (l .table) whole) x y) (all .in-duties) (all .in-afters)
+      ∙ ap (λ (m : ℕ). left o (run (l .table) (entries (l .events) (l .pairs) 0 m)) (outputs verdict (l .table) (entries (l .events) (l .pairs) 0 m)) (outputs dutyByte (l .table) (entries (l .events) (l .pairs) 0 m)) (outputs after (l .table) (entries (l .events) (l .pairs) 0 m))) n
+      ∙ ap (λ (x : Outcome). acceptedLeft x l) h
+      ∙ sym (ap (λ (b : Bool). cond b (acceptedLeft (outcomeOf issue l) l) (refusedLeft (outcomeOf issue l) l)) (eq-eqb (outcomeOf issue l .refusal .0) 0 (ap (λ (x : Outcome). x .refusal .0) (sym h) ∙ k)))
+    where
+      whole : List Entry
+      whole = entries (l .events) (l .pairs) 0 (length (l .pairs))
+
+  -- there is room for every event
+  pub room : outcomeOf issue l .refusal .0 ≡ 0 → Room (l .pairs) (l .verdicts) (l .duties) (l .afters)
+  room h =
+      let f = fits l (accepted-fits h) in
+      record {
+        few = omega (arith, f .pairs-fit, f .few-events);
+        verdicts-fit = f .verdicts-fit ∙ sym (f .pairs-fit);
+        duties-fit = f .duties-fit ∙ sym (f .pairs-fit);
+        afters-fit = f .afters-fit ∙ sym (f .pairs-fit);
+      }

@@ -1,0 +1,6 @@
+pub mod Entries
+pub mod Lent
+pub mod Refusals
+pub mod Given
+pub mod Judged
+pub mod Turns

@@ -1,0 +1,67 @@
+-- When a trace is refused, with which number and which place.
+use Prim.Native.Nat.{ℕ, zero, suc, _/_, _%_}
+use mathlib.Core.Bool.{Bool, cond, not, _&&_}
+use mathlib.Core.List.{List}
+use lib.Dec.{eqb, leb, ltb}
+use lib.ListN.{length}
+use Rattle.kinds.specs.Places.{eventLength, setIn, pairIn, eventIn}
+use Rattle.event.specs.Refusals.{Issue, fault}
+use Rattle.trace.specs.declared.Outcome.{Outcome}
+use Rattle.trace.specs.Lent.{Lent, count}
+
+-- a number of the refusal table, and its place
+abbrev pub answer : ℕ → ℕ → Outcome
+answer number place = record { refusal = record { 0 = number }; place = place }
+
+-- at most this many events, and at most this many pairs
+abbrev pub most : ℕ
+most = 4096
+
+-- the event bytes are whole events, not too many, the table isn't too long, and every other buffer is as long as there are events
+unfoldable pub lengthsFit : Lent → Bool
+lengthsFit l =
+    eqb (length (l .events) % eventLength) 0
+    && leb (count l) most
+    && leb (length (l .table)) most
+    && eqb (length (l .pairs)) (count l)
+    && eqb (length (l .verdicts)) (count l)
+    && eqb (length (l .duties)) (count l)
+    && eqb (length (l .afters)) (count l)
+
+-- the first of the n numbers from k on that passes the test, or k + n where none does
+abbrev pub firstFrom : (ℕ → Bool) → ℕ → ℕ → ℕ
+firstFrom p k zero = k
+firstFrom p k (suc n) = cond (p k) k (firstFrom p (suc k) n)
+
+-- a set above 127
+abbrev pub badSet : List ℕ → ℕ → Bool
+badSet table p = ltb 127 (setIn table p)
+
+-- 3 for a pair number that is not below the table's length, then the fault of the event's bytes, else 0
+unfoldable pub faultAt : Issue → List ℕ → List ℕ → List ℕ → ℕ → ℕ
+faultAt issue events pairs table k = cond (ltb (pairIn pairs k) (length table)) (fault issue (eventIn events k)) 3
+
+abbrev pub badEvent : Issue → List ℕ → List ℕ → List ℕ → ℕ → Bool
+badEvent issue events pairs table k = not (eqb (faultAt issue events pairs table k) 0)
+
+-- the lowest pair whose set is bad, and the first event that is
+abbrev pub lowestSet : List ℕ → ℕ
+lowestSet table = firstFrom (badSet table) 0 (length table)
+
+abbrev pub firstEvent : Issue → List ℕ → List ℕ → List ℕ → ℕ
+firstEvent issue events pairs table = firstFrom (badEvent issue events pairs table) 0 (length pairs)
+
+-- the events one after another
+unfoldable pub byEvents : Issue → List ℕ → List ℕ → List ℕ → Outcome
+byEvents issue events pairs table =
+    let k = firstEvent issue events pairs table in
+    cond (ltb k (length pairs)) (answer (faultAt issue events pairs table k) k) (answer 0 (length pairs))
+
+-- 1, then 2 over the table, then the events
+unfoldable pub outcomeOf : Issue → Lent → Outcome
+outcomeOf issue l =
+    cond (lengthsFit l)
+    (cond (ltb (lowestSet (l .table)) (length (l .table)))
+    (answer 2 (lowestSet (l .table)))
+    (byEvents issue (l .events) (l .pairs) (l .table)))
+    (answer 1 0)

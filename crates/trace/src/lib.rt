@@ -1,0 +1,192 @@
+// A whole trace judged: whatever is lent, its refusal with every buffer as it came, or every event's verdict, duty and set.
+use kinds::EVENT_BYTES;
+use kinds::EventNumber;
+use kinds::Refusal;
+ghost use Prim.Native.Nat.{_≤_};
+ghost use mathlib.Core.Path.{_≡_};
+ghost use lib.ListN.{length};
+ghost use Rattle.event.specs.Refusals.{issueE};
+ghost use Rattle.trace.specs.Lent.{lent, left};
+ghost use Rattle.trace.specs.Refusals.{lengthsFit, most, lowestSet, faultAt, firstEvent, byEvents, outcomeOf};
+ghost use Rattle.trace.specs.Judged.{judged};
+ghost use Rattle.trace.specs.Turns.{Room, OneJudged, AllJudged};
+
+// At most this many events, and at most this many pairs.
+const MOST: usize = 4096;
+
+// The largest set: all seven states.
+const ALL_STATES: u8 = 127;
+
+// A number of the refusal table, and its place: how many events for an accepted trace, the pair for a set, the event for an event.
+pub struct Outcome {
+    pub refusal: Refusal,
+    pub place: usize,
+}
+
+// Whether the buffers are as long as they have to be.
+fn lengths_fit(
+    events: &[u8],
+    pairs: &[u16],
+    table: &[u8],
+    verdicts: &[u8],
+    duties: &[u8],
+    afters: &[u8],
+) -> bool
+    ensures { λ r. ⌜ r ≡ lengthsFit (lent (now (events .entry)) (now (pairs .entry)) (now (table .entry)) (now (verdicts .entry)) (now (duties .entry)) (now (afters .entry))) ⌝ }
+{
+    let n = events.len() / EVENT_BYTES;
+    (events.len() % EVENT_BYTES == 0)
+        & (n <= MOST)
+        & (table.len() <= MOST)
+        & (pairs.len() == n)
+        & (verdicts.len() == n)
+        & (duties.len() == n)
+        & (afters.len() == n)
+}
+
+// The lowest pair whose set is above all states, or how many pairs there are.
+fn lowest_set(table: &[u8]) -> usize
+    ensures { λ r. ⌜ r ≡ lowestSet (now (table .entry)) ⌝ }
+{
+    let mut p: usize = 0;
+    while p < table.len() {
+        if table[p] > ALL_STATES {
+            return p;
+        }
+        p += 1;
+    }
+    p
+}
+
+// The refusal of event k in a trace: 3, then the fault of its bytes.
+fn fault_at(k: EventNumber, events: &[u8], pairs: &[u16], table: &[u8]) -> Refusal
+    ensures { λ r. ⌜ r .0 ≡ faultAt issueE (now (events .entry)) (now (pairs .entry)) (now (table .entry)) (k .0) ⌝ }
+{
+    let pair = k.pair_in(pairs);
+    let inside = pair.within(table);
+    let fault = event::fault(k.event_in(events));
+    Refusal(sets::choose(inside, fault.0, Refusal::PAIR.0))
+}
+
+// The first event that is refused, or how many events there are.
+fn first_event(events: &[u8], pairs: &[u16], table: &[u8]) -> EventNumber
+    requires { ⌜ length (now pairs) ≤ most ⌝ }
+    ensures { λ r. ⌜ r .0 ≡ firstEvent issueE (now (events .entry)) (now (pairs .entry)) (now (table .entry)) ⌝ }
+{
+    let mut k: u32 = 0;
+    while (k as usize) < pairs.len() {
+        let fault = fault_at(EventNumber(k), events, pairs, table);
+        let number = fault.0;
+        if number != Refusal::ACCEPTED.0 {
+            return EventNumber(k);
+        }
+        k += 1;
+    }
+    EventNumber(k)
+}
+
+// The outcome of the events, where the lengths fit and the table is good.
+fn by_events(events: &[u8], pairs: &[u16], table: &[u8]) -> Outcome
+    requires { ⌜ length (now pairs) ≤ most ⌝ }
+    ensures { λ r. ⌜ r ≡ byEvents issueE (now (events .entry)) (now (pairs .entry)) (now (table .entry)) ⌝ }
+{
+    let first = first_event(events, pairs, table);
+    let k = first.0;
+    let place = k as usize;
+    if place < pairs.len() {
+        let refusal = fault_at(first, events, pairs, table);
+        return Outcome { refusal, place };
+    }
+    Outcome {
+        refusal: Refusal::ACCEPTED,
+        place: pairs.len(),
+    }
+}
+
+// The outcome: 1, then 2 over the table, then the events.
+fn outcome_of(
+    events: &[u8],
+    pairs: &[u16],
+    table: &[u8],
+    verdicts: &[u8],
+    duties: &[u8],
+    afters: &[u8],
+) -> Outcome
+    ensures { λ r. ⌜ r ≡ outcomeOf issueE (lent (now (events .entry)) (now (pairs .entry)) (now (table .entry)) (now (verdicts .entry)) (now (duties .entry)) (now (afters .entry))) ⌝ }
+{
+    if !lengths_fit(events, pairs, table, verdicts, duties, afters) {
+        return Outcome {
+            refusal: Refusal::LENGTHS,
+            place: 0,
+        };
+    }
+    let pair = lowest_set(table);
+    if pair < table.len() {
+        return Outcome {
+            refusal: Refusal::SET,
+            place: pair,
+        };
+    }
+    by_events(events, pairs, table)
+}
+
+// Event k judged on the set of its pair: the table moves, and the event's verdict, duty and set after are put at its place.
+fn judge_one(
+    k: EventNumber,
+    events: &[u8],
+    pairs: &[u16],
+    table: &mut [u8],
+    verdicts: &mut [u8],
+    duties: &mut [u8],
+    afters: &mut [u8],
+)
+    ensures { λ _. ⌜ OneJudged (now (events .entry)) (now (pairs .entry)) (k .0) (now (table .entry)) (now (verdicts .entry)) (now (duties .entry)) (now (afters .entry)) (now (table .exit)) (now (verdicts .exit)) (now (duties .exit)) (now (afters .exit)) ⌝ }
+{
+    let pair = k.pair_in(pairs);
+    let before = pair.set_in(table);
+    let found = verdicts::judge(k.event_in(events), before);
+    pair.put_in(table, found.after);
+    k.put_in(verdicts, found.verdict.0);
+    k.put_in(duties, found.duty.0);
+    k.put_in(afters, found.after);
+}
+
+// Every event judged, one after another.
+fn judge_all(
+    events: &[u8],
+    pairs: &[u16],
+    table: &mut [u8],
+    verdicts: &mut [u8],
+    duties: &mut [u8],
+    afters: &mut [u8],
+)
+    requires { ⌜ Room (now pairs) (now verdicts) (now duties) (now afters) ⌝ }
+    ensures { λ _. ⌜ AllJudged (now (events .entry)) (now (pairs .entry)) (now (table .entry)) (now (table .exit)) (now (verdicts .exit)) (now (duties .exit)) (now (afters .exit)) ⌝ }
+{
+    let mut k: u32 = 0;
+    while (k as usize) < pairs.len() {
+        judge_one(EventNumber(k), events, pairs, table, verdicts, duties, afters);
+        k += 1;
+    }
+}
+
+// The whole trace judged: the outcome, and for an accepted trace the table as its events leave it and a verdict, a duty and a set after
+// for each of them. A refused one leaves every buffer as it came.
+pub fn judge_trace(
+    events: &[u8],
+    pairs: &[u16],
+    table: &mut [u8],
+    verdicts: &mut [u8],
+    duties: &mut [u8],
+    afters: &mut [u8],
+) -> Outcome
+    ensures { λ r. ⌜ left r (now (table .exit)) (now (verdicts .exit)) (now (duties .exit)) (now (afters .exit)) ≡ judged issueE (lent (now (events .entry)) (now (pairs .entry)) (now (table .entry)) (now (verdicts .entry)) (now (duties .entry)) (now (afters .entry))) ⌝ }
+{
+    let outcome = outcome_of(events, pairs, table, verdicts, duties, afters);
+    let number = outcome.refusal.0;
+    if number != Refusal::ACCEPTED.0 {
+        return outcome;
+    }
+    judge_all(events, pairs, table, verdicts, duties, afters);
+    outcome
+}

@@ -1,0 +1,28 @@
+// One event judged on the set of its pair.
+use kinds::Duty;
+use kinds::Verdict;
+ghost use mathlib.Core.Path.{_≡_};
+ghost use Rattle.verdicts.specs.Verdicts.{finding};
+
+// What an event does to the set of its pair: the set after, the verdict, and who holds the duty.
+pub struct Finding {
+    pub after: u8,
+    pub verdict: Verdict,
+    pub duty: Duty,
+}
+
+// The event judged on a set: the one step of the judge.
+pub fn judge(event: &[u8], before: u8) -> Finding
+    ensures { λ r. ⌜ r ≡ finding (now (event .entry)) before ⌝ }
+{
+    let after = sets::apply(steps::sets_after(event), before);
+    let stepped = sets::choose(after == 0, Verdict::UNEXPLAINED.0, Verdict::EXPLAINED.0);
+    let verdict = sets::choose(before == 0, Verdict::NOT_JUDGED.0, stepped);
+    let told = steps::duty(event, before);
+    let duty = sets::choose(verdict == Verdict::EXPLAINED.0, told.0, Duty::NONE.0);
+    Finding {
+        after,
+        verdict: Verdict(verdict),
+        duty: Duty(duty),
+    }
+}
