@@ -2,3 +2,5 @@ pub mod RowLaw
 pub mod Told
 pub mod Judged
 pub mod Theorems
+pub mod OnTrace
+pub mod TraceTheorems

@@ -7,8 +7,8 @@ use mathlib.Core.List.{List}
 use Prim.Native.Nat.{ℕ, _+_, _^_, _<_}
 use native.Mathlib.Omega.{arith}
 use lib.Dec.{eqb}
-use Rattle.kinds.specs.Codes.{dirty, fwdPD}
-use Rattle.kinds.proofs.Lists.{each-state}
+use Rattle.kinds.specs.Codes.{states, dirty, fwdPD}
+use Rattle.kinds.proofs.Lists.{each-state, state-in, any-found, found-any, and-left, and-right, and-both}
 use Rattle.sets.specs.Sets.{one, bit, holdsDirty}
 use Rattle.rows.specs.Event.{fwdStateOf}
 use Rattle.steps.specs.Steps.{duty, noDuty, Home, Requester, lost}
@@ -97,10 +97,28 @@ nobody e a b law k =
     let w = zero-of-two (tellsHome e) (fwdTells e) (leaves-none a b (tellsHome e) (fwdTells e) (nonDataError e) (law .sum) k) in
     record { not-home = w .0; not-requester = sym (law .told) ∙ w .1; says = λ n m. untold-byte e m false (w .0) (w .1) n }
 
+-- the duty byte of a non-data error, from whatever set before: lost where that holds a Dirty state
+pub error-byte : (e : List ℕ) (m : ℕ) (a b : Bool) → Law e a b → nonDataError e ≡ true → duty e m ≡ cond (holdsDirty m) lost noDuty
+error-byte e m a b law n =
+    let w = zero-of-two (tellsHome e) (fwdTells e) (leaves-with-error a b (tellsHome e) (fwdTells e) (nonDataError e) (law .sum) n) in
+    untold-byte e m true (w .0) (w .1) n
+
+-- a Dirty state that is in a set
+pub holds-dirty : (m s : ℕ) → s < 7 → bit m s ≡ true → dirty s ≡ true → holdsDirty m ≡ true
+holds-dirty m s h b d = found-any (λ x. dirty x && bit m x) (state-in s h) (and-both d b)
+
+pub record DirtyIn (m : ℕ) : Type 0 where
+  pub state : ℕ
+  pub is-dirty : dirty state ≡ true
+  pub inside : bit m state ≡ true
+
+pub dirty-held : (m : ℕ) → holdsDirty m ≡ true → DirtyIn m
+dirty-held m h =
+    let f = any-found (λ x. dirty x && bit m x) states h in
+    record { state = f .one; is-dirty = and-left (dirty (f .one)) (bit m (f .one)) (f .passes); inside = and-right (dirty (f .one)) (bit m (f .one)) (f .passes) }
+
 pub lost-alone : (e : List ℕ) (s : ℕ) (b : Bool) → Law e (dirty s) b → s < 7 → nonDataError e ≡ true → duty e (2 ^ s) ≡ cond (dirty s) lost noDuty
-lost-alone e s b law h n =
-    let w = zero-of-two (tellsHome e) (fwdTells e) (leaves-with-error (dirty s) b (tellsHome e) (fwdTells e) (nonDataError e) (law .sum) n) in
-    untold-byte e (2 ^ s) true (w .0) (w .1) n ∙ ap (λ (x : Bool). cond x lost noDuty) (only-dirty s h)
+lost-alone e s b law h n = error-byte e (2 ^ s) (dirty s) b law n ∙ ap (λ (x : Bool). cond x lost noDuty) (only-dirty s h)
 
 -- the duty byte is not 0 exactly where a Dirty line ends not Dirty
 byte-of-law : (a b h r n : Bool) → one a ≡ one b + (one h + one r + one (n && a)) → eqb (cond h Home (cond r Requester (cond (n && a) lost noDuty))) 0 ≡ not (a && not b)

@@ -1,2 +1,3 @@
 pub mod Notebook
 pub mod Duties
+pub mod Traces

@@ -1,2 +1,4 @@
 pub mod Laws
 pub mod Turns
+pub mod Given
+pub mod Whole

@@ -1,0 +1,55 @@
+-- The set that events leave of a starting set holds exactly the states in which some history ends.
+-- Assumes nothing.
+use mathlib.Core.Path.{_≡_, refl, sym, _∙_, ap}
+use mathlib.Core.Bool.{Bool, true, false, true≢false}
+use mathlib.Core.List.{List, [], _∷_, _++_}
+use Prim.Native.Nat.{ℕ, _<_}
+use borrow.Author.Tests.{eqb-true, eqb-false}
+use lib.Dec.{eqb}
+use Rattle.sets.specs.Sets.{bit}
+use Rattle.sets.proofs.Laws.{Held, held-some, some-held}
+use Rattle.steps.specs.Steps.{Step}
+use Rattle.verdicts.specs.Verdicts.{after}
+use Rattle.verdicts.proofs.Laws.{From, after-below, after-from, from-after, after-some}
+use Rattle.histories.specs.Histories.{Through, done, then, History}
+
+-- the set after events, one after another
+abbrev pub walk : ℕ → List (List ℕ) → ℕ
+walk m [] = m
+walk m (e ∷ es) = walk (after e m) es
+
+pub walk-below : (m : ℕ) (es : List (List ℕ)) → m < 128 → walk m es < 128
+walk-below m [] h = h
+walk-below m (e ∷ es) h = walk-below (after e m) es (after-below e m)
+
+pub walk-append : (m : ℕ) (es fs : List (List ℕ)) → walk m (es ++ fs) ≡ walk (walk m es) fs
+walk-append m [] fs = refl
+walk-append m (e ∷ es) fs = walk-append (after e m) es fs
+
+-- BOTH WAYS: a state in the set is the end of a history
+pub ends : (m : ℕ) (es : List (List ℕ)) (s′ : ℕ) → bit (walk m es) s′ ≡ true → History m es s′
+ends m [] s′ h = record { from = s′; in-start = h; way = done }
+ends m (e ∷ es) s′ h =
+    let later = ends (after e m) es s′ h in
+    let f = after-from e m (later .from) (later .in-start) in
+    record { from = f .state; in-start = f .inside; way = then (f .step) (later .way) }
+
+-- and the end of a history is in the set
+way-ends : {es : List (List ℕ)} {s s′ : ℕ} (m : ℕ) → bit m s ≡ true → Through es s s′ → bit (walk m es) s′ ≡ true
+way-ends m h done = h
+way-ends m h (then {e = e} {s = s} {s₁ = s₁} step rest) = way-ends (after e m) (from-after (record { state = s; inside = h; step = step })) rest
+
+pub ends-in : (m : ℕ) (es : List (List ℕ)) (s′ : ℕ) → History m es s′ → bit (walk m es) s′ ≡ true
+ends-in m es s′ h = way-ends m (h .in-start) (h .way)
+
+-- from the empty set nothing comes
+pub after-empty : (e : List ℕ) → after e 0 ≡ 0
+after-empty e = go (eqb (after e 0) 0) refl
+  where
+    go : (b : Bool) → eqb (after e 0) 0 ≡ b → after e 0 ≡ 0
+    go true h = eqb-true (after e 0) 0 h
+    go false h = absurd (held-some (after-some e 0 (some-held (after e 0) (after-below e 0) (eqb-false (after e 0) 0 h))) refl)
+
+pub walk-empty : (es : List (List ℕ)) → walk 0 es ≡ 0
+walk-empty [] = refl
+walk-empty (e ∷ es) = ap (λ (m : ℕ). walk m es) (after-empty e) ∙ walk-empty es

@@ -1,0 +1,172 @@
+-- What comes back from an accepted trace, event by event and pair by pair, in terms of the sets that histories leave.
+-- Assumes nothing.
+use mathlib.Core.Path.{_≡_, refl, sym, _∙_, ap, subst}
+use mathlib.Core.Logic.{_↔_, _⊎_, inl, inr, ⊎-elim}
+use mathlib.Core.Bool.{Bool, true, false, cond, true≢false}
+use mathlib.Core.List.{List}
+use Prim.Native.Nat.{ℕ, suc, _<_}
+use native.Mathlib.Omega.{arith}
+use borrow.Author.Tests.{eqb-true, eqb-false, eq-eqb, ne-eqb}
+use lib.Dec.{eqb}
+use lib.ListN.{length, getD}
+use Rattle.kinds.specs.Codes.{dirty}
+use Rattle.kinds.specs.Places.{setIn, pairIn, eventIn}
+use Rattle.sets.specs.Sets.{bit, holdsDirty}
+use Rattle.steps.specs.Steps.{Step, duty, noDuty, Home, Requester, lost}
+use Rattle.steps.proofs.Stepping.{permitted-before}
+use Rattle.event.specs.Refusals.{issueE}
+use Rattle.verdicts.specs.Verdicts.{after, verdict, dutyByte, explained, unexplained, notJudged}
+use Rattle.verdicts.proofs.Laws.{From, from-after, is-explained}
+use Rattle.sets.proofs.Laws.{bit-state, held-some, some-held}
+use Rattle.trace.specs.declared.Outcome.{Outcome}
+use Rattle.trace.specs.Lent.{Lent, Left, count}
+use Rattle.trace.specs.Refusals.{outcomeOf}
+use Rattle.trace.specs.Given.{Reached}
+use Rattle.trace.specs.Judged.{judged, acceptedLeft}
+use Rattle.trace.proofs.Whole.{judged-outcome, judged-accepted, accepted-reached}
+use Rattle.histories.specs.Histories.{own, first, HistoryTo, SomeHistory, Passes, VerdictGiven, passed, stopped, not-reached}
+use Rattle.histories.proofs.Walk.{ends, ends-in}
+use Rattle.histories.proofs.At.{setBefore, set-lost, set-below, byte-at, after-at, table-at, pair-in, held-history, history-held, verdict-given, gives-verdict}
+use Rattle.theorems.specs.Duties.{nonDataError, HomeHolds, RequesterHolds}
+use Rattle.theorems.specs.Traces.{Accepted, verdictByte, dutyOf, afterByte, endSet, pairOf, eventOf, DutySaid, DirtyReaches}
+use Rattle.theorems.proofs.Told.{law, exactly-one, error-byte, holds-dirty, dirty-held}
+
+-- a state of the set of a pair, and a history of that pair that ends in it
+pub set-history : (l : Lent) (p k s : ℕ) → bit (setBefore l p k) s ≡ true ↔ HistoryTo l p k s
+set-history l p k s = (ends (setIn (l .table) p) (own p (first l k)) s, ends-in (setIn (l .table) p) (own p (first l k)) s)
+
+-- a byte that is a set, read as that set
+pub read-set : (l : Lent) (p k s byte : ℕ) → byte ≡ setBefore l p k → bit byte s ≡ true ↔ HistoryTo l p k s
+read-set l p k s byte h =
+    (λ b. set-history l p k s .0 (ap (λ (m : ℕ). bit m s) (sym h) ∙ b), λ y. ap (λ (m : ℕ). bit m s) h ∙ set-history l p k s .1 y)
+
+-- a set in which no history ends is empty
+none-ends : (l : Lent) (p k : ℕ) → setBefore l p k < 128 → (SomeHistory l p k → ⊥) → setBefore l p k ≡ 0
+none-ends l p k below none = go (eqb (setBefore l p k) 0) refl
+  where
+    go : (b : Bool) → eqb (setBefore l p k) 0 ≡ b → setBefore l p k ≡ 0
+    go true q = eqb-true (setBefore l p k) 0 q
+    go false q = absurd (none (held-history l p k (some-held (setBefore l p k) below (eqb-false (setBefore l p k) 0 q))))
+
+-- no history passes an unexplained event
+none-passes : {l : Lent} {k v : ℕ} → VerdictGiven l k v → v ≡ unexplained → Passes l k → ⊥
+none-passes (passed x) h = absurd (omega arith)
+none-passes (stopped x none) h = none
+none-passes (not-reached x) h = absurd (omega arith)
+
+module _ (l : Lent) (ok : Accepted l) where
+  number-0 : outcomeOf issueE l .refusal .0 ≡ 0
+  number-0 = sym (ap (λ (o : Outcome). o .refusal .0) (judged-outcome issueE l)) ∙ ok
+
+  pub good : Reached issueE l (count l)
+  good = accepted-reached issueE l number-0
+
+  all-left : judged issueE l ≡ acceptedLeft (outcomeOf issueE l) l
+  all-left = judged-accepted issueE l number-0
+
+  pub end-set : (p : ℕ) → p < length (l .table) → endSet l p ≡ setBefore l p (count l)
+  end-set p h = ap (λ (x : Left). getD (x .table) p 0) all-left ∙ table-at issueE l good p h
+
+  pub after-byte : (k : ℕ) → k < count l → afterByte l k ≡ setBefore l (pairOf l k) (suc k)
+  after-byte k h = ap (λ (x : Left). getD (x .afters) k 0) all-left ∙ after-at issueE l good k h
+
+  pub verdicts-left : (k : ℕ) → verdictByte l k ≡ getD (acceptedLeft (outcomeOf issueE l) l .verdicts) k 0
+  verdicts-left k = ap (λ (x : Left). getD (x .verdicts) k 0) all-left
+
+  pub verdict-row : (k : ℕ) → k < count l → VerdictGiven l k (verdictByte l k)
+  verdict-row k h = subst (VerdictGiven l k) (sym (verdicts-left k)) (verdict-given issueE l good k h)
+
+  -- the set of a pair is empty from an unexplained event on
+  pub empty-after : (k : ℕ) → k < count l → verdictByte l k ≡ unexplained → (j : ℕ) → k < j → setBefore l (pairOf l k) j ≡ 0
+  empty-after k h v j below =
+      set-lost l (pairOf l k) (suc k) j below
+      (none-ends l (pairOf l k) (suc k) (set-below issueE l good (pairOf l k) (suc k) (pair-in issueE l good k h)) (none-passes (verdict-row k h) v))
+
+  -- an event that nothing reaches isn't judged
+  pub unreached : (k : ℕ) → k < count l → setBefore l (pairOf l k) k ≡ 0 → verdictByte l k ≡ notJudged
+  unreached k h z = verdicts-left k ∙ gives-verdict issueE l good k h (not-reached (λ s. held-some (history-held s) z))
+
+  module _ (k : ℕ) (inside : k < count l) where
+    abbrev m : ℕ
+    m = setBefore l (pairOf l k) k
+
+    verdict-byte : verdictByte l k ≡ verdict (eventOf l k) m
+    verdict-byte = verdicts-left k ∙ byte-at issueE l good verdict k inside
+
+    duty-byte : dutyOf l k ≡ dutyByte (eventOf l k) m
+    duty-byte = ap (λ (x : Left). getD (x .duties) k 0) all-left ∙ byte-at issueE l good dutyByte k inside
+
+    -- the duty byte of an explained event, and of any other
+    explained-byte : verdictByte l k ≡ explained → dutyOf l k ≡ duty (eventOf l k) m
+    unfolding dutyByte
+    explained-byte h = duty-byte ∙ ap (λ (b : Bool). cond b (duty (eventOf l k) m) noDuty) (eq-eqb (verdict (eventOf l k) m) explained (sym verdict-byte ∙ h))
+
+    pub silent-byte : (verdictByte l k ≡ explained → ⊥) → dutyOf l k ≡ noDuty
+    unfolding dutyByte
+    silent-byte h = duty-byte ∙ ap (λ (b : Bool). cond b (duty (eventOf l k) m) noDuty) (ne-eqb (verdict (eventOf l k) m) explained (λ z. h (verdict-byte ∙ z)))
+
+    pub said : verdictByte l k ≡ explained → DutySaid l k (dutyOf l k)
+    said h = record { before = m; exactly = set-history l (pairOf l k) k; says = explained-byte h }
+
+    -- an event that a history passes is explained
+    pub passes-explained : (s s′ : ℕ) → HistoryTo l (pairOf l k) k s → Step (eventOf l k) s s′ → verdictByte l k ≡ explained
+    passes-explained s s′ h p =
+        verdict-byte
+        ∙ is-explained (eventOf l k) m (set-below issueE l good (pairOf l k) k (pair-in issueE l good k inside))
+          (record { state = s′; inside = from-after came })
+      where
+        came : From (eventOf l k) m s′
+        came = record { state = s; inside = set-history l (pairOf l k) k s .1 h; step = p }
+
+    -- DEMAND 2'S CLAUSE in a trace
+    pub handed-over : (s s′ : ℕ) → HistoryTo l (pairOf l k) k s → Step (eventOf l k) s s′ → dirty s ≡ true → dirty s′ ≡ false → nonDataError (eventOf l k) ≡ false
+        → (HomeHolds (eventOf l k) × (dutyOf l k ≡ Home)) ⊎ (RequesterHolds (eventOf l k) × (dutyOf l k ≡ Requester))
+    handed-over s s′ h p d d′ n =
+        ⊎-elim
+        (λ w. inl (w, byte ∙ w .says m))
+        (λ w. inr (w, byte ∙ w .says m))
+        (exactly-one (eventOf l k) (dirty s) (dirty s′) (law (eventOf l k) (p .tag) s s′ (p .by-rows)) d d′ n)
+      where
+        byte : dutyOf l k ≡ duty (eventOf l k) m
+        byte = explained-byte (passes-explained s s′ h p)
+
+    -- a non-data error on an explained event: the byte asks whether a history reaches it with a Dirty line
+    error-at : (s s′ : ℕ) → HistoryTo l (pairOf l k) k s → Step (eventOf l k) s s′ → nonDataError (eventOf l k) ≡ true → dutyOf l k ≡ cond (holdsDirty m) lost noDuty
+    error-at s s′ h p n = explained-byte (passes-explained s s′ h p) ∙ error-byte (eventOf l k) m (dirty s) (dirty s′) (law (eventOf l k) (p .tag) s s′ (p .by-rows)) n
+
+    dirty-before : (s : ℕ) → HistoryTo l (pairOf l k) k s → dirty s ≡ true → holdsDirty m ≡ true
+    dirty-before s h d =
+        let b = set-history l (pairOf l k) k s .1 h in
+        holds-dirty m s (bit-state m s (set-below issueE l good (pairOf l k) k (pair-in issueE l good k inside)) b) b d
+
+    pub lost-at : (s s′ : ℕ) → HistoryTo l (pairOf l k) k s → Step (eventOf l k) s s′ → nonDataError (eventOf l k) ≡ true → (dutyOf l k ≡ lost) ↔ DirtyReaches l k
+    lost-at s s′ h p n = (there, back)
+      where
+        there : dutyOf l k ≡ lost → DirtyReaches l k
+        there q = go (holdsDirty m) refl
+          where
+            go : (b : Bool) → holdsDirty m ≡ b → DirtyReaches l k
+            go true b =
+                let f = dirty-held m b in
+                record { state = f .state; is-dirty = f .is-dirty; history = set-history l (pairOf l k) k (f .state) .0 (f .inside) }
+            go false b =
+                let wrong : _≡_ {A = ℕ} lost noDuty = sym q ∙ error-at s s′ h p n ∙ ap (λ (x : Bool). cond x lost noDuty) b in
+                absurd (omega arith)
+        back : DirtyReaches l k → dutyOf l k ≡ lost
+        back r = error-at s s′ h p n ∙ ap (λ (x : Bool). cond x lost noDuty) (dirty-before (r .state) (r .history) (r .is-dirty))
+
+    -- nothing told of an explained event: no history gives up a Dirty line there
+    pub kept-dirty : (s s′ : ℕ) → HistoryTo l (pairOf l k) k s → Step (eventOf l k) s s′ → dutyOf l k ≡ noDuty → dirty s ≡ true → dirty s′ ≡ true
+    kept-dirty s s′ h p z d = go (dirty s′) (nonDataError (eventOf l k)) refl refl
+      where
+        go : (b n : Bool) → dirty s′ ≡ b → nonDataError (eventOf l k) ≡ n → b ≡ true
+        go true n q r = refl
+        go false true q r =
+            let wrong : _≡_ {A = ℕ} noDuty lost = sym z ∙ lost-at s s′ h p r .1 (record { state = s; is-dirty = d; history = h }) in
+            absurd (omega arith)
+        go false false q r =
+            absurd
+            (⊎-elim
+            (λ w. let wrong : _≡_ {A = ℕ} noDuty Home = sym z ∙ w .1 in absurd (omega arith))
+            (λ w. let wrong : _≡_ {A = ℕ} noDuty Requester = sym z ∙ w .1 in absurd (omega arith))
+            (handed-over s s′ h p d q r))

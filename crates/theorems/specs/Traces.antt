@@ -1,0 +1,66 @@
+-- What the theorems about a whole trace speak of.
+use Prim.Native.Nat.{ℕ}
+use mathlib.Core.Path.{_≡_}
+use mathlib.Core.Logic.{_↔_}
+use mathlib.Core.Bool.{true}
+use mathlib.Core.List.{List, [], _∷_, _++_}
+use lib.ListN.{getD, take}
+use Rattle.kinds.specs.Codes.{I, dirty, tagInvalid, opInvalid, OK, SnpShared, SnpClean}
+use Rattle.kinds.specs.Answers.{SnpResp-I, SnpRespData-SC, SnpRespData-SD, SnpRespData-SC-PD}
+use Rattle.kinds.specs.Places.{pairIn, eventIn}
+use Rattle.sets.specs.Sets.{bit}
+use Rattle.steps.specs.Steps.{duty}
+use Rattle.event.specs.Refusals.{issueE}
+use Rattle.trace.specs.Lent.{Lent, lent}
+use Rattle.trace.specs.Judged.{judged}
+use Rattle.histories.specs.Histories.{HistoryTo}
+use Rattle.theorems.specs.Notebook.{event}
+
+-- the call is accepted: its number is 0
+abbrev pub Accepted : Lent → Type 0
+Accepted l = judged issueE l .outcome .refusal .0 ≡ 0
+
+-- what comes back for event k: its verdict, its duty and its after-set
+abbrev pub verdictByte : Lent → ℕ → ℕ
+verdictByte l k = getD (judged issueE l .verdicts) k 0
+
+abbrev pub dutyOf : Lent → ℕ → ℕ
+dutyOf l k = getD (judged issueE l .duties) k 0
+
+abbrev pub afterByte : Lent → ℕ → ℕ
+afterByte l k = getD (judged issueE l .afters) k 0
+
+-- what comes back for pair p: its set at the end
+abbrev pub endSet : Lent → ℕ → ℕ
+endSet l p = getD (judged issueE l .table) p 0
+
+-- the pair and the bytes of event k
+abbrev pub pairOf : Lent → ℕ → ℕ
+pairOf l k = pairIn (l .pairs) k
+
+abbrev pub eventOf : Lent → ℕ → List ℕ
+eventOf l k = eventIn (l .events) k
+
+-- d is the page's duty byte of event k, asked of the set before: the states in which the histories end that reach the event
+pub record DutySaid (l : Lent) (k d : ℕ) : Type 0 where
+  pub before : ℕ
+  pub exactly : (s : ℕ) → bit before s ≡ true ↔ HistoryTo l (pairOf l k) k s
+  pub says : d ≡ duty (eventOf l k) before
+
+-- a history that reaches event k with a Dirty line
+pub record DirtyReaches (l : Lent) (k : ℕ) : Type 0 where
+  pub state : ℕ
+  pub is-dirty : dirty state ≡ true
+  pub history : HistoryTo l (pairOf l k) k state
+
+-- The four lines of the page's sheet as a trace: one pair, from all seven states; the last line saw the state after, I.
+abbrev sheetEvents : List ℕ
+sheetEvents =
+    event SnpShared 0 0 0 tagInvalid SnpRespData-SC-PD opInvalid OK
+    ++ event SnpShared 1 0 0 tagInvalid SnpRespData-SC opInvalid OK
+    ++ event SnpClean 0 0 0 tagInvalid SnpRespData-SD opInvalid OK
+    ++ take 13 (event SnpClean 0 0 0 tagInvalid SnpResp-I opInvalid OK)
+    ++ (I ∷ [])
+
+abbrev pub sheet : Lent
+sheet = lent sheetEvents (0 ∷ 0 ∷ 0 ∷ 0 ∷ []) (127 ∷ []) (9 ∷ 9 ∷ 9 ∷ 9 ∷ []) (9 ∷ 9 ∷ 9 ∷ 9 ∷ []) (9 ∷ 9 ∷ 9 ∷ 9 ∷ [])

@@ -1,0 +1,210 @@
+-- The outcome of a trace is the row of the refusal table that is given, and each row that is given is the outcome.
+-- Assumes nothing.
+use mathlib.Core.Path.{_≡_, refl, sym, _∙_, ap, ap₂, subst}
+use mathlib.Core.Bool.{Bool, true, false, cond, not, true≢false, false≢true}
+use mathlib.Core.List.{List}
+use Prim.Native.Nat.{ℕ, zero, suc, _+_, _<_, _≤_}
+use native.Mathlib.Omega.{arith}
+use native.Mathlib.Nat.{add-zero, zero-add}
+use borrow.Author.Tests.{lt-ltb, le-ltb, ltb-true, ltb-false, eqb-true, eqb-false, not-false}
+use lib.Dec.{eqb, ltb}
+use lib.ListN.{length}
+use Rattle.kinds.specs.Tests.{_∈?_}
+use Rattle.kinds.specs.Places.{setIn, pairIn, eventIn}
+use Rattle.rows.specs.Event.{requestOf}
+use Rattle.event.specs.Refusals.{Issue, below, fault}
+use Rattle.trace.specs.declared.Outcome.{Outcome}
+use Rattle.trace.specs.Lent.{Lent, count}
+use Rattle.trace.specs.Refusals.{answer, lengthsFit, firstFrom, badSet, lowestSet, faultAt, badEvent, firstEvent, byEvents, outcomeOf}
+use Rattle.trace.specs.Given.{Fits, SetGood, EventGood, Reached, Given, accepted, bad-lengths, bad-set, bad-pair, bad-byte, bad-request}
+use Rattle.trace.proofs.Laws.{fits, fit, by-stages, refused-lengths, refused-set, left-to-events, refused-event, no-event}
+
+-- The first number that passes: nothing before it passes, it passes where it is one of them, and no other number is so.
+before-first : (p : ℕ → Bool) (i n j : ℕ) → i ≤ j → j < firstFrom p i n → p j ≡ false
+before-first p i zero j h k = absurd (omega arith)
+before-first p i (suc n) j h k = go (p i) refl k (before-first p (suc i) n j)
+  where
+    go : (b : Bool) → p i ≡ b → j < cond b i (firstFrom p (suc i) n) → (suc i ≤ j → j < firstFrom p (suc i) n → p j ≡ false) → p j ≡ false
+    go true q l f = absurd (omega arith)
+    go false q l f = split (eqb i j) refl
+      where
+        split : (b : Bool) → eqb i j ≡ b → p j ≡ false
+        split true e = ap p (sym (eqb-true i j e)) ∙ q
+        split false e = f (omega (arith, eqb-false i j e)) l
+
+first-passes : (p : ℕ → Bool) (i n : ℕ) → firstFrom p i n < i + n → p (firstFrom p i n) ≡ true
+first-passes p i zero h = absurd (omega arith)
+first-passes p i (suc n) h = go (p i) refl h (first-passes p (suc i) n)
+  where
+    go : (b : Bool) → p i ≡ b → cond b i (firstFrom p (suc i) n) < i + suc n → (firstFrom p (suc i) n < suc i + n → p (firstFrom p (suc i) n) ≡ true)
+        → p (cond b i (firstFrom p (suc i) n)) ≡ true
+    go true q l f = q
+    go false q l f = f (omega arith)
+
+first-at-most : (p : ℕ → Bool) (i n : ℕ) → firstFrom p i n ≤ i + n
+first-at-most p i zero = omega arith
+first-at-most p i (suc n) = go (p i) (first-at-most p (suc i) n)
+  where
+    go : (b : Bool) → firstFrom p (suc i) n ≤ suc i + n → cond b i (firstFrom p (suc i) n) ≤ i + suc n
+    go true l = omega arith
+    go false l = omega arith
+
+first-is : (p : ℕ → Bool) (i n k : ℕ) → i ≤ k → k < i + n → ((j : ℕ) → i ≤ j → j < k → p j ≡ false) → p k ≡ true → firstFrom p i n ≡ k
+first-is p i zero k h l none passes = absurd (omega arith)
+first-is p i (suc n) k h l none passes = go (eqb i k) refl (first-is p (suc i) n k)
+  where
+    go : (b : Bool) → eqb i k ≡ b
+        → (suc i ≤ k → k < suc i + n → ((j : ℕ) → suc i ≤ j → j < k → p j ≡ false) → p k ≡ true → firstFrom p (suc i) n ≡ k)
+        → cond (p i) i (firstFrom p (suc i) n) ≡ k
+    go true e f =
+        ap (λ (b : Bool). cond b i (firstFrom p (suc i) n)) (ap p (eqb-true i k e) ∙ passes)
+        ∙ eqb-true i k e
+    go false e f =
+        ap (λ (b : Bool). cond b i (firstFrom p (suc i) n)) (none i (omega arith) (omega (arith, eqb-false i k e)))
+        ∙ f (omega (arith, eqb-false i k e)) (omega arith) (λ j a b. none j (omega arith) b) passes
+
+first-none : (p : ℕ → Bool) (i n : ℕ) → ((j : ℕ) → i ≤ j → j < i + n → p j ≡ false) → firstFrom p i n ≡ i + n
+first-none p i zero none = omega arith
+first-none p i (suc n) none =
+    ap (λ (b : Bool). cond b i (firstFrom p (suc i) n)) (none i (omega arith) (omega arith))
+    ∙ first-none p (suc i) n (λ j a b. none j (omega arith) (omega arith))
+    ∙ omega arith
+
+-- The refusal of one event, by the three tests.
+module _ (issue : Issue) (l : Lent) (k : ℕ) where
+  abbrev faultOf : ℕ
+  faultOf = faultAt issue (l .events) (l .pairs) (l .table) k
+
+  by-tests : (a b c : Bool) → ltb (pairIn (l .pairs) k) (length (l .table)) ≡ a → below (eventIn (l .events) k) 1 (issue .limits) ≡ b
+      → requestOf (eventIn (l .events) k) ∈? issue .requests ≡ c → faultOf ≡ cond a (cond b (cond c 0 5) 4) 3
+  unfolding faultAt fault
+  by-tests a b c p q r =
+      ap (λ (x : Bool). cond x (fault issue (eventIn (l .events) k)) 3) p
+      ∙ ap₂ (λ (x y : Bool). cond a (cond x (cond y 0 5) 4) 3) q r
+
+  good-event : EventGood issue l k → faultOf ≡ 0
+  good-event g = by-tests true true true (lt-ltb (pairIn (l .pairs) k) (length (l .table)) (g .pair-good)) (g .in-range) (g .request-known)
+
+  event-good : faultOf ≡ 0 → EventGood issue l k
+  event-good h = go (ltb (pairIn (l .pairs) k) (length (l .table))) (below (eventIn (l .events) k) 1 (issue .limits)) (requestOf (eventIn (l .events) k) ∈? issue .requests) refl refl refl
+    where
+      go : (a b c : Bool) → ltb (pairIn (l .pairs) k) (length (l .table)) ≡ a → below (eventIn (l .events) k) 1 (issue .limits) ≡ b
+          → requestOf (eventIn (l .events) k) ∈? issue .requests ≡ c → EventGood issue l k
+      go true true true p q r = record { pair-good = ltb-true (pairIn (l .pairs) k) (length (l .table)) p; in-range = q; request-known = r }
+      go true true false p q r = absurd (omega (arith, by-tests true true false p q r))
+      go true false c p q r = absurd (omega (arith, by-tests true false c p q r))
+      go false b c p q r = absurd (omega (arith, by-tests false b c p q r))
+
+  bad-row : not (eqb faultOf 0) ≡ true → Reached issue l k → k < count l → Given issue l faultOf k
+  bad-row h reached inside =
+      go (ltb (pairIn (l .pairs) k) (length (l .table))) (below (eventIn (l .events) k) 1 (issue .limits)) (requestOf (eventIn (l .events) k) ∈? issue .requests) refl refl refl
+    where
+      go : (a b c : Bool) → ltb (pairIn (l .pairs) k) (length (l .table)) ≡ a → below (eventIn (l .events) k) 1 (issue .limits) ≡ b
+          → requestOf (eventIn (l .events) k) ∈? issue .requests ≡ c → Given issue l faultOf k
+      go true true true p q r = absurd (true≢false (sym h ∙ ap (λ (n : ℕ). not (eqb n 0)) (by-tests true true true p q r)))
+      go true true false p q r =
+          subst (λ (n : ℕ). Given issue l n k) (sym (by-tests true true false p q r))
+          (bad-request reached inside (ltb-true (pairIn (l .pairs) k) (length (l .table)) p) q r)
+      go true false c p q r =
+          subst (λ (n : ℕ). Given issue l n k) (sym (by-tests true false c p q r))
+          (bad-byte reached inside (ltb-true (pairIn (l .pairs) k) (length (l .table)) p) q)
+      go false b c p q r =
+          subst (λ (n : ℕ). Given issue l n k) (sym (by-tests false b c p q r))
+          (bad-pair reached inside (ltb-false (pairIn (l .pairs) k) (length (l .table)) p))
+
+module _ (issue : Issue) (l : Lent) where
+  abbrev bad : ℕ → Bool
+  bad = badEvent issue (l .events) (l .pairs) (l .table)
+
+  abbrev firstBad : ℕ
+  firstBad = firstEvent issue (l .events) (l .pairs) (l .table)
+
+  -- an event that isn't bad is good, and a good one isn't bad
+  good-of : (k : ℕ) → bad k ≡ false → EventGood issue l k
+  good-of k h = event-good issue l k (eqb-true (faultOf issue l k) 0 (not-false (eqb (faultOf issue l k) 0) h))
+
+  good-not-bad : (k : ℕ) → EventGood issue l k → bad k ≡ false
+  good-not-bad k g = ap (λ (n : ℕ). not (eqb n 0)) (good-event issue l k g)
+
+  -- a set that isn't above 127 is good, and a good one isn't above
+  set-of : (p : ℕ) → badSet (l .table) p ≡ false → SetGood l p
+  set-of p h = ltb-false 127 (setIn (l .table) p) h
+
+  -- THE ROW OF THE OUTCOME: it is given.
+  pub given : Given issue l (outcomeOf issue l .refusal .0) (outcomeOf issue l .place)
+  given = go (lengthsFit l) (ltb (lowestSet (l .table)) (length (l .table))) (ltb firstBad (length (l .pairs))) refl refl refl
+    where
+      at : (o : Outcome) → o ≡ outcomeOf issue l → Given issue l (o .refusal .0) (o .place) → Given issue l (outcomeOf issue l .refusal .0) (outcomeOf issue l .place)
+      at o h g = subst (λ (x : Outcome). Given issue l (x .refusal .0) (x .place)) h g
+      sets : (a : ltb (lowestSet (l .table)) (length (l .table)) ≡ false) → (p : ℕ) → p < length (l .table) → SetGood l p
+      sets a p k = set-of p (before-first (badSet (l .table)) 0 (length (l .table)) p (omega arith) (omega (arith, ltb-false (lowestSet (l .table)) (length (l .table)) a)))
+      reached : (k : ℕ) → Fits l → ltb (lowestSet (l .table)) (length (l .table)) ≡ false → k ≤ firstBad → Reached issue l k
+      reached k f a h =
+          record { fits = f; sets-good = sets a; events-good = λ j b. good-of j (before-first bad 0 (length (l .pairs)) j (omega arith) (omega arith)) }
+      go : (a b c : Bool) → lengthsFit l ≡ a → ltb (lowestSet (l .table)) (length (l .table)) ≡ b → ltb firstBad (length (l .pairs)) ≡ c
+          → Given issue l (outcomeOf issue l .refusal .0) (outcomeOf issue l .place)
+      go false b c p q r = at (answer 1 0) (refused-lengths issue l false (sym p) refl) (bad-lengths (λ f. true≢false (sym (fit l f) ∙ p)))
+      go true true c p q r =
+          let low = lowestSet (l .table) in
+          let k = ltb-true low (length (l .table)) q in
+          at (answer 2 low) (refused-set issue l true low (sym p) refl refl k)
+          (bad-set (fits l p) k
+          (λ g. absurd (omega (arith, g, ltb-true 127 (setIn (l .table) low) (first-passes (badSet (l .table)) 0 (length (l .table)) (omega arith)))))
+          (λ i h. set-of i (before-first (badSet (l .table)) 0 (length (l .table)) i (omega arith) h)))
+      go true false true p q r =
+          let f = fits l p in
+          let k = ltb-true firstBad (length (l .pairs)) r in
+          at (answer (faultOf issue l firstBad) firstBad)
+          (left-to-events issue l true (lowestSet (l .table)) (answer (faultOf issue l firstBad) firstBad) (sym p) refl refl (ltb-false (lowestSet (l .table)) (length (l .table)) q)
+          (refused-event issue (l .events) (l .pairs) (l .table) firstBad (faultOf issue l firstBad) refl k refl))
+          (bad-row issue l firstBad (first-passes bad 0 (length (l .pairs)) (omega arith)) (reached firstBad f q (omega arith)) (omega (arith, f .pairs-fit)))
+      go true false false p q r =
+          let f = fits l p in
+          let k = ltb-false firstBad (length (l .pairs)) r in
+          at (answer 0 (count l))
+          (ap (answer 0) (sym (f .pairs-fit))
+          ∙ left-to-events issue l true (lowestSet (l .table)) (answer 0 (length (l .pairs))) (sym p) refl refl (ltb-false (lowestSet (l .table)) (length (l .table)) q)
+          (no-event issue (l .events) (l .pairs) (l .table) firstBad refl k))
+          (accepted (reached (count l) f q (omega (arith, f .pairs-fit))))
+
+  -- the events are reached: no set is above 127
+  table-good : {k : ℕ} → Reached issue l k → lowestSet (l .table) ≡ length (l .table)
+  table-good r =
+      first-none (badSet (l .table)) 0 (length (l .table)) (λ p a b. le-ltb 127 (setIn (l .table) p) (r .sets-good p (omega arith)))
+      ∙ zero-add (length (l .table))
+
+  -- event k is the first that is refused
+  event-row : (k number : ℕ) → Reached issue l k → k < count l → faultOf issue l k ≡ number → not (eqb number 0) ≡ true → answer number k ≡ outcomeOf issue l
+  event-row k number r h e n =
+      let is : firstBad ≡ k =
+            first-is bad 0 (length (l .pairs)) k (omega arith) (omega (arith, r .fits .pairs-fit)) (λ j a b. good-not-bad j (r .events-good j b)) (ap (λ (x : ℕ). not (eqb x 0)) e ∙ n) in
+      left-to-events issue l true (length (l .table)) (answer number k) (sym (fit l (r .fits))) refl (sym (table-good r)) (omega arith)
+      (refused-event issue (l .events) (l .pairs) (l .table) k number (sym is) (omega (arith, r .fits .pairs-fit)) (sym e))
+
+  -- EACH ROW THAT IS GIVEN is the outcome.
+  pub gives : {number place : ℕ} → Given issue l number place → answer number place ≡ outcomeOf issue l
+  gives (accepted r) =
+      let is : firstBad ≡ length (l .pairs) =
+            first-none bad 0 (length (l .pairs)) (λ j a b. good-not-bad j (r .events-good j (omega (arith, r .fits .pairs-fit)))) ∙ zero-add (length (l .pairs)) in
+      ap (answer 0) (sym (r .fits .pairs-fit))
+      ∙ left-to-events issue l true (length (l .table)) (answer 0 (length (l .pairs))) (sym (fit l (r .fits))) refl (sym (table-good r)) (omega arith)
+        (no-event issue (l .events) (l .pairs) (l .table) (length (l .pairs)) (sym is) (omega arith))
+  gives (bad-lengths n) = go (lengthsFit l) refl
+    where
+      go : (b : Bool) → lengthsFit l ≡ b → answer 1 0 ≡ outcomeOf issue l
+      go true h = absurd (n (fits l h))
+      go false h = refused-lengths issue l false (sym h) refl
+  gives (bad-set {p} f h n least) =
+      refused-set issue l true p (sym (fit l f)) refl
+      (sym (first-is (badSet (l .table)) 0 (length (l .table)) p (omega arith) (omega arith) (λ j a b. le-ltb 127 (setIn (l .table) j) (least j b)) (above (badSet (l .table) p) refl)))
+      h
+    where
+      above : (b : Bool) → badSet (l .table) p ≡ b → b ≡ true
+      above true q = refl
+      above false q = absurd (n (set-of p q))
+  gives (bad-pair {k} r h a) =
+      event-row k 3 r h (by-tests issue l k false (below (eventIn (l .events) k) 1 (issue .limits)) (requestOf (eventIn (l .events) k) ∈? issue .requests) (le-ltb (pairIn (l .pairs) k) (length (l .table)) a) refl refl) refl
+  gives (bad-byte {k} r h a b) =
+      event-row k 4 r h (by-tests issue l k true false (requestOf (eventIn (l .events) k) ∈? issue .requests) (lt-ltb (pairIn (l .pairs) k) (length (l .table)) a) b refl) refl
+  gives (bad-request {k} r h a b d) =
+      event-row k 5 r h (by-tests issue l k true true false (lt-ltb (pairIn (l .pairs) k) (length (l .table)) a) b d) refl

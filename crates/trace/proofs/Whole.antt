@@ -1,0 +1,48 @@
+-- What is left of a trace, refused or accepted, and what an accepted one is known to be.
+-- Assumes nothing.
+use mathlib.Core.Path.{_≡_, refl, sym, _∙_, ap}
+use mathlib.Core.Bool.{Bool, true, false, cond}
+use Prim.Native.Nat.{ℕ}
+use native.Mathlib.Omega.{arith}
+use borrow.Author.Tests.{eq-eqb, ne-eqb}
+use lib.Dec.{eqb}
+use Rattle.event.specs.Refusals.{Issue}
+use Rattle.trace.specs.declared.Outcome.{Outcome}
+use Rattle.trace.specs.Lent.{Lent, Left, count}
+use Rattle.trace.specs.Refusals.{outcomeOf}
+use Rattle.trace.specs.Given.{Reached, Given, accepted, bad-lengths, bad-set, bad-pair, bad-byte, bad-request}
+use Rattle.trace.specs.Judged.{accepts, acceptedLeft, refusedLeft, judged}
+use Rattle.trace.proofs.Given.{given}
+
+module _ (issue : Issue) (l : Lent) where
+  by-acceptance : (b : Bool) → accepts issue l ≡ b → judged issue l ≡ cond b (acceptedLeft (outcomeOf issue l) l) (refusedLeft (outcomeOf issue l) l)
+  unfolding judged
+  by-acceptance b h = ap (λ (x : Bool). cond x (acceptedLeft (outcomeOf issue l) l) (refusedLeft (outcomeOf issue l) l)) h
+
+  -- the answer is the outcome, either way
+  pub judged-outcome : judged issue l .outcome ≡ outcomeOf issue l
+  judged-outcome = go (accepts issue l) refl
+    where
+      go : (b : Bool) → accepts issue l ≡ b → judged issue l .outcome ≡ outcomeOf issue l
+      go true h = ap (λ (x : Left). x .outcome) (by-acceptance true h)
+      go false h = ap (λ (x : Left). x .outcome) (by-acceptance false h)
+
+  pub judged-accepted : outcomeOf issue l .refusal .0 ≡ 0 → judged issue l ≡ acceptedLeft (outcomeOf issue l) l
+  unfolding accepts
+  judged-accepted h = by-acceptance true (eq-eqb (outcomeOf issue l .refusal .0) 0 h)
+
+  pub judged-refused : (outcomeOf issue l .refusal .0 ≡ 0 → ⊥) → judged issue l ≡ refusedLeft (outcomeOf issue l) l
+  unfolding accepts
+  judged-refused h = by-acceptance false (ne-eqb (outcomeOf issue l .refusal .0) 0 h)
+
+  -- number 0 is given by no other row
+  row-0 : {number place : ℕ} → Given issue l number place → number ≡ 0 → Reached issue l (count l)
+  row-0 (accepted r) h = r
+  row-0 (bad-lengths n) h = absurd (omega arith)
+  row-0 (bad-set f a b c) h = absurd (omega arith)
+  row-0 (bad-pair r a b) h = absurd (omega arith)
+  row-0 (bad-byte r a b c) h = absurd (omega arith)
+  row-0 (bad-request r a b c d) h = absurd (omega arith)
+
+  pub accepted-reached : outcomeOf issue l .refusal .0 ≡ 0 → Reached issue l (count l)
+  accepted-reached h = row-0 (given issue l) h
