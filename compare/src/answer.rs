@@ -2,7 +2,9 @@
 
 use crate::cases::{self, RECORD_BYTES};
 use crate::event;
+use crate::lent::Lent;
 use crate::pipe;
+use crate::trace;
 use std::io::{self, BufReader, BufWriter, Read, Write};
 
 /// Answers every record of the input that is one event alone.
@@ -16,17 +18,22 @@ pub fn event(input: impl Read, output: impl Write) -> io::Result<()> {
             return output.flush();
         }
         if came < RECORD_BYTES {
-            return Err(bad("the input ends within a record"));
+            return Err(pipe::bad("the input ends within a record"));
         }
         let bytes =
-            cases::handed_over(&record).ok_or_else(|| bad("a record's length is over 40"))?;
+            cases::handed_over(&record).ok_or_else(|| pipe::bad("a record's length is over 40"))?;
         output.write_all(&event::alone(bytes).bytes())?;
     }
 }
 
-/// The error of an input that is not made of records.
-fn bad(message: &str) -> io::Error {
-    io::Error::new(io::ErrorKind::InvalidData, message)
+/// Answers every case of the input that is a whole trace.
+pub fn trace(input: impl Read, output: impl Write) -> io::Result<()> {
+    let mut input = BufReader::with_capacity(pipe::BUFFER, input);
+    let mut output = BufWriter::with_capacity(pipe::BUFFER, output);
+    while let Some(lent) = Lent::read(&mut input)? {
+        output.write_all(&trace::judge(&lent).bytes())?;
+    }
+    output.flush()
 }
 
 #[cfg(test)]
@@ -58,5 +65,21 @@ mod tests {
         assert!(event(&[0; 40][..], Vec::new()).is_err());
         assert!(event(&[41; 41][..], Vec::new()).is_err());
         assert!(event(&[][..], Vec::new()).is_ok());
+    }
+    /// Cases of a whole trace are answered one after another, and a cut one is an error.
+    #[test]
+    fn traces_are_answered() {
+        let mut case = vec![14, 0, 0, 0, 1, 0, 0, 0, 2, 0, 0, 0];
+        case.extend([1, 0, 0, 0].repeat(3));
+        case.extend([2, 0, 0, 0, 0, 0, 1, 1, 0, 0, 0, 0, 0, 7]);
+        case.extend([1, 0, 5, 127, 91, 92, 93]);
+        let mut refused = case.clone();
+        refused[38] = 2;
+        let mut output = Vec::new();
+        trace(&[case.clone(), refused].concat()[..], &mut output).unwrap();
+        assert_eq!(output[..10], [0, 1, 0, 0, 0, 5, 33, 0, 0, 33]);
+        assert_eq!(output[10..], [3, 0, 0, 0, 0, 5, 127, 91, 92, 93]);
+        assert!(trace(&case[..case.len() - 1], Vec::new()).is_err());
+        assert!(trace(&[][..], Vec::new()).is_ok());
     }
 }

@@ -1,6 +1,7 @@
 //! The cases that the judge's program and this one are compared on.
 
 use crate::codes::{resp_err, state, FORWARDS, REQUESTS, RESPONSES};
+use crate::draw::Draw;
 use crate::event::{self, Event, BYTES, LIMITS};
 use crate::rows::{RetToSrc, Row, Table, TABLES};
 
@@ -131,7 +132,7 @@ impl Cases {
     /// The random case of this number.
     fn random_case(&self, number: u64) -> Case {
         let mut draw = Draw::new(self.seed, number);
-        let mut room = draw.room();
+        let mut room = any_room(&mut draw);
         if number < self.sweep_cases() {
             let part = number % SWEEP;
             let mut event = permitted_event(&mut Draw::new(self.seed, number - part));
@@ -198,7 +199,7 @@ fn choice(rest: &mut u64, choices: u64) -> usize {
 }
 
 /// An event drawn from the rows for which a step exists.
-fn permitted_event(draw: &mut Draw) -> [u8; BYTES] {
+pub fn permitted_event(draw: &mut Draw) -> [u8; BYTES] {
     loop {
         let event = event_of_a_row(draw).bytes();
         if event::alone(&event).has_a_step() {
@@ -211,12 +212,7 @@ fn permitted_event(draw: &mut Draw) -> [u8; BYTES] {
 fn event_of_a_row(draw: &mut Draw) -> Event {
     let table: &[Row] = draw.one_of(&TABLES);
     let row = draw.one_of(table);
-    let request = match row.table {
-        Table::B4_46 => draw.one_of(&[1, 2, 4, 21]),
-        Table::B4_57 => draw.one_of(&[18, 20]),
-        Table::B4_59 | Table::B4_60 => 22,
-        Table::Nderr => draw.one_of(&[1, 2, 4, 18, 20, 21, 22]),
-    };
+    let request = request_of(draw, row.table);
     let ret_to_src = match row.ret_to_src {
         RetToSrc::X => draw.one_of(&[0, 1]),
         RetToSrc::Zero => 0,
@@ -245,6 +241,16 @@ fn event_of_a_row(draw: &mut Draw) -> Event {
         forwarded: row.forward.present,
         forwarded_resp: row.forward.resp,
         after,
+    }
+}
+
+/// One of the requests that a table is for.
+pub fn request_of(draw: &mut Draw, table: Table) -> u8 {
+    match table {
+        Table::B4_46 => draw.one_of(&[1, 2, 4, 21]),
+        Table::B4_57 => draw.one_of(&[18, 20]),
+        Table::B4_59 | Table::B4_60 => 22,
+        Table::Nderr => draw.one_of(&[1, 2, 4, 18, 20, 21, 22]),
     }
 }
 
@@ -287,7 +293,13 @@ fn other_request(draw: &mut Draw) -> [u8; BYTES] {
         let n = 1 + draw.below(13) as usize;
         event[n] = byte_past_limit(draw, n);
     }
-    event[0] = loop {
+    event[0] = request_outside(draw);
+    event
+}
+
+/// A request outside the seven, often near one of them.
+pub fn request_outside(draw: &mut Draw) -> u8 {
+    loop {
         let (_, near) = draw.one_of(&REQUESTS);
         let request = match draw.below(4) {
             0 => near - 1,
@@ -296,10 +308,9 @@ fn other_request(draw: &mut Draw) -> [u8; BYTES] {
             _ => draw.byte(),
         };
         if !event::is_request(request) {
-            break request;
+            return request;
         }
-    };
-    event
+    }
 }
 
 /// An event with every byte at an end of its range, one of them just past it in half of the cases.
@@ -316,7 +327,7 @@ fn limits(draw: &mut Draw) -> [u8; BYTES] {
 }
 
 /// An event of any bytes in range.
-fn any_in_range(draw: &mut Draw) -> [u8; BYTES] {
+pub fn any_in_range(draw: &mut Draw) -> [u8; BYTES] {
     let mut event = [0; BYTES];
     for (n, byte) in event.iter_mut().enumerate() {
         *byte = byte_in_range(draw, n);
@@ -325,7 +336,7 @@ fn any_in_range(draw: &mut Draw) -> [u8; BYTES] {
 }
 
 /// As many bytes as an event has, holding anything.
-fn any_bytes(draw: &mut Draw) -> [u8; BYTES] {
+pub fn any_bytes(draw: &mut Draw) -> [u8; BYTES] {
     let mut event = [0; BYTES];
     for byte in &mut event {
         *byte = draw.byte();
@@ -335,7 +346,7 @@ fn any_bytes(draw: &mut Draw) -> [u8; BYTES] {
 
 /// A room that begins with permitted events or with any bytes, so that reading other than the length says would show.
 fn lengths_room(draw: &mut Draw, length: usize) -> [u8; ROOM] {
-    let mut room = draw.room();
+    let mut room = any_room(draw);
     match draw.below(3) {
         0 => {
             room[..BYTES].copy_from_slice(&permitted_event(draw));
@@ -351,7 +362,7 @@ fn lengths_room(draw: &mut Draw, length: usize) -> [u8; ROOM] {
 }
 
 /// A value in the range of this byte of an event.
-fn byte_in_range(draw: &mut Draw, n: usize) -> u8 {
+pub fn byte_in_range(draw: &mut Draw, n: usize) -> u8 {
     if n == 0 {
         let (_, request) = draw.one_of(&REQUESTS);
         request
@@ -361,7 +372,7 @@ fn byte_in_range(draw: &mut Draw, n: usize) -> u8 {
 }
 
 /// A value just past the limit of this byte of an event, or far past it.
-fn byte_past_limit(draw: &mut Draw, n: usize) -> u8 {
+pub fn byte_past_limit(draw: &mut Draw, n: usize) -> u8 {
     let limit = LIMITS[n];
     match draw.below(4) {
         0 | 1 => limit + 1,
@@ -370,56 +381,13 @@ fn byte_past_limit(draw: &mut Draw, n: usize) -> u8 {
     }
 }
 
-/// A sequence of random numbers (splitmix64).
-struct Draw {
-    /// The state that the next number comes from.
-    state: u64,
-}
-
-impl Draw {
-    /// The numbers that belong to one random case under a seed.
-    fn new(seed: u64, number: u64) -> Draw {
-        let mut seeds = Draw { state: seed };
-        let mut numbers = Draw {
-            state: seeds.next().wrapping_add(number),
-        };
-        Draw {
-            state: numbers.next(),
-        }
+/// A room full of any bytes.
+fn any_room(draw: &mut Draw) -> [u8; ROOM] {
+    let mut room = [0; ROOM];
+    for part in room.chunks_mut(8) {
+        part.copy_from_slice(&draw.next().to_le_bytes());
     }
-
-    /// The next number.
-    fn next(&mut self) -> u64 {
-        self.state = self.state.wrapping_add(0x9E37_79B9_7F4A_7C15);
-        let mut mixed = self.state;
-        mixed = (mixed ^ (mixed >> 30)).wrapping_mul(0xBF58_476D_1CE4_E5B9);
-        mixed = (mixed ^ (mixed >> 27)).wrapping_mul(0x94D0_49BB_1331_11EB);
-        mixed ^ (mixed >> 31)
-    }
-
-    /// A number below a bound that is not 0.
-    fn below(&mut self, bound: u64) -> u64 {
-        self.next() % bound
-    }
-
-    /// Any byte.
-    fn byte(&mut self) -> u8 {
-        self.below(256) as u8
-    }
-
-    /// One of some things.
-    fn one_of<T: Copy>(&mut self, things: &[T]) -> T {
-        things[self.below(things.len() as u64) as usize]
-    }
-
-    /// A room full of any bytes.
-    fn room(&mut self) -> [u8; ROOM] {
-        let mut room = [0; ROOM];
-        for part in room.chunks_mut(8) {
-            part.copy_from_slice(&self.next().to_le_bytes());
-        }
-        room
-    }
+    room
 }
 
 #[cfg(test)]

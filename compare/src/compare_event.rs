@@ -1,15 +1,13 @@
 //! The comparison of one event judged alone.
 
 use crate::cases::{handed_over, Case, Cases, Kind, RECORD_BYTES};
-use crate::codes::{channel, resp_err, state, tag, tag_op, FORWARDS, REQUESTS, RESPONSES};
+use crate::codes::state;
 use crate::event::{self, Answer, BYTES, BYTE_NAMES};
+use crate::names::{duty_name, forward_name, meaning, response_name, set_names};
 use crate::pipe;
 use std::ffi::OsString;
 use std::io::{self, Read, Write};
 use std::ops::Range;
-
-/// How many bytes after the last answer are counted before the rest is left unread.
-const EXTRA: usize = 1 << 20;
 
 /// Compares a program with this one over all the cases, prints what came of it and tells whether all agree.
 pub fn run(cases: Cases, program: &[OsString]) -> Result<bool, String> {
@@ -158,19 +156,9 @@ fn compare(cases: &Cases, numbers: Range<u64>, output: &mut dyn Read) -> Outcome
             });
         }
     }
-    let mut extra = vec![0; EXTRA];
-    match pipe::fill(output, &mut extra) {
-        Ok(0) => {}
-        Ok(came) => outcome.failures.push(format!(
-            "the program wrote more than its {} answers: {} bytes{} after them",
-            wanted,
-            came,
-            if came == EXTRA { " or more" } else { "" }
-        )),
-        Err(error) => outcome
-            .failures
-            .push(format!("the end of the answers cannot be read: {}", error)),
-    }
+    outcome
+        .failures
+        .extend(pipe::past_the_answers(output, wanted));
     outcome
 }
 
@@ -278,74 +266,6 @@ fn answer_line(name: &str, own: u8, other: u8, show: fn(&u8) -> String) -> Strin
         mark
     );
     format!("{}\n", line.trim_end())
-}
-
-/// A set of states by its byte and the names of its states.
-fn set_names(set: &u8) -> String {
-    let mut names = Vec::new();
-    for (weight, name) in state::WEIGHTS.iter().zip(state::NAMES) {
-        if set & weight != 0 {
-            names.push(name);
-        }
-    }
-    if set & 128 != 0 {
-        names.push("128");
-    }
-    format!("{} {{{}}}", set, names.join(" "))
-}
-
-/// A duty by its byte and its name.
-fn duty_name(duty: &u8) -> String {
-    let name = match duty {
-        0 => "none",
-        1 => "Home",
-        2 => "Requester",
-        3 => "lost",
-        _ => "unknown",
-    };
-    format!("{} {}", duty, name)
-}
-
-/// The name of the response in an event's bytes.
-fn response_name(bytes: &[u8]) -> &'static str {
-    for response in RESPONSES {
-        if bytes[5] == response.channel
-            && bytes[6] == response.opcode
-            && bytes[7] == response.resp
-            && bytes[8] == response.fwd_state
-        {
-            return response.name;
-        }
-    }
-    "no response of the rows"
-}
-
-/// The name of the forward in an event's bytes.
-fn forward_name(bytes: &[u8]) -> &'static str {
-    for forward in FORWARDS {
-        if bytes[11] == forward.present && bytes[12] == forward.resp {
-            return forward.name;
-        }
-    }
-    "no forward of the rows"
-}
-
-/// The name of the value that a byte of an event holds, where it has one.
-fn meaning(n: usize, byte: u8) -> &'static str {
-    let names: &[&str] = match n {
-        0 => {
-            let known = REQUESTS.iter().find(|(_, code)| *code == byte);
-            return known.map_or("", |(name, _)| *name);
-        }
-        4 => &tag::NAMES,
-        5 => &channel::NAMES,
-        9 => &tag_op::NAMES,
-        10 => &resp_err::NAMES,
-        13 if byte == state::NOT_SEEN => return "not seen",
-        13 => &state::NAMES,
-        _ => &[],
-    };
-    names.get(usize::from(byte)).copied().unwrap_or("")
 }
 
 #[cfg(test)]

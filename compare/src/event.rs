@@ -215,7 +215,7 @@ pub fn alone(bytes: &[u8]) -> Answer {
 }
 
 /// The set of all states after that an event's agreeing rows permit from one state before.
-fn set_after(rows: &[&rows::Row], event: &Event, before: u8) -> u8 {
+pub fn set_after(rows: &[&rows::Row], event: &Event, before: u8) -> u8 {
     let mut set = 0;
     for after in 0..7u8 {
         let mut reached = false;

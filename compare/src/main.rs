@@ -6,11 +6,19 @@ mod answer;
 mod cases;
 mod codes;
 mod compare_event;
+mod compare_trace;
+mod draw;
 mod event;
+mod histories;
+mod lent;
+mod names;
 mod pipe;
 mod rows;
+mod trace;
+mod trace_cases;
+mod trace_draws;
+mod trace_sweeps;
 
-use cases::Cases;
 use std::env;
 use std::ffi::OsString;
 use std::io;
@@ -19,13 +27,18 @@ use std::process::ExitCode;
 /// How the program is called.
 const USAGE: &str = "usage:
   compare event [--seed N] [--random N] -- PROGRAM ARGS..
-  compare answer event";
+  compare trace [--seed N] [--random N] -- PROGRAM ARGS..
+  compare answer event
+  compare answer trace";
 
 /// The seed where none is named.
 const SEED: u64 = 1;
 
-/// How many random cases there are where no number is named.
-const RANDOM: u64 = 1_200_000;
+/// How many random cases of one event there are where no number is named.
+const RANDOM_EVENTS: u64 = 1_200_000;
+
+/// How many random cases of a whole trace there are where no number is named.
+const RANDOM_TRACES: u64 = 140_000;
 
 /// The most random cases that can be asked for.
 const MOST_RANDOM: u64 = 1_000_000_000;
@@ -48,11 +61,26 @@ fn subcommand(words: &[OsString]) -> Result<bool, String> {
     let word = |n: usize| words.get(n).and_then(|word| word.to_str());
     match (word(0), word(1)) {
         (Some("event"), _) => {
-            let (cases, program) = comparison(&words[1..])?;
-            Ok(told(compare_event::run(cases, program)))
+            let asked = comparison(&words[1..], RANDOM_EVENTS)?;
+            let cases = cases::Cases {
+                seed: asked.seed,
+                random: asked.random,
+            };
+            Ok(told(compare_event::run(cases, asked.program)))
+        }
+        (Some("trace"), _) => {
+            let asked = comparison(&words[1..], RANDOM_TRACES)?;
+            let cases = trace_cases::Cases::new(asked.seed, asked.random);
+            Ok(told(compare_trace::run(cases, asked.program)))
         }
         (Some("answer"), Some("event")) if words.len() == 2 => {
             let answered = answer::event(io::stdin().lock(), io::stdout().lock());
+            Ok(told(
+                answered.map(|()| true).map_err(|error| error.to_string()),
+            ))
+        }
+        (Some("answer"), Some("trace")) if words.len() == 2 => {
+            let answered = answer::trace(io::stdin().lock(), io::stdout().lock());
             Ok(told(
                 answered.map(|()| true).map_err(|error| error.to_string()),
             ))
@@ -69,18 +97,32 @@ fn told(outcome: Result<bool, String>) -> bool {
     })
 }
 
-/// The cases and the program that the words after a comparison's name ask for.
-fn comparison(words: &[OsString]) -> Result<(Cases, &[OsString]), String> {
-    let mut cases = Cases {
-        seed: SEED,
-        random: RANDOM,
-    };
+/// What the words after a comparison's name ask for.
+struct Comparison<'a> {
+    /// What the random cases are drawn from.
+    seed: u64,
+    /// How many random cases there are.
+    random: u64,
+    /// The program to compare with, and its arguments.
+    program: &'a [OsString],
+}
+
+/// What words ask for, with as many random cases as are usual where they name no number.
+fn comparison(words: &[OsString], usual: u64) -> Result<Comparison<'_>, String> {
+    let mut seed = SEED;
+    let mut random = usual;
     let mut n = 0;
     while n < words.len() {
         match words[n].to_str() {
-            Some("--seed") => cases.seed = number(words.get(n + 1), u64::MAX)?,
-            Some("--random") => cases.random = number(words.get(n + 1), MOST_RANDOM)?,
-            Some("--") if n + 1 < words.len() => return Ok((cases, &words[n + 1..])),
+            Some("--seed") => seed = number(words.get(n + 1), u64::MAX)?,
+            Some("--random") => random = number(words.get(n + 1), MOST_RANDOM)?,
+            Some("--") if n + 1 < words.len() => {
+                return Ok(Comparison {
+                    seed,
+                    random,
+                    program: &words[n + 1..],
+                })
+            }
             Some("--") => break,
             _ => return Err(format!("{:?} is not known", words[n])),
         }
@@ -110,13 +152,13 @@ mod tests {
     #[test]
     fn options() {
         let line = words("--seed 5 --random 9 -- judge --seed 6");
-        let (cases, program) = comparison(&line).unwrap();
-        assert_eq!((cases.seed, cases.random), (5, 9));
-        assert_eq!(program, &line[5..]);
+        let asked = comparison(&line, 7).unwrap();
+        assert_eq!((asked.seed, asked.random), (5, 9));
+        assert_eq!(asked.program, &line[5..]);
         let line = words("-- judge");
-        let (cases, program) = comparison(&line).unwrap();
-        assert_eq!((cases.seed, cases.random), (1, 1_200_000));
-        assert_eq!(program, &line[1..]);
+        let asked = comparison(&line, 7).unwrap();
+        assert_eq!((asked.seed, asked.random), (1, 7));
+        assert_eq!(asked.program, &line[1..]);
     }
 
     /// A call that is not known is refused.
@@ -130,9 +172,18 @@ mod tests {
             "--random 1",
             "--random 1000000001 -- judge",
         ] {
-            assert!(comparison(&words(line)).is_err(), "{}", line);
+            assert!(comparison(&words(line), 7).is_err(), "{}", line);
         }
-        for line in ["", "answer", "answer trace", "answer event more", "event"] {
+        for line in [
+            "",
+            "answer",
+            "answer event more",
+            "answer trace more",
+            "answer else",
+            "event",
+            "trace",
+            "trace --",
+        ] {
             assert!(subcommand(&words(line)).is_err(), "{}", line);
         }
     }

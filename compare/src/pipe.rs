@@ -10,6 +10,9 @@ use std::time::{Duration, Instant};
 /// How many bytes are written or read at once.
 pub const BUFFER: usize = 1 << 20;
 
+/// How many bytes after the last answer are counted before the rest is left unread.
+const EXTRA: usize = 1 << 20;
+
 /// How long a program may take to end once its answers have.
 const PATIENCE: Duration = Duration::from_secs(60);
 
@@ -98,6 +101,26 @@ pub fn fill(from: &mut dyn Read, bytes: &mut [u8]) -> io::Result<usize> {
         }
     }
     Ok(filled)
+}
+
+/// What went wrong if anything comes after as many answers as were wanted, in plain words.
+pub fn past_the_answers(output: &mut dyn Read, wanted: u64) -> Option<String> {
+    let mut extra = vec![0; EXTRA];
+    match fill(output, &mut extra) {
+        Ok(0) => None,
+        Ok(came) => Some(format!(
+            "the program wrote more than its {} answers: {} bytes{} after them",
+            wanted,
+            came,
+            if came == EXTRA { " or more" } else { "" }
+        )),
+        Err(error) => Some(format!("the end of the answers cannot be read: {}", error)),
+    }
+}
+
+/// The error of an input that is not as it has to be.
+pub fn bad(message: &str) -> io::Error {
+    io::Error::new(io::ErrorKind::InvalidData, message)
 }
 
 #[cfg(test)]

@@ -177,12 +177,20 @@ pub fn agreeing(event: &Event) -> Vec<&'static Row> {
 
 /// Whether one of an event's agreeing rows permits its step from a state before to a state after under a tag state.
 pub fn permitted(rows: &[&Row], event: &Event, tag: u8, before: u8, after: u8) -> bool {
-    rows.iter().any(|row| {
-        row.before.contains(&before)
-            && row.after.contains(&after)
-            && tag_fits(row, tag, before)
-            && tag_op_fits(row, tag, before, event.tag_op)
-    })
+    rows.iter().any(|row| steps(row, event, tag, before, after))
+}
+
+/// Whether a row permits an event as a step from a state before to a state after under a tag state.
+pub fn permits(row: &Row, event: &Event, tag: u8, before: u8, after: u8) -> bool {
+    agrees(row, event) && steps(row, event, tag, before, after)
+}
+
+/// Whether a row that agrees with an event goes from a state before to a state after under a tag state.
+fn steps(row: &Row, event: &Event, tag: u8, before: u8, after: u8) -> bool {
+    row.before.contains(&before)
+        && row.after.contains(&after)
+        && tag_fits(row, tag, before)
+        && tag_op_fits(row, tag, before, event.tag_op)
 }
 
 /// Whether a row agrees with an event in all that doesn't hang on the tags or the states.

@@ -62,6 +62,7 @@ set-lost l p k j h z =
   where
     rest : List (List ℕ)
     rest = own p (entries (l .events) (l .pairs) (0 + k) (j - k))
+
     split : (a b : ℕ) → a ≤ b → b ≡ a + (b - a)
     split a b le = omega arith
 
@@ -103,14 +104,19 @@ module _ (issue : Issue) (l : Lent) (good : Reached issue l (count l)) where
     where
       e : List ℕ
       e = eventIn (l .events) k
+
       m : ℕ
       m = setBefore l (pairIn (l .pairs) k) k
+
       below : m < 128
       below = set-below (pairIn (l .pairs) k) k (pair-in k h)
+
       pass : Held (after e m) → Passes l k
       pass x = held-history l (pairIn (l .pairs) k) (suc k) (subst Held (sym (set-next l k)) x)
+
       no-pass : eqb (after e m) 0 ≡ true → Passes l k → ⊥
       no-pass q s = held-some (subst Held (set-next l k) (history-held s)) (eqb-true (after e m) 0 q)
+
       go : (a b : Bool) → eqb m 0 ≡ a → eqb (after e m) 0 ≡ b → VerdictGiven l k (verdict e m)
       go a false p q =
           let x = some-held (after e m) (after-below e m) (eqb-false (after e m) 0 q) in
@@ -130,7 +136,7 @@ module _ (issue : Issue) (l : Lent) (good : Reached issue l (count l)) where
   gives-verdict k h (stopped s none) =
       byte-at verdict k h
       ∙ is-unexplained (eventIn (l .events) k) (setBefore l (pairIn (l .pairs) k) k) (set-below (pairIn (l .pairs) k) k (pair-in k h)) (history-held s)
-        (λ x. none (held-history l (pairIn (l .pairs) k) (suc k) (subst Held (sym (set-next l k)) x)))
+      (λ x. none (held-history l (pairIn (l .pairs) k) (suc k) (subst Held (sym (set-next l k)) x)))
   gives-verdict k h (not-reached none) =
       byte-at verdict k h
       ∙ is-not-judged (eventIn (l .events) k) (setBefore l (pairIn (l .pairs) k) k) (set-below (pairIn (l .pairs) k) k (pair-in k h)) (λ x. none (held-history l (pairIn (l .pairs) k) k x))

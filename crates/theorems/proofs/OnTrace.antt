@@ -113,7 +113,7 @@ module _ (l : Lent) (ok : Accepted l) where
     passes-explained s s′ h p =
         verdict-byte
         ∙ is-explained (eventOf l k) m (set-below issueE l good (pairOf l k) k (pair-in issueE l good k inside))
-          (record { state = s′; inside = from-after came })
+        (record { state = s′; inside = from-after came })
       where
         came : From (eventOf l k) m s′
         came = record { state = s; inside = set-history l (pairOf l k) k s .1 h; step = p }
@@ -152,6 +152,7 @@ module _ (l : Lent) (ok : Accepted l) where
             go false b =
                 let wrong : _≡_ {A = ℕ} lost noDuty = sym q ∙ error-at s s′ h p n ∙ ap (λ (x : Bool). cond x lost noDuty) b in
                 absurd (omega arith)
+
         back : DirtyReaches l k → dutyOf l k ≡ lost
         back r = error-at s s′ h p n ∙ ap (λ (x : Bool). cond x lost noDuty) (dirty-before (r .state) (r .history) (r .is-dirty))
 

@@ -37,9 +37,10 @@ one-outcome l = only (judged issueE l)
 
 -- DEMAND 1: a number and a place are the answer exactly when the refusal table gives them. Each call has a row, and no two.
 pub refusal-table : (l : Lent) (number place : ℕ) → judged issueE l .outcome ≡ answer number place ↔ Given issueE l number place
-refusal-table l number place =
-    (λ h. subst (λ (o : Outcome). Given issueE l (o .refusal .0) (o .place)) (sym (judged-outcome issueE l) ∙ h) (given issueE l),
-    λ g. judged-outcome issueE l ∙ sym (gives issueE l g))
+refusal-table l number place = (
+  λ h. subst (λ (o : Outcome). Given issueE l (o .refusal .0) (o .place)) (sym (judged-outcome issueE l) ∙ h) (given issueE l),
+  λ g. judged-outcome issueE l ∙ sym (gives issueE l g),
+)
 
 pub some-row : (l : Lent) → Given issueE l (judged issueE l .outcome .refusal .0) (judged issueE l .outcome .place)
 some-row l = refusal-table l (judged issueE l .outcome .refusal .0) (judged issueE l .outcome .place) .0 refl
@@ -62,9 +63,10 @@ module _ (l : Lent) (ok : Accepted l) where
   -- THE VERDICT: explained exactly when some history passes the event, unexplained exactly when histories reached it and none passes it, not
   -- judged exactly when none reached it.
   pub verdict-exact : (k : ℕ) → k < count l → (v : ℕ) → verdictByte l k ≡ v ↔ VerdictGiven l k v
-  verdict-exact k h v =
-      (λ q. subst (VerdictGiven l k) q (verdict-row l ok k h),
-      λ g. verdicts-left l ok k ∙ gives-verdict issueE l (good l ok) k h g)
+  verdict-exact k h v = (
+    λ q. subst (VerdictGiven l k) q (verdict-row l ok k h),
+    λ g. verdicts-left l ok k ∙ gives-verdict issueE l (good l ok) k h g,
+  )
 
   -- AFTER AN UNEXPLAINED EVENT the set of its pair is empty for good: at the event, at each later event of the pair, which isn't judged, and at the
   -- end.
@@ -73,9 +75,10 @@ module _ (l : Lent) (ok : Accepted l) where
 
   pub empty-later : (k : ℕ) → k < count l → verdictByte l k ≡ unexplained → (j : ℕ) → k < j → j < count l → pairOf l j ≡ pairOf l k
       → (verdictByte l j ≡ notJudged) × (afterByte l j ≡ 0)
-  empty-later k h v j later inside same =
-      (unreached l ok j inside (ap (λ (p : ℕ). setBefore l p j) same ∙ empty-after l ok k h v j later),
-      after-byte l ok j inside ∙ ap (λ (p : ℕ). setBefore l p (suc j)) same ∙ empty-after l ok k h v (suc j) (omega arith))
+  empty-later k h v j later inside same = (
+    unreached l ok j inside (ap (λ (p : ℕ). setBefore l p j) same ∙ empty-after l ok k h v j later),
+    after-byte l ok j inside ∙ ap (λ (p : ℕ). setBefore l p (suc j)) same ∙ empty-after l ok k h v (suc j) (omega arith),
+  )
 
   pub empty-at-end : (k : ℕ) → k < count l → verdictByte l k ≡ unexplained → endSet l (pairOf l k) ≡ 0
   empty-at-end k h v = end-set l ok (pairOf l k) (pair-in issueE l (good l ok) k h) ∙ empty-after l ok k h v (count l) h
@@ -114,8 +117,8 @@ module _ (l : Lent) (ok : Accepted l) where
 -- THE PAGE'S SHEET: explained and Home, explained, unexplained, not judged; {I, SC} twice, then nothing.
 pub page-sheet : judged issueE sheet
     ≡ left (answer 0 4) (0 ∷ [])
-      (explained ∷ explained ∷ unexplained ∷ notJudged ∷ [])
-      (Home ∷ noDuty ∷ noDuty ∷ noDuty ∷ [])
-      (33 ∷ 33 ∷ 0 ∷ 0 ∷ [])
+    (explained ∷ explained ∷ unexplained ∷ notJudged ∷ [])
+    (Home ∷ noDuty ∷ noDuty ∷ noDuty ∷ [])
+    (33 ∷ 33 ∷ 0 ∷ 0 ∷ [])
 unfolding setOf bit rows asked answered tagged permitted steps duty fault after verdict dutyByte lengthsFit faultAt byEvents outcomeOf accepts judged
 page-sheet = refl

@@ -136,11 +136,14 @@ module _ (issue : Issue) (l : Lent) where
     where
       at : (o : Outcome) → o ≡ outcomeOf issue l → Given issue l (o .refusal .0) (o .place) → Given issue l (outcomeOf issue l .refusal .0) (outcomeOf issue l .place)
       at o h g = subst (λ (x : Outcome). Given issue l (x .refusal .0) (x .place)) h g
+
       sets : (a : ltb (lowestSet (l .table)) (length (l .table)) ≡ false) → (p : ℕ) → p < length (l .table) → SetGood l p
       sets a p k = set-of p (before-first (badSet (l .table)) 0 (length (l .table)) p (omega arith) (omega (arith, ltb-false (lowestSet (l .table)) (length (l .table)) a)))
+
       reached : (k : ℕ) → Fits l → ltb (lowestSet (l .table)) (length (l .table)) ≡ false → k ≤ firstBad → Reached issue l k
       reached k f a h =
           record { fits = f; sets-good = sets a; events-good = λ j b. good-of j (before-first bad 0 (length (l .pairs)) j (omega arith) (omega arith)) }
+
       go : (a b c : Bool) → lengthsFit l ≡ a → ltb (lowestSet (l .table)) (length (l .table)) ≡ b → ltb firstBad (length (l .pairs)) ≡ c
           → Given issue l (outcomeOf issue l .refusal .0) (outcomeOf issue l .place)
       go false b c p q r = at (answer 1 0) (refused-lengths issue l false (sym p) refl) (bad-lengths (λ f. true≢false (sym (fit l f) ∙ p)))
@@ -177,7 +180,7 @@ module _ (issue : Issue) (l : Lent) where
   event-row : (k number : ℕ) → Reached issue l k → k < count l → faultOf issue l k ≡ number → not (eqb number 0) ≡ true → answer number k ≡ outcomeOf issue l
   event-row k number r h e n =
       let is : firstBad ≡ k =
-            first-is bad 0 (length (l .pairs)) k (omega arith) (omega (arith, r .fits .pairs-fit)) (λ j a b. good-not-bad j (r .events-good j b)) (ap (λ (x : ℕ). not (eqb x 0)) e ∙ n) in
+      first-is bad 0 (length (l .pairs)) k (omega arith) (omega (arith, r .fits .pairs-fit)) (λ j a b. good-not-bad j (r .events-good j b)) (ap (λ (x : ℕ). not (eqb x 0)) e ∙ n) in
       left-to-events issue l true (length (l .table)) (answer number k) (sym (fit l (r .fits))) refl (sym (table-good r)) (omega arith)
       (refused-event issue (l .events) (l .pairs) (l .table) k number (sym is) (omega (arith, r .fits .pairs-fit)) (sym e))
 
@@ -185,10 +188,10 @@ module _ (issue : Issue) (l : Lent) where
   pub gives : {number place : ℕ} → Given issue l number place → answer number place ≡ outcomeOf issue l
   gives (accepted r) =
       let is : firstBad ≡ length (l .pairs) =
-            first-none bad 0 (length (l .pairs)) (λ j a b. good-not-bad j (r .events-good j (omega (arith, r .fits .pairs-fit)))) ∙ zero-add (length (l .pairs)) in
+      first-none bad 0 (length (l .pairs)) (λ j a b. good-not-bad j (r .events-good j (omega (arith, r .fits .pairs-fit)))) ∙ zero-add (length (l .pairs)) in
       ap (answer 0) (sym (r .fits .pairs-fit))
       ∙ left-to-events issue l true (length (l .table)) (answer 0 (length (l .pairs))) (sym (fit l (r .fits))) refl (sym (table-good r)) (omega arith)
-        (no-event issue (l .events) (l .pairs) (l .table) (length (l .pairs)) (sym is) (omega arith))
+      (no-event issue (l .events) (l .pairs) (l .table) (length (l .pairs)) (sym is) (omega arith))
   gives (bad-lengths n) = go (lengthsFit l) refl
     where
       go : (b : Bool) → lengthsFit l ≡ b → answer 1 0 ≡ outcomeOf issue l

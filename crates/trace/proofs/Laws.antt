@@ -50,9 +50,9 @@ first-next {p} {n} {k} f h t =
     record {
       within = omega arith;
       same =
-        ap (λ (i : ℕ). firstFrom p i (n - i)) (add-one k)
-        ∙ sym (ahead p n k h ∙ ap (λ (b : Bool). cond b k (firstFrom p (suc k) (n - suc k))) t)
-        ∙ f .same;
+          ap (λ (i : ℕ). firstFrom p i (n - i)) (add-one k)
+          ∙ sym (ahead p n k h ∙ ap (λ (b : Bool). cond b k (firstFrom p (suc k) (n - suc k))) t)
+          ∙ f .same;
     }
 
 pub first-end : {p : ℕ → Bool} {n k : ℕ} → First p n k → n ≤ k → k ≡ firstFrom p 0 n

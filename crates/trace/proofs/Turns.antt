@@ -45,12 +45,12 @@ module _ (f : List ℕ → ℕ → ℕ) (events pairs t₀ : List ℕ) where
       let rest = outputs f (moved t (entryAt events pairs k)) (entries events pairs (suc k) (length pairs - suc k)) in
       record {
         so-far =
-          ap₂ (λ (o u : List ℕ). take (k + 1) o ++ outputs f u (entries events pairs (k + 1) (length pairs - (k + 1)))) q p
-          ∙ ap (λ (i : ℕ). take i (set out k y) ++ outputs f (moved t (entryAt events pairs k)) (entries events pairs i (length pairs - i))) (add-one k)
-          ∙ ap (λ (o : List ℕ). o ++ rest) (take-suc-set out k y (omega (arith, go .long)))
-          ∙ append-snoc (take k out) y rest
-          ∙ ap (λ (n : ℕ). take k out ++ outputs f t (entries events pairs k n)) (sym (minus-suc (length pairs) k h))
-          ∙ go .so-far;
+            ap₂ (λ (o u : List ℕ). take (k + 1) o ++ outputs f u (entries events pairs (k + 1) (length pairs - (k + 1)))) q p
+            ∙ ap (λ (i : ℕ). take i (set out k y) ++ outputs f (moved t (entryAt events pairs k)) (entries events pairs i (length pairs - i))) (add-one k)
+            ∙ ap (λ (o : List ℕ). o ++ rest) (take-suc-set out k y (omega (arith, go .long)))
+            ∙ append-snoc (take k out) y rest
+            ∙ ap (λ (n : ℕ). take k out ++ outputs f t (entries events pairs k n)) (sym (minus-suc (length pairs) k h))
+            ∙ go .so-far;
         long = ap length q ∙ length-set out k y ∙ go .long;
       }
 
@@ -89,10 +89,10 @@ module _ (events pairs t₀ : List ℕ) where
         within = omega arith;
         long = ap length (one .in-table) ∙ length-set t (pairIn pairs k) (after (eventIn events k) (setIn t (pairIn pairs k))) ∙ go .long;
         table-so =
-          ap (λ (u : List ℕ). run u (entries events pairs (k + 1) (length pairs - (k + 1)))) (one .in-table)
-          ∙ ap (λ (i : ℕ). run (moved t (entryAt events pairs k)) (entries events pairs i (length pairs - i))) (add-one k)
-          ∙ ap (λ (n : ℕ). run t (entries events pairs k n)) (sym (minus-suc (length pairs) k h))
-          ∙ go .table-so;
+            ap (λ (u : List ℕ). run u (entries events pairs (k + 1) (length pairs - (k + 1)))) (one .in-table)
+            ∙ ap (λ (i : ℕ). run (moved t (entryAt events pairs k)) (entries events pairs i (length pairs - i))) (add-one k)
+            ∙ ap (λ (n : ℕ). run t (entries events pairs k n)) (sym (minus-suc (length pairs) k h))
+            ∙ go .table-so;
         verdicts-so = filled-next verdict events pairs t₀ k t v t′ v′ (go .verdicts-so) h (one .in-table) (one .in-verdicts);
         duties-so = filled-next dutyByte events pairs t₀ k t d t′ d′ (go .duties-so) h (one .in-table) (one .in-duties);
         afters-so = filled-next after events pairs t₀ k t a t′ a′ (go .afters-so) h (one .in-table) (one .in-afters);

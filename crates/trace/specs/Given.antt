@@ -44,6 +44,6 @@ pub data Given (issue : Issue) (l : Lent) : ℕ → ℕ → Type 0 where
   bad-set : {p : ℕ} → Fits l → p < length (l .table) → (SetGood l p → ⊥) → ((q : ℕ) → q < p → SetGood l q) → Given issue l 2 p
   bad-pair : {k : ℕ} → Reached issue l k → k < count l → length (l .table) ≤ pairIn (l .pairs) k → Given issue l 3 k
   bad-byte : {k : ℕ} → Reached issue l k → k < count l → pairIn (l .pairs) k < length (l .table)
-    → below (eventIn (l .events) k) 1 (issue .limits) ≡ false → Given issue l 4 k
+      → below (eventIn (l .events) k) 1 (issue .limits) ≡ false → Given issue l 4 k
   bad-request : {k : ℕ} → Reached issue l k → k < count l → pairIn (l .pairs) k < length (l .table)
-    → below (eventIn (l .events) k) 1 (issue .limits) ≡ true → requestOf (eventIn (l .events) k) ∈? issue .requests ≡ false → Given issue l 5 k
+      → below (eventIn (l .events) k) 1 (issue .limits) ≡ true → requestOf (eventIn (l .events) k) ∈? issue .requests ≡ false → Given issue l 5 k

@@ -165,7 +165,15 @@ fn judge_all(
 {
     let mut k: u32 = 0;
     while (k as usize) < pairs.len() {
-        judge_one(EventNumber(k), events, pairs, table, verdicts, duties, afters);
+        judge_one(
+            EventNumber(k),
+            events,
+            pairs,
+            table,
+            verdicts,
+            duties,
+            afters,
+        );
         k += 1;
     }
 }
