@@ -1,7 +1,7 @@
 -- The theorems about a whole trace. Whoever believes the checker reads this file, the definitions that it names, and the `ensures` of
 -- `trace::judge_trace`, which says that whatever is lent, the answer and the four buffers afterwards are `judged issueE` of it.
 -- Assumes nothing.
-use mathlib.Core.Path.{_≡_, refl, sym, _∙_, ap, subst}
+use mathlib.Core.Path.{_≡_, refl, sym, _∙_, ap, ap₂, subst}
 use mathlib.Core.Logic.{_↔_, _⊎_}
 use mathlib.Core.Bool.{true, false}
 use mathlib.Core.List.{[], _∷_}
@@ -113,6 +113,11 @@ module _ (l : Lent) (ok : Accepted l) where
   pub duty-kept : (k : ℕ) → k < count l → (s s′ : ℕ) → HistoryTo l (pairOf l k) k s → Step (eventOf l k) s s′
       → dutyOf l k ≡ noDuty → dirty s ≡ true → dirty s′ ≡ true
   duty-kept = kept-dirty l ok
+
+-- Two traces that have the same events of a pair, and the same starting set of it, leave it the same set, whatever else they hold.
+pub same-events-same-set : (l l′ : Lent) → Accepted l → Accepted l′ → (p : ℕ) → p < length (l .table) → p < length (l′ .table)
+    → setIn (l .table) p ≡ setIn (l′ .table) p → own p (trace l) ≡ own p (trace l′) → endSet l p ≡ endSet l′ p
+same-events-same-set l l′ ok ok′ p h h′ start events = end-set l ok p h ∙ ap₂ walk start events ∙ sym (end-set l′ ok′ p h′)
 
 -- THE PAGE'S SHEET: explained and Home, explained, unexplained, not judged; {I, SC} twice, then nothing.
 pub page-sheet : judged issueE sheet

@@ -65,7 +65,8 @@ fn fault_at(k: EventNumber, events: &[u8], pairs: &[u16], table: &[u8]) -> Refus
     let pair = k.pair_in(pairs);
     let inside = pair.within(table);
     let fault = event::fault(k.event_in(events));
-    Refusal(sets::choose(inside, fault.0, Refusal::PAIR.0))
+    let number = fault.0;
+    Refusal(sets::choose(inside, number, Refusal::PAIR.0))
 }
 
 // The first event that is refused, or how many events there are.
@@ -145,10 +146,11 @@ fn judge_one(
     let pair = k.pair_in(pairs);
     let before = pair.set_in(table);
     let found = verdicts::judge(k.event_in(events), before);
-    pair.put_in(table, found.after);
+    let after = found.after;
+    pair.put_in(table, after);
     k.put_in(verdicts, found.verdict.0);
     k.put_in(duties, found.duty.0);
-    k.put_in(afters, found.after);
+    k.put_in(afters, after);
 }
 
 // Every event judged, one after another.
@@ -191,8 +193,8 @@ pub fn judge_trace(
     ensures { λ r. ⌜ left r (now (table .exit)) (now (verdicts .exit)) (now (duties .exit)) (now (afters .exit)) ≡ judged issueE (lent (now (events .entry)) (now (pairs .entry)) (now (table .entry)) (now (verdicts .entry)) (now (duties .entry)) (now (afters .entry))) ⌝ }
 {
     let outcome = outcome_of(events, pairs, table, verdicts, duties, afters);
-    let number = outcome.refusal.0;
-    if number != Refusal::ACCEPTED.0 {
+    let refusal = outcome.refusal.0;
+    if refusal != Refusal::ACCEPTED.0 {
         return outcome;
     }
     judge_all(events, pairs, table, verdicts, duties, afters);
