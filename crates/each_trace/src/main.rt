@@ -1,7 +1,7 @@
 // Judges whole traces one after another: cases from standard input, answers to standard output. Numbers are low byte first.
-// A case is six numbers of 32 bits: the length of the events in bytes, how many pair numbers, and the lengths of the table, the verdicts, the
-// duties and the after-sets; then those, a pair number in two bytes. An answer is the refusal's number in a byte, its place in 32 bits, and
-// the last four as they are afterwards. A case that is cut or has no room here ends the run.
+// A case is six numbers of 32 bits: the length of the events in bytes, how many pair numbers, and the lengths of the table, the verdicts,
+// the duties and the after-sets; then those, a pair number in two bytes. An answer is the refusal's number in a byte, its place in 32 bits,
+// and the last four as they are afterwards. A case that is cut or has no room here ends the run.
 use libc::STDIN_FILENO;
 use libc::STDOUT_FILENO;
 use trace::Outcome;

@@ -3,7 +3,7 @@
 use mathlib.Core.Path.{_≡_, refl, sym, _∙_, ap, subst}
 use mathlib.Core.Bool.{Bool, true, false}
 use mathlib.Core.List.{List, [], _∷_, _++_, append-nil}
-use Prim.Native.Nat.{ℕ, zero, suc, _+_, _-_, _<_, _≤_}
+use Prim.Native.Nat.{ℕ, suc, _+_, _-_, _<_, _≤_}
 use native.Mathlib.Nat.{zero-add}
 use native.Mathlib.Numerals.{add-one}
 use native.Mathlib.Omega.{arith}
@@ -11,16 +11,15 @@ use borrow.Author.Tests.{eqb-true, eqb-false}
 use lib.Dec.{eqb}
 use lib.ListN.{length, getD}
 use Rattle.kinds.specs.Places.{setIn, pairIn, eventIn}
-use Rattle.sets.specs.Sets.{bit}
 use Rattle.sets.proofs.Laws.{Held, held-some, some-held}
 use Rattle.event.specs.Refusals.{Issue}
 use Rattle.verdicts.specs.Verdicts.{after, verdict}
-use Rattle.verdicts.proofs.Laws.{after-below, after-some, is-explained, is-unexplained, is-not-judged}
-use Rattle.trace.specs.Entries.{Entry, entryAt, entries, run, outputs}
+use Rattle.verdicts.proofs.Laws.{after-below, is-explained, is-unexplained, is-not-judged}
+use Rattle.trace.specs.Entries.{entryAt, entries, run, outputs}
 use Rattle.trace.specs.Lent.{Lent, count}
 use Rattle.trace.specs.Given.{Reached}
 use Rattle.trace.specs.Judged.{trace}
-use Rattle.histories.specs.Histories.{own, History, first, HistoryTo, SomeHistory, Reaches, Passes, VerdictGiven, passed, stopped, not-reached}
+use Rattle.histories.specs.Histories.{own, first, SomeHistory, Passes, VerdictGiven, passed, stopped, not-reached}
 use Rattle.histories.proofs.Walk.{walk, walk-below, walk-append, ends, ends-in, walk-empty}
 use Rattle.histories.proofs.Own.{own-same, own-other, own-append, entries-append, run-own, output-at}
 

@@ -1,16 +1,15 @@
 -- The set that events leave of a starting set holds exactly the states in which some history ends.
 -- Assumes nothing.
-use mathlib.Core.Path.{_≡_, refl, sym, _∙_, ap}
-use mathlib.Core.Bool.{Bool, true, false, true≢false}
+use mathlib.Core.Path.{_≡_, refl, _∙_, ap}
+use mathlib.Core.Bool.{Bool, true, false}
 use mathlib.Core.List.{List, [], _∷_, _++_}
 use Prim.Native.Nat.{ℕ, _<_}
 use borrow.Author.Tests.{eqb-true, eqb-false}
 use lib.Dec.{eqb}
 use Rattle.sets.specs.Sets.{bit}
-use Rattle.sets.proofs.Laws.{Held, held-some, some-held}
-use Rattle.steps.specs.Steps.{Step}
+use Rattle.sets.proofs.Laws.{held-some, some-held}
 use Rattle.verdicts.specs.Verdicts.{after}
-use Rattle.verdicts.proofs.Laws.{From, after-below, after-from, from-after, after-some}
+use Rattle.verdicts.proofs.Laws.{after-below, after-from, from-after, after-some}
 use Rattle.histories.specs.Histories.{Through, done, then, History}
 
 -- the set after events, one after another

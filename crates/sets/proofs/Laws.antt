@@ -10,11 +10,10 @@ use native.Mathlib.Omega.{arith}
 use borrow.Author.Tests.{ltb-true, ltb-false, eqb-true, eqb-false}
 use lib.Dec.{eqb, ltb}
 use lib.Bits.{bitAnd, bitOr, and-step, or-step, and-zero-l, or-zero-l, or-zero-r}
-use Rattle.kinds.specs.Codes.{I, UC, UCE, UD, UDP, SC, SD, dirty}
+use Rattle.kinds.specs.Codes.{I, UC, UCE, UD, UDP, SC, SD, states, dirty}
 use Rattle.kinds.proofs.Laws.{or-7}
 use Rattle.kinds.proofs.Lists.{any-found, found-any, state-in}
 use Rattle.kinds.specs.Tests.{any}
-use Rattle.kinds.specs.Codes.{states}
 use lib.ListN.{getD}
 use Rattle.sets.specs.Sets.{one, setOf, bit, holdsDirty, union, apply}
 

@@ -2,20 +2,18 @@
 -- Assumes nothing.
 use mathlib.Core.Path.{_≡_, refl, sym, _∙_, ap, subst}
 use mathlib.Core.Logic.{_↔_, _⊎_, inl, inr, ⊎-elim}
-use mathlib.Core.Bool.{Bool, true, false, cond, true≢false}
-use mathlib.Core.List.{List}
+use mathlib.Core.Bool.{Bool, true, false, cond}
 use Prim.Native.Nat.{ℕ, suc, _<_}
 use native.Mathlib.Omega.{arith}
 use borrow.Author.Tests.{eqb-true, eqb-false, eq-eqb, ne-eqb}
 use lib.Dec.{eqb}
 use lib.ListN.{length, getD}
 use Rattle.kinds.specs.Codes.{dirty}
-use Rattle.kinds.specs.Places.{setIn, pairIn, eventIn}
+use Rattle.kinds.specs.Places.{setIn}
 use Rattle.sets.specs.Sets.{bit, holdsDirty}
 use Rattle.steps.specs.Steps.{Step, duty, noDuty, Home, Requester, lost}
-use Rattle.steps.proofs.Stepping.{permitted-before}
 use Rattle.event.specs.Refusals.{issueE}
-use Rattle.verdicts.specs.Verdicts.{after, verdict, dutyByte, explained, unexplained, notJudged}
+use Rattle.verdicts.specs.Verdicts.{verdict, dutyByte, explained, unexplained, notJudged}
 use Rattle.verdicts.proofs.Laws.{From, from-after, is-explained}
 use Rattle.sets.proofs.Laws.{bit-state, held-some, some-held}
 use Rattle.trace.specs.declared.Outcome.{Outcome}

@@ -7,7 +7,7 @@ use mathlib.Core.Bool.{true, false}
 use mathlib.Core.List.{[], _∷_}
 use Prim.Native.Nat.{ℕ, suc, _<_}
 use native.Mathlib.Omega.{arith}
-use lib.ListN.{length, getD}
+use lib.ListN.{length}
 use Rattle.kinds.specs.Codes.{dirty}
 use Rattle.kinds.specs.Places.{setIn}
 use Rattle.sets.specs.Sets.{setOf, bit}

@@ -1,11 +1,10 @@
 -- The outcome of a trace is the row of the refusal table that is given, and each row that is given is the outcome.
 -- Assumes nothing.
 use mathlib.Core.Path.{_≡_, refl, sym, _∙_, ap, ap₂, subst}
-use mathlib.Core.Bool.{Bool, true, false, cond, not, true≢false, false≢true}
-use mathlib.Core.List.{List}
+use mathlib.Core.Bool.{Bool, true, false, cond, not, true≢false}
 use Prim.Native.Nat.{ℕ, zero, suc, _+_, _<_, _≤_}
 use native.Mathlib.Omega.{arith}
-use native.Mathlib.Nat.{add-zero, zero-add}
+use native.Mathlib.Nat.{zero-add}
 use borrow.Author.Tests.{lt-ltb, le-ltb, ltb-true, ltb-false, eqb-true, eqb-false, not-false}
 use lib.Dec.{eqb, ltb}
 use lib.ListN.{length}
@@ -15,9 +14,9 @@ use Rattle.rows.specs.Event.{requestOf}
 use Rattle.event.specs.Refusals.{Issue, below, fault}
 use Rattle.trace.specs.declared.Outcome.{Outcome}
 use Rattle.trace.specs.Lent.{Lent, count}
-use Rattle.trace.specs.Refusals.{answer, lengthsFit, firstFrom, badSet, lowestSet, faultAt, badEvent, firstEvent, byEvents, outcomeOf}
+use Rattle.trace.specs.Refusals.{answer, lengthsFit, firstFrom, badSet, lowestSet, faultAt, badEvent, firstEvent, outcomeOf}
 use Rattle.trace.specs.Given.{Fits, SetGood, EventGood, Reached, Given, accepted, bad-lengths, bad-set, bad-pair, bad-byte, bad-request}
-use Rattle.trace.proofs.Laws.{fits, fit, by-stages, refused-lengths, refused-set, left-to-events, refused-event, no-event}
+use Rattle.trace.proofs.Laws.{fits, fit, refused-lengths, refused-set, left-to-events, refused-event, no-event}
 
 -- The first number that passes: nothing before it passes, it passes where it is one of them, and no other number is so.
 before-first : (p : ℕ → Bool) (i n j : ℕ) → i ≤ j → j < firstFrom p i n → p j ≡ false

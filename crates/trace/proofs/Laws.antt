@@ -3,7 +3,7 @@
 use mathlib.Core.Path.{_≡_, refl, sym, _∙_, ap, ap₂}
 use mathlib.Core.Bool.{Bool, true, false, cond, not, _&&_}
 use mathlib.Core.List.{List}
-use Prim.Native.Nat.{ℕ, zero, suc, _+_, _-_, _%_, _<_, _≤_}
+use Prim.Native.Nat.{ℕ, suc, _+_, _-_, _%_, _<_, _≤_}
 use native.Mathlib.Numerals.{add-one}
 use native.Mathlib.Nat.{sub-zero}
 use native.Mathlib.Omega.{arith}
@@ -107,6 +107,13 @@ fault-chain issue events pairs table k p inside e f x h₁ h₂ h₃ h₄ h₅ =
     h₅
     ∙ ap₂ (λ (b : Bool) (n : ℕ). cond b n 3) (h₂ ∙ ap (λ (n : ℕ). ltb n (length table)) h₁) (h₄ ∙ ap (fault issue) h₃)
 
+-- a set is bad where it is above 127
+pub bad-set : (x n : ℕ) → x ≡ n → 127 < x → ltb 127 n ≡ true
+bad-set x n h k = lt-ltb 127 n (omega arith)
+
+pub good-set : (x n : ℕ) → x ≡ n → x ≤ 127 → ltb 127 n ≡ false
+good-set x n h k = le-ltb 127 n (omega arith)
+
 -- an event is bad where its refusal isn't 0
 pub bad : (x n : ℕ) → x ≡ n → (x ≡ 0 → ⊥) → not (eqb n 0) ≡ true
 bad x n h k = ap not (ne-eqb n 0 (λ z. k (h ∙ z)))
@@ -151,7 +158,10 @@ module _ (issue : Issue) (l : Lent) where
       e
       ∙ sym (by-stages true false (sym h ∙ not-false fit k) (ap (λ (i : ℕ). ltb i (length (l .table))) (sym q) ∙ le-ltb p (length (l .table)) b))
 
-  -- there are few events where the lengths fit
+  -- there are few pairs and few events where the lengths fit
+  pub few-sets : (fit-test : Bool) → fit-test ≡ lengthsFit l → not fit-test ≡ false → length (l .table) ≤ most
+  few-sets fit-test h k = fits l (sym h ∙ not-false fit-test k) .few-pairs
+
   pub few-pair-numbers : (fit-test : Bool) → fit-test ≡ lengthsFit l → not fit-test ≡ false → length (l .pairs) ≤ most
   few-pair-numbers fit-test h k = let f = fits l (sym h ∙ not-false fit-test k) in omega (arith, f .pairs-fit, f .few-events)
 

@@ -1,7 +1,7 @@
 -- One turn of the judging, over plain variables: what event k adds to the table and to each output, and what all of them leave.
 -- Assumes nothing.
 use mathlib.Core.Path.{_≡_, refl, sym, _∙_, ap, ap₂}
-use mathlib.Core.List.{List, [], _∷_, _++_, append-nil}
+use mathlib.Core.List.{List, _++_, append-nil}
 use Prim.Native.Nat.{ℕ, suc, _+_, _-_, _<_, _≤_}
 use native.Mathlib.Numerals.{add-one}
 use native.Mathlib.Nat.{sub-zero}
@@ -11,7 +11,7 @@ use lib.Seq.{take-suc-set, append-snoc, take-all}
 use Rattle.kinds.specs.Places.{setIn, pairIn, eventIn}
 use Rattle.verdicts.specs.declared.Finding.{Finding}
 use Rattle.verdicts.specs.Verdicts.{after, verdict, dutyByte, finding}
-use Rattle.trace.specs.Entries.{Entry, entryAt, entries, moved, run, outputs}
+use Rattle.trace.specs.Entries.{entryAt, entries, moved, run, outputs}
 use Rattle.trace.specs.Turns.{Room, OneJudged, AllJudged}
 use Rattle.trace.proofs.Laws.{minus-suc, minus-end}
 

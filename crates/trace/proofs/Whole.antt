@@ -1,13 +1,11 @@
 -- What is left of a trace, refused or accepted, and what an accepted one is known to be.
 -- Assumes nothing.
-use mathlib.Core.Path.{_≡_, refl, sym, _∙_, ap}
+use mathlib.Core.Path.{_≡_, refl, ap}
 use mathlib.Core.Bool.{Bool, true, false, cond}
 use Prim.Native.Nat.{ℕ}
 use native.Mathlib.Omega.{arith}
 use borrow.Author.Tests.{eq-eqb, ne-eqb}
-use lib.Dec.{eqb}
 use Rattle.event.specs.Refusals.{Issue}
-use Rattle.trace.specs.declared.Outcome.{Outcome}
 use Rattle.trace.specs.Lent.{Lent, Left, count}
 use Rattle.trace.specs.Refusals.{outcomeOf}
 use Rattle.trace.specs.Given.{Reached, Given, accepted, bad-lengths, bad-set, bad-pair, bad-byte, bad-request}

@@ -2,7 +2,6 @@
 use Prim.Native.Nat.{ℕ, _%_, _<_, _≤_}
 use mathlib.Core.Path.{_≡_}
 use mathlib.Core.Bool.{true, false}
-use mathlib.Core.List.{List}
 use lib.ListN.{length}
 use Rattle.kinds.specs.Tests.{_∈?_}
 use Rattle.kinds.specs.Places.{eventLength, setIn, pairIn, eventIn}

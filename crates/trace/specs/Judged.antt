@@ -1,5 +1,4 @@
 -- The whole answer to a trace, for anything that is lent: what comes back, and every byte of the four buffers afterwards.
-use Prim.Native.Nat.{ℕ}
 use mathlib.Core.Bool.{Bool, cond}
 use mathlib.Core.List.{List}
 use lib.Dec.{eqb}

@@ -1,6 +1,7 @@
 // A whole trace judged: whatever is lent, its refusal with every buffer as it came, or every event's verdict, duty and set.
 use kinds::EVENT_BYTES;
 use kinds::EventNumber;
+use kinds::PairNumber;
 use kinds::Refusal;
 ghost use Prim.Native.Nat.{_≤_};
 ghost use mathlib.Core.Path.{_≡_};
@@ -32,7 +33,9 @@ fn lengths_fit(
     duties: &[u8],
     afters: &[u8],
 ) -> bool
-    ensures { λ r. ⌜ r ≡ lengthsFit (lent (now (events .entry)) (now (pairs .entry)) (now (table .entry)) (now (verdicts .entry)) (now (duties .entry)) (now (afters .entry))) ⌝ }
+    ensures { λ r. ⌜ r ≡ lengthsFit (lent
+        (now (events .entry)) (now (pairs .entry)) (now (table .entry))
+        (now (verdicts .entry)) (now (duties .entry)) (now (afters .entry))) ⌝ }
 {
     let n = events.len() / EVENT_BYTES;
     (events.len() % EVENT_BYTES == 0)
@@ -46,11 +49,13 @@ fn lengths_fit(
 
 // The lowest pair whose set is above all states, or how many pairs there are.
 fn lowest_set(table: &[u8]) -> usize
+    requires { ⌜ length (now table) ≤ most ⌝ }
     ensures { λ r. ⌜ r ≡ lowestSet (now (table .entry)) ⌝ }
 {
     let mut p: usize = 0;
     while p < table.len() {
-        if table[p] > ALL_STATES {
+        let states = PairNumber(p as u16).set_in(table);
+        if states > ALL_STATES {
             return p;
         }
         p += 1;
@@ -113,7 +118,9 @@ fn outcome_of(
     duties: &[u8],
     afters: &[u8],
 ) -> Outcome
-    ensures { λ r. ⌜ r ≡ outcomeOf issueE (lent (now (events .entry)) (now (pairs .entry)) (now (table .entry)) (now (verdicts .entry)) (now (duties .entry)) (now (afters .entry))) ⌝ }
+    ensures { λ r. ⌜ r ≡ outcomeOf issueE (lent
+        (now (events .entry)) (now (pairs .entry)) (now (table .entry))
+        (now (verdicts .entry)) (now (duties .entry)) (now (afters .entry))) ⌝ }
 {
     if !lengths_fit(events, pairs, table, verdicts, duties, afters) {
         return Outcome {
@@ -141,7 +148,9 @@ fn judge_one(
     duties: &mut [u8],
     afters: &mut [u8],
 )
-    ensures { λ _. ⌜ OneJudged (now (events .entry)) (now (pairs .entry)) (k .0) (now (table .entry)) (now (verdicts .entry)) (now (duties .entry)) (now (afters .entry)) (now (table .exit)) (now (verdicts .exit)) (now (duties .exit)) (now (afters .exit)) ⌝ }
+    ensures { λ _. ⌜ OneJudged (now (events .entry)) (now (pairs .entry)) (k .0)
+        (now (table .entry)) (now (verdicts .entry)) (now (duties .entry)) (now (afters .entry))
+        (now (table .exit)) (now (verdicts .exit)) (now (duties .exit)) (now (afters .exit)) ⌝ }
 {
     let pair = k.pair_in(pairs);
     let before = pair.set_in(table);
@@ -163,7 +172,8 @@ fn judge_all(
     afters: &mut [u8],
 )
     requires { ⌜ Room (now pairs) (now verdicts) (now duties) (now afters) ⌝ }
-    ensures { λ _. ⌜ AllJudged (now (events .entry)) (now (pairs .entry)) (now (table .entry)) (now (table .exit)) (now (verdicts .exit)) (now (duties .exit)) (now (afters .exit)) ⌝ }
+    ensures { λ _. ⌜ AllJudged (now (events .entry)) (now (pairs .entry)) (now (table .entry))
+        (now (table .exit)) (now (verdicts .exit)) (now (duties .exit)) (now (afters .exit)) ⌝ }
 {
     let mut k: u32 = 0;
     while (k as usize) < pairs.len() {
@@ -190,7 +200,10 @@ pub fn judge_trace(
     duties: &mut [u8],
     afters: &mut [u8],
 ) -> Outcome
-    ensures { λ r. ⌜ left r (now (table .exit)) (now (verdicts .exit)) (now (duties .exit)) (now (afters .exit)) ≡ judged issueE (lent (now (events .entry)) (now (pairs .entry)) (now (table .entry)) (now (verdicts .entry)) (now (duties .entry)) (now (afters .entry))) ⌝ }
+    ensures { λ r. ⌜ left r (now (table .exit)) (now (verdicts .exit)) (now (duties .exit)) (now (afters .exit))
+        ≡ judged issueE (lent
+        (now (events .entry)) (now (pairs .entry)) (now (table .entry))
+        (now (verdicts .entry)) (now (duties .entry)) (now (afters .entry))) ⌝ }
 {
     let outcome = outcome_of(events, pairs, table, verdicts, duties, afters);
     let refusal = outcome.refusal.0;

@@ -2,14 +2,14 @@
 -- Assumes nothing.
 use mathlib.Core.Path.{_≡_, refl, sym, _∙_, ap, ap₂}
 use mathlib.Core.Bool.{Bool, true, false, cond, _&&_}
-use mathlib.Core.List.{List, map}
+use mathlib.Core.List.{List}
 use Prim.Native.Nat.{ℕ, _<_}
 use borrow.Author.Tests.{eqb-false, ne-eqb}
 use lib.Dec.{eqb}
 use Rattle.kinds.specs.Tests.{any}
 use Rattle.kinds.specs.Codes.{states}
 use Rattle.kinds.proofs.Lists.{any-found, found-any, and-left, and-right, and-both, state-in}
-use Rattle.sets.specs.Sets.{setOf, bit, apply}
+use Rattle.sets.specs.Sets.{bit, apply}
 use Rattle.sets.proofs.Laws.{apply-setOf, bit-setOf, bit-state, setOf-below, Held, held-some, some-held}
 use Rattle.steps.specs.Steps.{Step, steps, setAfter, setsAfter, duty, noDuty}
 use Rattle.steps.proofs.Stepping.{steps-step, step-steps, permitted-before, permitted-after}

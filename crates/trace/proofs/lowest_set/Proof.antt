@@ -2,11 +2,12 @@
 -- Assumes nothing.
 use Prim.Native.Nat.{_-_}
 use native.Mathlib.Omega.{arith}
-use borrow.Author.Tests.{lt-ltb, le-ltb}
+use borrow.Author.Needs.{needs}
 use denote.Ref.{now}
-use lib.ListN.{length, getD}
+use lib.ListN.{length}
+use Rattle.kinds.specs.Places.{setIn}
 use Rattle.trace.specs.Refusals.{badSet}
-use Rattle.trace.proofs.Laws.{First, first-start, first-here, first-next, first-end}
+use Rattle.trace.proofs.Laws.{First, first-start, first-here, first-next, first-end, bad-set, good-set}
 use Rattle.trace.proofs.lowest_set.Statement.{statement}
 use Rattle.trace.proofs.lowest_set.Tie as tie
 
@@ -17,13 +18,16 @@ abbrev μ-loop : tie.MeasureT-loop
 μ-loop table p₀ p = length table - p
 
 loop-holds : tie.Need-loop-holds Inv-loop μ-loop
-loop-holds c = first-start (badSet (now (c .args .table))) (length (now (c .args .table)))
+loop-holds c = first-start (badSet (now (c .before .args .table))) (length (now (c .before .args .table)))
 
-shared-slice-read-if1 : tie.Need-shared-slice-read-if1 Inv-loop μ-loop
-shared-slice-read-if1 c = omega arith
+cast-t6 : tie.Need-cast-t6 Inv-loop μ-loop
+cast-t6 c = omega (arith, c .before .before .before .pre)
+
+set-in-requires : tie.Need-set-in-requires Inv-loop μ-loop
+set-in-requires c κs = search needs
 
 returns : tie.Need-returns Inv-loop μ-loop
-returns c = first-here (c .before .before .before .loop .inv) (c .before .before .loop-test .taken) (lt-ltb 127 (getD (now (c .before .before .before .before .args .table)) (c .before .before .before .loop .p) 0) (c .if1 .taken))
+returns c = first-here (c .before .before .before .loop .inv) (c .before .before .loop-test .taken) (bad-set (c .before .set-in .result) (setIn (now (c .before .before .before .before .before .args .table)) (c .before .before .before .loop .p)) (c .before .set-in .ensures) (c .if1 .taken))
 
 add-p : tie.Need-add-p Inv-loop μ-loop
 add-p c = omega arith
@@ -32,7 +36,7 @@ loop-less : tie.Need-loop-less Inv-loop μ-loop
 loop-less c = omega arith
 
 loop-again : tie.Need-loop-again Inv-loop μ-loop
-loop-again c = first-next (c .before .before .before .loop .inv) (c .before .before .loop-test .taken) (le-ltb 127 (getD (now (c .before .before .before .before .args .table)) (c .before .before .before .loop .p) 0) (c .if1 .left))
+loop-again c = first-next (c .before .before .before .loop .inv) (c .before .before .loop-test .taken) (good-set (c .before .set-in .result) (setIn (now (c .before .before .before .before .before .args .table)) (c .before .before .before .loop .p)) (c .before .set-in .ensures) (c .if1 .left))
 
 returns-2 : tie.Need-returns-2 Inv-loop μ-loop
 returns-2 c = first-end (c .before .loop .inv) (c .loop-test .left)
@@ -44,7 +48,8 @@ lowest-set-spec =
     Inv-loop
     μ-loop
     loop-holds
-    shared-slice-read-if1
+    cast-t6
+    set-in-requires
     returns
     add-p
     loop-less

@@ -3,7 +3,7 @@
 use denote.Ref.{now}
 use Rattle.event.specs.Refusals.{issueE}
 use Rattle.trace.specs.Lent.{lent}
-use Rattle.trace.proofs.Laws.{refused-lengths, refused-set, few-pair-numbers, left-to-events}
+use Rattle.trace.proofs.Laws.{refused-lengths, refused-set, few-sets, few-pair-numbers, left-to-events}
 use borrow.Author.Needs.{needs}
 use Rattle.trace.proofs.outcome_of.Statement.{statement}
 use Rattle.trace.proofs.outcome_of.Tie as tie
@@ -15,7 +15,7 @@ returns : tie.Need-returns
 returns c = refused-lengths issueE (lent (now (c .before .before .before .before .before .before .before .before .args .events)) (now (c .before .before .before .before .before .before .before .before .args .pairs)) (now (c .before .before .before .before .before .before .before .before .args .table)) (now (c .before .before .before .before .before .before .before .before .args .verdicts)) (now (c .before .before .before .before .before .before .before .before .args .duties)) (now (c .before .before .before .before .before .before .before .before .args .afters))) (c .before .lengths-fit .result) (c .before .lengths-fit .ensures) (c .if1 .taken)
 
 lowest-set-requires : tie.Need-lowest-set-requires
-lowest-set-requires c κs = search needs
+lowest-set-requires c κs = few-sets issueE (lent (now (c .before .before .before .before .before .before .before .before .args .events)) (now (c .before .before .before .before .before .before .before .before .args .pairs)) (now (c .before .before .before .before .before .before .before .before .args .table)) (now (c .before .before .before .before .before .before .before .before .args .verdicts)) (now (c .before .before .before .before .before .before .before .before .args .duties)) (now (c .before .before .before .before .before .before .before .before .args .afters))) (c .before .lengths-fit .result) (c .before .lengths-fit .ensures) (c .if1 .left)
 
 returns-2 : tie.Need-returns-2
 returns-2 c = refused-set issueE (lent (now (c .before .before .before .before .before .before .before .before .before .before .args .events)) (now (c .before .before .before .before .before .before .before .before .before .before .args .pairs)) (now (c .before .before .before .before .before .before .before .before .before .before .args .table)) (now (c .before .before .before .before .before .before .before .before .before .before .args .verdicts)) (now (c .before .before .before .before .before .before .before .before .before .before .args .duties)) (now (c .before .before .before .before .before .before .before .before .before .before .args .afters))) (c .before .before .before .lengths-fit .result) (c .before .lowest-set .result) (c .before .before .before .lengths-fit .ensures) (c .before .before .if1 .left) (c .before .lowest-set .ensures) (c .if2 .taken)
