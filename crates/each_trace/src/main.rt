@@ -178,7 +178,8 @@ fn turn(
     if !(begun & whole) {
         return false;
     }
-    set_pairs(bytes, pairs);
+    let n = least(l.pairs, pairs.len());
+    set_pairs(bytes, &mut pairs[..n]);
     let told = judge_case(l, events, pairs, table, verdicts, duties, afters);
     let left = write_left(l, table, verdicts, duties, afters);
     told & left

@@ -15,52 +15,52 @@ use Rattle.sets.proofs.Laws.{Held, held-some, some-held}
 use Rattle.event.specs.Refusals.{Issue}
 use Rattle.verdicts.specs.Verdicts.{after, verdict}
 use Rattle.verdicts.proofs.Laws.{after-below, is-explained, is-unexplained, is-not-judged}
-use Rattle.trace.specs.Entries.{entryAt, entries, run, outputs}
+use Rattle.trace.specs.Events.{eventAt, eventsFrom, run, outputs}
 use Rattle.trace.specs.Lent.{Lent, count}
-use Rattle.trace.specs.Given.{Reached}
+use Rattle.trace.specs.Given.{GoodSoFar}
 use Rattle.trace.specs.Judged.{trace}
 use Rattle.histories.specs.Histories.{own, first, SomeHistory, Passes, VerdictGiven, passed, stopped, not-reached}
 use Rattle.histories.proofs.Walk.{walk, walk-below, walk-append, ends, ends-in, walk-empty}
-use Rattle.histories.proofs.Own.{own-same, own-other, own-append, entries-append, run-own, output-at}
+use Rattle.histories.proofs.Own.{own-same, own-other, own-append, eventsFrom-append, run-own, output-at}
 
 -- the set of pair p after its events among the first k
 abbrev pub setBefore : Lent → ℕ → ℕ → ℕ
 setBefore l p k = walk (setIn (l .table) p) (own p (first l k))
 
-first-suc : (l : Lent) (k : ℕ) → first l (suc k) ≡ first l k ++ (entryAt (l .events) (l .pairs) k ∷ [])
+pub first-suc : (l : Lent) (k : ℕ) → first l (suc k) ≡ first l k ++ (eventAt (l .events) (l .pairs) k ∷ [])
 first-suc l k =
     ap (first l) (sym (add-one k))
-    ∙ entries-append (l .events) (l .pairs) 0 k 1
-    ∙ ap (λ (i : ℕ). first l k ++ (entryAt (l .events) (l .pairs) i ∷ [])) (zero-add k)
+    ∙ eventsFrom-append (l .events) (l .pairs) 0 k 1
+    ∙ ap (λ (i : ℕ). first l k ++ (eventAt (l .events) (l .pairs) i ∷ [])) (zero-add k)
 
-own-suc : (l : Lent) (p k : ℕ) → own p (first l (suc k)) ≡ own p (first l k) ++ own p (entryAt (l .events) (l .pairs) k ∷ [])
-own-suc l p k = ap (own p) (first-suc l k) ∙ own-append p (first l k) (entryAt (l .events) (l .pairs) k ∷ [])
+own-suc : (l : Lent) (p k : ℕ) → own p (first l (suc k)) ≡ own p (first l k) ++ own p (eventAt (l .events) (l .pairs) k ∷ [])
+own-suc l p k = ap (own p) (first-suc l k) ∙ own-append p (first l k) (eventAt (l .events) (l .pairs) k ∷ [])
 
 -- another pair's event is no part of it
 pub own-kept : (l : Lent) (p k : ℕ) → (pairIn (l .pairs) k ≡ p → ⊥) → own p (first l (suc k)) ≡ own p (first l k)
 own-kept l p k h =
     own-suc l p k
-    ∙ ap (λ (es : List (List ℕ)). own p (first l k) ++ es) (own-other p (entryAt (l .events) (l .pairs) k) [] h)
+    ∙ ap (λ (es : List (List ℕ)). own p (first l k) ++ es) (own-other p (eventAt (l .events) (l .pairs) k) [] h)
     ∙ append-nil (own p (first l k))
 
 -- its own event moves its set
 pub set-next : (l : Lent) (k : ℕ) → setBefore l (pairIn (l .pairs) k) (suc k) ≡ after (eventIn (l .events) k) (setBefore l (pairIn (l .pairs) k) k)
 set-next l k =
     let p = pairIn (l .pairs) k in
-    ap (walk (setIn (l .table) p)) (own-suc l p k ∙ ap (λ (es : List (List ℕ)). own p (first l k) ++ es) (own-same p (entryAt (l .events) (l .pairs) k) [] refl))
+    ap (walk (setIn (l .table) p)) (own-suc l p k ∙ ap (λ (es : List (List ℕ)). own p (first l k) ++ es) (own-same p (eventAt (l .events) (l .pairs) k) [] refl))
     ∙ walk-append (setIn (l .table) p) (own p (first l k)) (eventIn (l .events) k ∷ [])
 
 -- an empty set stays empty
 pub set-lost : (l : Lent) (p k j : ℕ) → k ≤ j → setBefore l p k ≡ 0 → setBefore l p j ≡ 0
 set-lost l p k j h z =
     ap (λ (i : ℕ). setBefore l p i) (split k j h)
-    ∙ ap (walk (setIn (l .table) p)) (ap (own p) (entries-append (l .events) (l .pairs) 0 k (j - k)) ∙ own-append p (first l k) (entries (l .events) (l .pairs) (0 + k) (j - k)))
+    ∙ ap (walk (setIn (l .table) p)) (ap (own p) (eventsFrom-append (l .events) (l .pairs) 0 k (j - k)) ∙ own-append p (first l k) (eventsFrom (l .events) (l .pairs) (0 + k) (j - k)))
     ∙ walk-append (setIn (l .table) p) (own p (first l k)) rest
     ∙ ap (λ (m : ℕ). walk m rest) z
     ∙ walk-empty rest
   where
     rest : List (List ℕ)
-    rest = own p (entries (l .events) (l .pairs) (0 + k) (j - k))
+    rest = own p (eventsFrom (l .events) (l .pairs) (0 + k) (j - k))
 
     split : (a b : ℕ) → a ≤ b → b ≡ a + (b - a)
     split a b le = omega arith
@@ -73,7 +73,7 @@ pub history-held : {l : Lent} {p k : ℕ} → SomeHistory l p k → Held (setBef
 history-held {l} {p} {k} h = record { state = h .end; inside = ends-in (setIn (l .table) p) (own p (first l k)) (h .end) (h .history) }
 
 -- EVENT k OF A TRACE THAT IS ACCEPTED.
-module _ (issue : Issue) (l : Lent) (good : Reached issue l (count l)) where
+module _ (issue : Issue) (l : Lent) (good : GoodSoFar issue l (count l)) where
   pub set-below : (p k : ℕ) → p < length (l .table) → setBefore l p k < 128
   set-below p k h = walk-below (setIn (l .table) p) (own p (first l k)) (omega (arith, good .sets-good p h))
 

@@ -7,12 +7,12 @@ use lib.Dec.{eqb}
 use Rattle.kinds.specs.Places.{setIn, pairIn}
 use Rattle.sets.specs.Sets.{bit}
 use Rattle.steps.specs.Steps.{Step}
-use Rattle.trace.specs.Entries.{Entry, entries}
+use Rattle.trace.specs.Events.{TraceEvent, eventsFrom}
 use Rattle.trace.specs.Lent.{Lent}
 use Rattle.verdicts.specs.Verdicts.{explained, unexplained, notJudged}
 
 -- that pair's events, in their order; other pairs' events are no part of it
-abbrev pub own : ℕ → List Entry → List (List ℕ)
+abbrev pub own : ℕ → List TraceEvent → List (List ℕ)
 own p [] = []
 own p (x ∷ xs) = cond (eqb (x .pair) p) (x .bytes ∷ own p xs) (own p xs)
 
@@ -29,8 +29,8 @@ pub record History (start : ℕ) (es : List (List ℕ)) (s′ : ℕ) : Type 0 wh
   pub way : Through es from s′
 
 -- the first k events of what is lent
-abbrev pub first : Lent → ℕ → List Entry
-first l k = entries (l .events) (l .pairs) 0 k
+abbrev pub first : Lent → ℕ → List TraceEvent
+first l k = eventsFrom (l .events) (l .pairs) 0 k
 
 -- a history of pair p through its events among the first k, that ends in s
 abbrev pub HistoryTo : Lent → ℕ → ℕ → ℕ → Type 0
@@ -41,10 +41,11 @@ pub record SomeHistory (l : Lent) (p k : ℕ) : Type 0 where
   pub end : ℕ
   pub history : HistoryTo l p k end
 
--- some history of its pair reaches event k, and some history passes it
+-- some history of its pair reaches event k
 abbrev pub Reaches : Lent → ℕ → Type 0
 Reaches l k = SomeHistory l (pairIn (l .pairs) k) k
 
+-- some history of its pair passes event k
 abbrev pub Passes : Lent → ℕ → Type 0
 Passes l k = SomeHistory l (pairIn (l .pairs) k) (suc k)
 

@@ -2,7 +2,7 @@
 -- Assumes nothing.
 use mathlib.Core.Path.{_≡_, refl, sym, _∙_, ap, subst}
 use mathlib.Core.Logic.{_↔_, _⊎_, inl, inr, ⊎-elim}
-use mathlib.Core.Bool.{Bool, true, false, cond}
+use mathlib.Core.Bool.{Bool, true, false, cond, not, _&&_}
 use Prim.Native.Nat.{ℕ, suc, _<_}
 use native.Mathlib.Omega.{arith}
 use borrow.Author.Tests.{eqb-true, eqb-false, eq-eqb, ne-eqb}
@@ -13,21 +13,22 @@ use Rattle.kinds.specs.Places.{setIn}
 use Rattle.sets.specs.Sets.{bit, holdsDirty}
 use Rattle.steps.specs.Steps.{Step, duty, noDuty, Home, Requester, lost}
 use Rattle.event.specs.Refusals.{issueE}
-use Rattle.verdicts.specs.Verdicts.{verdict, dutyByte, explained, unexplained, notJudged}
+use Rattle.verdicts.specs.Verdicts.{after, verdict, dutyByte, explained, unexplained, notJudged}
 use Rattle.verdicts.proofs.Laws.{From, from-after, is-explained}
 use Rattle.sets.proofs.Laws.{bit-state, held-some, some-held}
 use Rattle.trace.specs.declared.Outcome.{Outcome}
 use Rattle.trace.specs.Lent.{Lent, Left, count}
 use Rattle.trace.specs.Refusals.{outcomeOf}
-use Rattle.trace.specs.Given.{Reached}
-use Rattle.trace.specs.Judged.{judged, acceptedLeft}
-use Rattle.trace.proofs.Whole.{judged-outcome, judged-accepted, accepted-reached}
+use Rattle.trace.specs.Given.{GoodSoFar}
+use Rattle.trace.specs.Judged.{trace, judged, acceptedLeft}
+use Rattle.trace.proofs.Whole.{judged-outcome, judged-accepted, accepted-good}
 use Rattle.histories.specs.Histories.{own, first, HistoryTo, SomeHistory, Passes, VerdictGiven, passed, stopped, not-reached}
 use Rattle.histories.proofs.Walk.{ends, ends-in}
+use Rattle.histories.proofs.Own.{length-run, length-outputs}
 use Rattle.histories.proofs.At.{setBefore, set-lost, set-below, byte-at, after-at, table-at, pair-in, held-history, history-held, verdict-given, gives-verdict}
 use Rattle.theorems.specs.Duties.{nonDataError, HomeHolds, RequesterHolds}
-use Rattle.theorems.specs.Traces.{Accepted, verdictByte, dutyOf, afterByte, endSet, pairOf, eventOf, DutySaid, DirtyReaches}
-use Rattle.theorems.proofs.Told.{law, exactly-one, error-byte, holds-dirty, dirty-held}
+use Rattle.theorems.specs.Traces.{Accepted, verdictAt, dutyAt, afterAt, setAtEnd, pairOf, eventOf, DutySaid, DirtyReaches}
+use Rattle.theorems.proofs.Told.{law, exactly-one, nobody, error-byte, holds-dirty, dirty-held}
 
 -- a state of the set of a pair, and a history of that pair that ends in it
 pub set-history : (l : Lent) (p k s : ℕ) → bit (setBefore l p k) s ≡ true ↔ HistoryTo l p k s
@@ -56,58 +57,73 @@ module _ (l : Lent) (ok : Accepted l) where
   number-0 : outcomeOf issueE l .refusal .0 ≡ 0
   number-0 = sym (ap (λ (o : Outcome). o .refusal .0) (judged-outcome issueE l)) ∙ ok
 
-  pub good : Reached issueE l (count l)
-  good = accepted-reached issueE l number-0
+  pub good : GoodSoFar issueE l (count l)
+  good = accepted-good issueE l number-0
 
   all-left : judged issueE l ≡ acceptedLeft (outcomeOf issueE l) l
   all-left = judged-accepted issueE l number-0
 
-  pub end-set : (p : ℕ) → p < length (l .table) → endSet l p ≡ setBefore l p (count l)
+  pub end-set : (p : ℕ) → p < length (l .table) → setAtEnd l p ≡ setBefore l p (count l)
   end-set p h = ap (λ (x : Left). getD (x .table) p 0) all-left ∙ table-at issueE l good p h
 
-  pub after-byte : (k : ℕ) → k < count l → afterByte l k ≡ setBefore l (pairOf l k) (suc k)
+  pub after-byte : (k : ℕ) → k < count l → afterAt l k ≡ setBefore l (pairOf l k) (suc k)
   after-byte k h = ap (λ (x : Left). getD (x .afters) k 0) all-left ∙ after-at issueE l good k h
 
-  pub verdicts-left : (k : ℕ) → verdictByte l k ≡ getD (acceptedLeft (outcomeOf issueE l) l .verdicts) k 0
+  -- how long each buffer is
+  pub lengths : (length (judged issueE l .table) ≡ length (l .table))
+      × (length (judged issueE l .verdicts) ≡ count l)
+      × (length (judged issueE l .duties) ≡ count l)
+      × (length (judged issueE l .afters) ≡ count l)
+  lengths = (
+    ap (λ (x : Left). length (x .table)) all-left ∙ length-run (l .table) (trace l),
+    ap (λ (x : Left). length (x .verdicts)) all-left ∙ length-outputs verdict (l .table) (l .events) (l .pairs) 0 (count l),
+    ap (λ (x : Left). length (x .duties)) all-left ∙ length-outputs dutyByte (l .table) (l .events) (l .pairs) 0 (count l),
+    ap (λ (x : Left). length (x .afters)) all-left ∙ length-outputs after (l .table) (l .events) (l .pairs) 0 (count l),
+  )
+
+  pub verdicts-left : (k : ℕ) → verdictAt l k ≡ getD (acceptedLeft (outcomeOf issueE l) l .verdicts) k 0
   verdicts-left k = ap (λ (x : Left). getD (x .verdicts) k 0) all-left
 
-  pub verdict-row : (k : ℕ) → k < count l → VerdictGiven l k (verdictByte l k)
+  pub verdict-row : (k : ℕ) → k < count l → VerdictGiven l k (verdictAt l k)
   verdict-row k h = subst (VerdictGiven l k) (sym (verdicts-left k)) (verdict-given issueE l good k h)
 
   -- the set of a pair is empty from an unexplained event on
-  pub empty-after : (k : ℕ) → k < count l → verdictByte l k ≡ unexplained → (j : ℕ) → k < j → setBefore l (pairOf l k) j ≡ 0
+  pub empty-after : (k : ℕ) → k < count l → verdictAt l k ≡ unexplained → (j : ℕ) → k < j → setBefore l (pairOf l k) j ≡ 0
   empty-after k h v j below =
       set-lost l (pairOf l k) (suc k) j below
       (none-ends l (pairOf l k) (suc k) (set-below issueE l good (pairOf l k) (suc k) (pair-in issueE l good k h)) (none-passes (verdict-row k h) v))
 
   -- an event that nothing reaches isn't judged
-  pub unreached : (k : ℕ) → k < count l → setBefore l (pairOf l k) k ≡ 0 → verdictByte l k ≡ notJudged
+  pub unreached : (k : ℕ) → k < count l → setBefore l (pairOf l k) k ≡ 0 → verdictAt l k ≡ notJudged
   unreached k h z = verdicts-left k ∙ gives-verdict issueE l good k h (not-reached (λ s. held-some (history-held s) z))
 
   module _ (k : ℕ) (inside : k < count l) where
     abbrev m : ℕ
     m = setBefore l (pairOf l k) k
 
-    verdict-byte : verdictByte l k ≡ verdict (eventOf l k) m
+    pub verdict-byte : verdictAt l k ≡ verdict (eventOf l k) m
     verdict-byte = verdicts-left k ∙ byte-at issueE l good verdict k inside
 
-    duty-byte : dutyOf l k ≡ dutyByte (eventOf l k) m
+    pub duty-byte : dutyAt l k ≡ dutyByte (eventOf l k) m
     duty-byte = ap (λ (x : Left). getD (x .duties) k 0) all-left ∙ byte-at issueE l good dutyByte k inside
 
+    pub set-byte : afterAt l k ≡ after (eventOf l k) m
+    set-byte = ap (λ (x : Left). getD (x .afters) k 0) all-left ∙ byte-at issueE l good after k inside
+
     -- the duty byte of an explained event, and of any other
-    explained-byte : verdictByte l k ≡ explained → dutyOf l k ≡ duty (eventOf l k) m
+    explained-byte : verdictAt l k ≡ explained → dutyAt l k ≡ duty (eventOf l k) m
     unfolding dutyByte
     explained-byte h = duty-byte ∙ ap (λ (b : Bool). cond b (duty (eventOf l k) m) noDuty) (eq-eqb (verdict (eventOf l k) m) explained (sym verdict-byte ∙ h))
 
-    pub silent-byte : (verdictByte l k ≡ explained → ⊥) → dutyOf l k ≡ noDuty
+    pub silent-byte : (verdictAt l k ≡ explained → ⊥) → dutyAt l k ≡ noDuty
     unfolding dutyByte
     silent-byte h = duty-byte ∙ ap (λ (b : Bool). cond b (duty (eventOf l k) m) noDuty) (ne-eqb (verdict (eventOf l k) m) explained (λ z. h (verdict-byte ∙ z)))
 
-    pub said : verdictByte l k ≡ explained → DutySaid l k (dutyOf l k)
+    pub said : verdictAt l k ≡ explained → DutySaid l k (dutyAt l k)
     said h = record { before = m; exactly = set-history l (pairOf l k) k; says = explained-byte h }
 
     -- an event that a history passes is explained
-    pub passes-explained : (s s′ : ℕ) → HistoryTo l (pairOf l k) k s → Step (eventOf l k) s s′ → verdictByte l k ≡ explained
+    pub passes-explained : (s s′ : ℕ) → HistoryTo l (pairOf l k) k s → Step (eventOf l k) s s′ → verdictAt l k ≡ explained
     passes-explained s s′ h p =
         verdict-byte
         ∙ is-explained (eventOf l k) m (set-below issueE l good (pairOf l k) k (pair-in issueE l good k inside))
@@ -118,18 +134,18 @@ module _ (l : Lent) (ok : Accepted l) where
 
     -- DEMAND 2'S CLAUSE in a trace
     pub handed-over : (s s′ : ℕ) → HistoryTo l (pairOf l k) k s → Step (eventOf l k) s s′ → dirty s ≡ true → dirty s′ ≡ false → nonDataError (eventOf l k) ≡ false
-        → (HomeHolds (eventOf l k) × (dutyOf l k ≡ Home)) ⊎ (RequesterHolds (eventOf l k) × (dutyOf l k ≡ Requester))
+        → (HomeHolds (eventOf l k) × (dutyAt l k ≡ Home)) ⊎ (RequesterHolds (eventOf l k) × (dutyAt l k ≡ Requester))
     handed-over s s′ h p d d′ n =
         ⊎-elim
         (λ w. inl (w, byte ∙ w .says m))
         (λ w. inr (w, byte ∙ w .says m))
         (exactly-one (eventOf l k) (dirty s) (dirty s′) (law (eventOf l k) (p .tag) s s′ (p .by-rows)) d d′ n)
       where
-        byte : dutyOf l k ≡ duty (eventOf l k) m
+        byte : dutyAt l k ≡ duty (eventOf l k) m
         byte = explained-byte (passes-explained s s′ h p)
 
     -- a non-data error on an explained event: the byte asks whether a history reaches it with a Dirty line
-    error-at : (s s′ : ℕ) → HistoryTo l (pairOf l k) k s → Step (eventOf l k) s s′ → nonDataError (eventOf l k) ≡ true → dutyOf l k ≡ cond (holdsDirty m) lost noDuty
+    error-at : (s s′ : ℕ) → HistoryTo l (pairOf l k) k s → Step (eventOf l k) s s′ → nonDataError (eventOf l k) ≡ true → dutyAt l k ≡ cond (holdsDirty m) lost noDuty
     error-at s s′ h p n = explained-byte (passes-explained s s′ h p) ∙ error-byte (eventOf l k) m (dirty s) (dirty s′) (law (eventOf l k) (p .tag) s s′ (p .by-rows)) n
 
     dirty-before : (s : ℕ) → HistoryTo l (pairOf l k) k s → dirty s ≡ true → holdsDirty m ≡ true
@@ -137,10 +153,10 @@ module _ (l : Lent) (ok : Accepted l) where
         let b = set-history l (pairOf l k) k s .1 h in
         holds-dirty m s (bit-state m s (set-below issueE l good (pairOf l k) k (pair-in issueE l good k inside)) b) b d
 
-    pub lost-at : (s s′ : ℕ) → HistoryTo l (pairOf l k) k s → Step (eventOf l k) s s′ → nonDataError (eventOf l k) ≡ true → (dutyOf l k ≡ lost) ↔ DirtyReaches l k
+    pub lost-at : (s s′ : ℕ) → HistoryTo l (pairOf l k) k s → Step (eventOf l k) s s′ → nonDataError (eventOf l k) ≡ true → (dutyAt l k ≡ lost) ↔ DirtyReaches l k
     lost-at s s′ h p n = (there, back)
       where
-        there : dutyOf l k ≡ lost → DirtyReaches l k
+        there : dutyAt l k ≡ lost → DirtyReaches l k
         there q = go (holdsDirty m) refl
           where
             go : (b : Bool) → holdsDirty m ≡ b → DirtyReaches l k
@@ -151,11 +167,11 @@ module _ (l : Lent) (ok : Accepted l) where
                 let wrong : _≡_ {A = ℕ} lost noDuty = sym q ∙ error-at s s′ h p n ∙ ap (λ (x : Bool). cond x lost noDuty) b in
                 absurd (omega arith)
 
-        back : DirtyReaches l k → dutyOf l k ≡ lost
+        back : DirtyReaches l k → dutyAt l k ≡ lost
         back r = error-at s s′ h p n ∙ ap (λ (x : Bool). cond x lost noDuty) (dirty-before (r .state) (r .history) (r .is-dirty))
 
     -- nothing told of an explained event: no history gives up a Dirty line there
-    pub kept-dirty : (s s′ : ℕ) → HistoryTo l (pairOf l k) k s → Step (eventOf l k) s s′ → dutyOf l k ≡ noDuty → dirty s ≡ true → dirty s′ ≡ true
+    pub kept-dirty : (s s′ : ℕ) → HistoryTo l (pairOf l k) k s → Step (eventOf l k) s s′ → dutyAt l k ≡ noDuty → dirty s ≡ true → dirty s′ ≡ true
     kept-dirty s s′ h p z d = go (dirty s′) (nonDataError (eventOf l k)) refl refl
       where
         go : (b n : Bool) → dirty s′ ≡ b → nonDataError (eventOf l k) ≡ n → b ≡ true
@@ -169,3 +185,41 @@ module _ (l : Lent) (ok : Accepted l) where
             (λ w. let wrong : _≡_ {A = ℕ} noDuty Home = sym z ∙ w .1 in absurd (omega arith))
             (λ w. let wrong : _≡_ {A = ℕ} noDuty Requester = sym z ∙ w .1 in absurd (omega arith))
             (handed-over s s′ h p d q r))
+
+    -- a byte of 1 or 2: every history through the event gives up a Dirty line there, without a non-data error
+    pub given-up : (s s′ : ℕ) → HistoryTo l (pairOf l k) k s → Step (eventOf l k) s s′ → (dutyAt l k ≡ Home) ⊎ (dutyAt l k ≡ Requester)
+        → (dirty s ≡ true) × (dirty s′ ≡ false) × (nonDataError (eventOf l k) ≡ false)
+    given-up s s′ h p told = go (dirty s) (dirty s′) (nonDataError (eventOf l k)) refl refl refl
+      where
+        byte : dutyAt l k ≡ duty (eventOf l k) m
+        byte = explained-byte (passes-explained s s′ h p)
+
+        silent : (d : ℕ) → dutyAt l k ≡ d → (d ≡ Home → ⊥) → (d ≡ Requester → ⊥) → ⊥
+        silent d q home requester = ⊎-elim (λ w. home (sym q ∙ w)) (λ w. requester (sym q ∙ w)) told
+
+        not-lost : nonDataError (eventOf l k) ≡ true → ⊥
+        not-lost n = choose (holdsDirty m) refl
+          where
+            choose : (b : Bool) → holdsDirty m ≡ b → ⊥
+            choose true q = silent lost (error-at s s′ h p n ∙ ap (λ (x : Bool). cond x lost noDuty) q) (λ z. absurd (omega arith)) (λ z. absurd (omega arith))
+            choose false q = silent noDuty (error-at s s′ h p n ∙ ap (λ (x : Bool). cond x lost noDuty) q) (λ z. absurd (omega arith)) (λ z. absurd (omega arith))
+
+        not-kept : (a b : Bool) → dirty s ≡ a → dirty s′ ≡ b → nonDataError (eventOf l k) ≡ false → a && not b && not false ≡ false → ⊥
+        not-kept a b q r n z =
+            silent noDuty
+            (byte
+            ∙ nobody (eventOf l k) (dirty s) (dirty s′) (law (eventOf l k) (p .tag) s s′ (p .by-rows))
+            (ap (λ (x : Bool). x && not (dirty s′) && not (nonDataError (eventOf l k))) q
+            ∙ ap (λ (x : Bool). a && not x && not (nonDataError (eventOf l k))) r
+            ∙ ap (λ (x : Bool). a && not b && not x) n
+            ∙ z)
+            .says n m)
+            (λ w. absurd (omega arith))
+            (λ w. absurd (omega arith))
+
+        go : (a b n : Bool) → dirty s ≡ a → dirty s′ ≡ b → nonDataError (eventOf l k) ≡ n
+            → (dirty s ≡ true) × (dirty s′ ≡ false) × (nonDataError (eventOf l k) ≡ false)
+        go a b true q r w = absurd (not-lost w)
+        go true false false q r w = (q, r, w)
+        go true true false q r w = absurd (not-kept true true q r w refl)
+        go false b false q r w = absurd (not-kept false b q r w refl)

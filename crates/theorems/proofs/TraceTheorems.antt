@@ -6,10 +6,12 @@ use mathlib.Core.Logic.{_↔_, _⊎_}
 use mathlib.Core.Bool.{true, false}
 use mathlib.Core.List.{[], _∷_}
 use Prim.Native.Nat.{ℕ, suc, _<_}
+use native.Mathlib.Nat.{zero-add}
 use native.Mathlib.Omega.{arith}
 use lib.ListN.{length}
+-- the definitions that the theorems name
 use Rattle.kinds.specs.Codes.{dirty}
-use Rattle.kinds.specs.Places.{setIn}
+use Rattle.kinds.specs.Places.{setIn, pairIn}
 use Rattle.sets.specs.Sets.{setOf, bit}
 use Rattle.rows.specs.Rows.{rows}
 use Rattle.rows.specs.Permitted.{asked, answered, tagged, permitted}
@@ -18,32 +20,40 @@ use Rattle.event.specs.Refusals.{issueE, fault}
 use Rattle.verdicts.specs.Verdicts.{after, verdict, dutyByte, explained, unexplained, notJudged}
 use Rattle.trace.specs.declared.Outcome.{Outcome}
 use Rattle.trace.specs.Lent.{Lent, Left, left, count}
-use Rattle.trace.specs.Refusals.{answer, lengthsFit, faultAt, byEvents, outcomeOf}
+use Rattle.trace.specs.Refusals.{outcome, lengthsFit, faultAt, byEvents, outcomeOf}
 use Rattle.trace.specs.Given.{Given}
 use Rattle.trace.specs.Judged.{trace, refusedLeft, accepts, judged}
+use Rattle.histories.specs.Histories.{own, first, History, HistoryTo, VerdictGiven}
+use Rattle.theorems.specs.Duties.{nonDataError, HomeHolds, RequesterHolds}
+use Rattle.theorems.specs.Traces.{Accepted, verdictAt, dutyAt, afterAt, setAtEnd, pairOf, eventOf, DutySaid, DirtyReaches, sheet}
+-- their proofs
 use Rattle.trace.proofs.Given.{given, gives}
 use Rattle.trace.proofs.Whole.{judged-outcome, judged-refused}
-use Rattle.histories.specs.Histories.{own, first, HistoryTo, VerdictGiven}
-use Rattle.histories.proofs.Walk.{walk}
-use Rattle.histories.proofs.At.{setBefore, gives-verdict, own-kept, pair-in}
-use Rattle.theorems.specs.Duties.{nonDataError, HomeHolds, RequesterHolds}
-use Rattle.theorems.specs.Traces.{Accepted, verdictByte, dutyOf, afterByte, endSet, pairOf, eventOf, DutySaid, DirtyReaches, sheet}
+use Rattle.histories.proofs.Walk.{walk, walk-empty}
+use Rattle.histories.proofs.Own.{own-none}
+use Rattle.histories.proofs.At.{setBefore, set-below, gives-verdict, own-kept, pair-in}
 use Rattle.theorems.proofs.Told.{only}
-use Rattle.theorems.proofs.OnTrace.{good, verdicts-left, verdict-row, empty-after, unreached, end-set, after-byte, read-set, said, silent-byte, handed-over, lost-at, kept-dirty}
+use Rattle.theorems.proofs.OnTrace.{good, lengths, verdicts-left, verdict-row, empty-after, unreached, end-set, after-byte, verdict-byte, duty-byte, set-byte, read-set, said, silent-byte, handed-over, given-up, lost-at, kept-dirty}
 
 -- ONE OUTCOME: any two outcomes that the claim allows are equal, the answer and every byte of the four buffers.
-pub one-outcome : (l : Lent) (r r′ : Left) → r ≡ judged issueE l → r′ ≡ judged issueE l → r ≡ r′
-one-outcome l = only (judged issueE l)
+pub one-outcome-of-a-trace : (l : Lent) (r r′ : Left) → r ≡ judged issueE l → r′ ≡ judged issueE l → r ≡ r′
+one-outcome-of-a-trace l = only (judged issueE l)
 
--- DEMAND 1: a number and a place are the answer exactly when the refusal table gives them. Each call has a row, and no two.
-pub refusal-table : (l : Lent) (number place : ℕ) → judged issueE l .outcome ≡ answer number place ↔ Given issueE l number place
+-- DEMAND 1: a number and a place are the answer exactly when the refusal table gives them.
+pub refusal-table : (l : Lent) (number place : ℕ) → judged issueE l .outcome ≡ outcome number place ↔ Given issueE l number place
 refusal-table l number place = (
   λ h. subst (λ (o : Outcome). Given issueE l (o .refusal .0) (o .place)) (sym (judged-outcome issueE l) ∙ h) (given issueE l),
   λ g. judged-outcome issueE l ∙ sym (gives issueE l g),
 )
 
+-- Every call has its row, and no two.
 pub some-row : (l : Lent) → Given issueE l (judged issueE l .outcome .refusal .0) (judged issueE l .outcome .place)
 some-row l = refusal-table l (judged issueE l .outcome .refusal .0) (judged issueE l .outcome .place) .0 refl
+
+pub one-row : (l : Lent) (n p n′ p′ : ℕ) → Given issueE l n p → Given issueE l n′ p′ → (n ≡ n′) × (p ≡ p′)
+one-row l n p n′ p′ g g′ =
+    let same = gives issueE l g ∙ sym (gives issueE l g′) in
+    (ap (λ (o : Outcome). o .refusal .0) same, ap (λ (o : Outcome). o .place) same)
 
 -- A refusal leaves every buffer as it came.
 pub refused-untouched : (l : Lent) → (Accepted l → ⊥) → judged issueE l ≡ refusedLeft (judged issueE l .outcome) l
@@ -52,76 +62,121 @@ refused-untouched l h =
     ∙ ap (λ (o : Outcome). refusedLeft o l) (sym (judged-outcome issueE l))
 
 module _ (l : Lent) (ok : Accepted l) where
+  -- An accepted call leaves a set for each pair, and a verdict, a duty and a set for each event.
+  pub lengths-left : (length (judged issueE l .table) ≡ length (l .table))
+      × (length (judged issueE l .verdicts) ≡ count l)
+      × (length (judged issueE l .duties) ≡ count l)
+      × (length (judged issueE l .afters) ≡ count l)
+  lengths-left = lengths l ok
+
   -- DEMAND 3: after every event the judge gives exactly the states in which some history ends, of the event's pair and of its events so far.
-  pub afters-exact : (k : ℕ) → k < count l → (s : ℕ) → bit (afterByte l k) s ≡ true ↔ HistoryTo l (pairOf l k) (suc k) s
-  afters-exact k h s = read-set l (pairOf l k) (suc k) s (afterByte l k) (after-byte l ok k h)
+  pub afters-exact : (k : ℕ) → k < count l → (s : ℕ) → bit (afterAt l k) s ≡ true ↔ HistoryTo l (pairOf l k) (suc k) s
+  afters-exact k h s = read-set l (pairOf l k) (suc k) s (afterAt l k) (after-byte l ok k h)
 
   -- The same for each pair at the end.
-  pub table-exact : (p : ℕ) → p < length (l .table) → (s : ℕ) → bit (endSet l p) s ≡ true ↔ HistoryTo l p (count l) s
-  table-exact p h s = read-set l p (count l) s (endSet l p) (end-set l ok p h)
+  pub table-exact : (p : ℕ) → p < length (l .table) → (s : ℕ) → bit (setAtEnd l p) s ≡ true ↔ HistoryTo l p (count l) s
+  table-exact p h s = read-set l p (count l) s (setAtEnd l p) (end-set l ok p h)
+
+  -- Each is a set of the seven states and nothing more.
+  pub afters-below : (k : ℕ) → k < count l → afterAt l k < 128
+  afters-below k h =
+      subst (λ (m : ℕ). m < 128) (sym (after-byte l ok k h)) (set-below issueE l (good l ok) (pairOf l k) (suc k) (pair-in issueE l (good l ok) k h))
+
+  pub table-below : (p : ℕ) → p < length (l .table) → setAtEnd l p < 128
+  table-below p h = subst (λ (m : ℕ). m < 128) (sym (end-set l ok p h)) (set-below issueE l (good l ok) p (count l) h)
 
   -- THE VERDICT: explained exactly when some history passes the event, unexplained exactly when histories reached it and none passes it, not
   -- judged exactly when none reached it.
-  pub verdict-exact : (k : ℕ) → k < count l → (v : ℕ) → verdictByte l k ≡ v ↔ VerdictGiven l k v
+  pub verdict-exact : (k : ℕ) → k < count l → (v : ℕ) → verdictAt l k ≡ v ↔ VerdictGiven l k v
   verdict-exact k h v = (
     λ q. subst (VerdictGiven l k) q (verdict-row l ok k h),
     λ g. verdicts-left l ok k ∙ gives-verdict issueE l (good l ok) k h g,
   )
 
-  -- AFTER AN UNEXPLAINED EVENT the set of its pair is empty for good: at the event, at each later event of the pair, which isn't judged, and at the
-  -- end.
-  pub emptied : (k : ℕ) → k < count l → verdictByte l k ≡ unexplained → afterByte l k ≡ 0
+  -- AFTER AN UNEXPLAINED EVENT the set of its pair is empty for good: then, at each later event of the pair, which isn't judged, and at the end.
+  pub emptied : (k : ℕ) → k < count l → verdictAt l k ≡ unexplained → afterAt l k ≡ 0
   emptied k h v = after-byte l ok k h ∙ empty-after l ok k h v (suc k) (omega arith)
 
-  pub empty-later : (k : ℕ) → k < count l → verdictByte l k ≡ unexplained → (j : ℕ) → k < j → j < count l → pairOf l j ≡ pairOf l k
-      → (verdictByte l j ≡ notJudged) × (afterByte l j ≡ 0)
+  pub empty-later : (k : ℕ) → k < count l → verdictAt l k ≡ unexplained → (j : ℕ) → k < j → j < count l → pairOf l j ≡ pairOf l k
+      → (verdictAt l j ≡ notJudged) × (afterAt l j ≡ 0)
   empty-later k h v j later inside same = (
     unreached l ok j inside (ap (λ (p : ℕ). setBefore l p j) same ∙ empty-after l ok k h v j later),
     after-byte l ok j inside ∙ ap (λ (p : ℕ). setBefore l p (suc j)) same ∙ empty-after l ok k h v (suc j) (omega arith),
   )
 
-  pub empty-at-end : (k : ℕ) → k < count l → verdictByte l k ≡ unexplained → endSet l (pairOf l k) ≡ 0
+  pub empty-at-end : (k : ℕ) → k < count l → verdictAt l k ≡ unexplained → setAtEnd l (pairOf l k) ≡ 0
   empty-at-end k h v = end-set l ok (pairOf l k) (pair-in issueE l (good l ok) k h) ∙ empty-after l ok k h v (count l) h
 
-  -- OTHER PAIRS' EVENTS change nothing: an event of another pair is no part of a pair's histories, and a pair without events keeps its set.
-  pub others-no-part : (p k : ℕ) → (pairOf l k ≡ p → ⊥) → own p (first l (suc k)) ≡ own p (first l k)
-  others-no-part p k h = own-kept l p k h
+  -- A pair that starts with the empty set is already lost: none of its events is judged.
+  pub lost-from-the-start : (k : ℕ) → k < count l → setIn (l .table) (pairOf l k) ≡ 0 → verdictAt l k ≡ notJudged
+  lost-from-the-start k h z =
+      unreached l ok k h (ap (λ (m : ℕ). walk m (own (pairOf l k) (first l k))) z ∙ walk-empty (own (pairOf l k) (first l k)))
 
-  pub without-events : (p : ℕ) → p < length (l .table) → own p (trace l) ≡ [] → endSet l p ≡ setIn (l .table) p
-  without-events p h none = end-set l ok p h ∙ ap (walk (setIn (l .table) p)) none
+  -- OTHER PAIRS' EVENTS change nothing: a pair that no event names keeps its set. (More below.)
+  pub unnamed-keeps : (p : ℕ) → p < length (l .table) → ((k : ℕ) → k < count l → pairOf l k ≡ p → ⊥) → setAtEnd l p ≡ setIn (l .table) p
+  unnamed-keeps p h none =
+      end-set l ok p h
+      ∙ ap (walk (setIn (l .table) p)) (own-none (l .events) (l .pairs) p 0 (count l) (λ k b e. none k b (ap (pairIn (l .pairs)) (sym (zero-add k)) ∙ e)))
 
   -- DUTY: the byte of an explained event is the page's, and that of any other is 0.
-  pub duty-said : (k : ℕ) → k < count l → verdictByte l k ≡ explained → DutySaid l k (dutyOf l k)
+  pub duty-said : (k : ℕ) → k < count l → verdictAt l k ≡ explained → DutySaid l k (dutyAt l k)
   duty-said = said l ok
 
-  pub duty-silent : (k : ℕ) → k < count l → (verdictByte l k ≡ explained → ⊥) → dutyOf l k ≡ noDuty
+  pub duty-silent : (k : ℕ) → k < count l → (verdictAt l k ≡ explained → ⊥) → dutyAt l k ≡ noDuty
   duty-silent = silent-byte l ok
 
   -- DEMAND 2 IN A TRACE: for every history through an event in which a Dirty line ends not Dirty without a non-data error, the byte is 1 or 2, and
   -- names the one that was told.
   pub duty-handed-over : (k : ℕ) → k < count l → (s s′ : ℕ) → HistoryTo l (pairOf l k) k s → Step (eventOf l k) s s′
       → dirty s ≡ true → dirty s′ ≡ false → nonDataError (eventOf l k) ≡ false
-      → (HomeHolds (eventOf l k) × (dutyOf l k ≡ Home)) ⊎ (RequesterHolds (eventOf l k) × (dutyOf l k ≡ Requester))
+      → (HomeHolds (eventOf l k) × (dutyAt l k ≡ Home)) ⊎ (RequesterHolds (eventOf l k) × (dutyAt l k ≡ Requester))
   duty-handed-over = handed-over l ok
 
-  -- With a non-data error it is 3 exactly when some history reaches the event with a Dirty line.
-  pub duty-lost : (k : ℕ) → k < count l → (s s′ : ℕ) → HistoryTo l (pairOf l k) k s → Step (eventOf l k) s s′
-      → nonDataError (eventOf l k) ≡ true → (dutyOf l k ≡ lost) ↔ DirtyReaches l k
-  duty-lost = lost-at l ok
+  -- Where the byte is 1 or 2, every history through the event is such a one.
+  pub duty-given-up : (k : ℕ) → k < count l → (s s′ : ℕ) → HistoryTo l (pairOf l k) k s → Step (eventOf l k) s s′
+      → (dutyAt l k ≡ Home) ⊎ (dutyAt l k ≡ Requester)
+      → (dirty s ≡ true) × (dirty s′ ≡ false) × (nonDataError (eventOf l k) ≡ false)
+  duty-given-up = given-up l ok
 
-  -- Where it is 0, no history through the event gives up a Dirty line.
+  -- Of a non-data error that some history passes the byte is 3 exactly when some history reaches it with a Dirty line.
+  pub duty-lost-in-trace : (k : ℕ) → k < count l → (s s′ : ℕ) → HistoryTo l (pairOf l k) k s → Step (eventOf l k) s s′
+      → nonDataError (eventOf l k) ≡ true → (dutyAt l k ≡ lost) ↔ DirtyReaches l k
+  duty-lost-in-trace = lost-at l ok
+
+  -- Where the byte is 0, no history through the event gives up a Dirty line.
   pub duty-kept : (k : ℕ) → k < count l → (s s′ : ℕ) → HistoryTo l (pairOf l k) k s → Step (eventOf l k) s s′
-      → dutyOf l k ≡ noDuty → dirty s ≡ true → dirty s′ ≡ true
+      → dutyAt l k ≡ noDuty → dirty s ≡ true → dirty s′ ≡ true
   duty-kept = kept-dirty l ok
+
+-- OTHER PAIRS' EVENTS AGAIN. An event of another pair leaves a pair's histories as they were.
+pub others-no-part : (l : Lent) (p k : ℕ) → (pairOf l k ≡ p → ⊥) → (s : ℕ) → HistoryTo l p (suc k) s ↔ HistoryTo l p k s
+others-no-part l p k h s = (
+  λ x. subst (λ es. History (setIn (l .table) p) es s) (own-kept l p k h) x,
+  λ x. subst (λ es. History (setIn (l .table) p) es s) (sym (own-kept l p k h)) x,
+)
 
 -- Two traces that have the same events of a pair, and the same starting set of it, leave it the same set, whatever else they hold.
 pub same-events-same-set : (l l′ : Lent) → Accepted l → Accepted l′ → (p : ℕ) → p < length (l .table) → p < length (l′ .table)
-    → setIn (l .table) p ≡ setIn (l′ .table) p → own p (trace l) ≡ own p (trace l′) → endSet l p ≡ endSet l′ p
+    → setIn (l .table) p ≡ setIn (l′ .table) p → own p (trace l) ≡ own p (trace l′) → setAtEnd l p ≡ setAtEnd l′ p
 same-events-same-set l l′ ok ok′ p h h′ start events = end-set l ok p h ∙ ap₂ walk start events ∙ sym (end-set l′ ok′ p h′)
+
+-- Two events with the same bytes, whose pairs start with the same set and had the same events before them, get the same verdict, duty and
+-- after-set, in whatever traces they stand.
+pub same-events-same-bytes : (l l′ : Lent) (ok : Accepted l) (ok′ : Accepted l′) (k k′ : ℕ) → k < count l → k′ < count l′
+    → setIn (l .table) (pairOf l k) ≡ setIn (l′ .table) (pairOf l′ k′)
+    → own (pairOf l k) (first l k) ≡ own (pairOf l′ k′) (first l′ k′)
+    → eventOf l k ≡ eventOf l′ k′
+    → (verdictAt l k ≡ verdictAt l′ k′) × (dutyAt l k ≡ dutyAt l′ k′) × (afterAt l k ≡ afterAt l′ k′)
+same-events-same-bytes l l′ ok ok′ k k′ h h′ start events same =
+    let before = ap₂ walk start events in (
+      verdict-byte l ok k h ∙ ap₂ verdict same before ∙ sym (verdict-byte l′ ok′ k′ h′),
+      duty-byte l ok k h ∙ ap₂ dutyByte same before ∙ sym (duty-byte l′ ok′ k′ h′),
+      set-byte l ok k h ∙ ap₂ after same before ∙ sym (set-byte l′ ok′ k′ h′),
+    )
 
 -- THE PAGE'S SHEET: explained and Home, explained, unexplained, not judged; {I, SC} twice, then nothing.
 pub page-sheet : judged issueE sheet
-    ≡ left (answer 0 4) (0 ∷ [])
+    ≡ left (outcome 0 4) (0 ∷ [])
     (explained ∷ explained ∷ unexplained ∷ notJudged ∷ [])
     (Home ∷ noDuty ∷ noDuty ∷ noDuty ∷ [])
     (33 ∷ 33 ∷ 0 ∷ 0 ∷ [])

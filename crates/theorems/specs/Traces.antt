@@ -20,24 +20,27 @@ use Rattle.theorems.specs.Notebook.{event}
 abbrev pub Accepted : Lent → Type 0
 Accepted l = judged issueE l .outcome .refusal .0 ≡ 0
 
--- what comes back for event k: its verdict, its duty and its after-set
-abbrev pub verdictByte : Lent → ℕ → ℕ
-verdictByte l k = getD (judged issueE l .verdicts) k 0
+-- what comes back for event k: its verdict
+abbrev pub verdictAt : Lent → ℕ → ℕ
+verdictAt l k = getD (judged issueE l .verdicts) k 0
 
-abbrev pub dutyOf : Lent → ℕ → ℕ
-dutyOf l k = getD (judged issueE l .duties) k 0
+-- its duty
+abbrev pub dutyAt : Lent → ℕ → ℕ
+dutyAt l k = getD (judged issueE l .duties) k 0
 
-abbrev pub afterByte : Lent → ℕ → ℕ
-afterByte l k = getD (judged issueE l .afters) k 0
+-- its after-set
+abbrev pub afterAt : Lent → ℕ → ℕ
+afterAt l k = getD (judged issueE l .afters) k 0
 
 -- what comes back for pair p: its set at the end
-abbrev pub endSet : Lent → ℕ → ℕ
-endSet l p = getD (judged issueE l .table) p 0
+abbrev pub setAtEnd : Lent → ℕ → ℕ
+setAtEnd l p = getD (judged issueE l .table) p 0
 
--- the pair and the bytes of event k
+-- the pair of event k
 abbrev pub pairOf : Lent → ℕ → ℕ
 pairOf l k = pairIn (l .pairs) k
 
+-- its bytes
 abbrev pub eventOf : Lent → ℕ → List ℕ
 eventOf l k = eventIn (l .events) k
 
@@ -62,5 +65,6 @@ sheetEvents =
     ++ take 13 (event SnpClean 0 0 0 tagInvalid SnpResp-I opInvalid OK)
     ++ (I ∷ [])
 
+-- what is lent with them; the bytes 9 in the outputs are to be written over
 abbrev pub sheet : Lent
 sheet = lent sheetEvents (0 ∷ 0 ∷ 0 ∷ 0 ∷ []) (127 ∷ []) (9 ∷ 9 ∷ 9 ∷ 9 ∷ []) (9 ∷ 9 ∷ 9 ∷ 9 ∷ []) (9 ∷ 9 ∷ 9 ∷ 9 ∷ [])

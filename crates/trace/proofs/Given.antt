@@ -14,8 +14,8 @@ use Rattle.rows.specs.Event.{requestOf}
 use Rattle.event.specs.Refusals.{Issue, below, fault}
 use Rattle.trace.specs.declared.Outcome.{Outcome}
 use Rattle.trace.specs.Lent.{Lent, count}
-use Rattle.trace.specs.Refusals.{answer, lengthsFit, firstFrom, badSet, lowestSet, faultAt, badEvent, firstEvent, outcomeOf}
-use Rattle.trace.specs.Given.{Fits, SetGood, EventGood, Reached, Given, accepted, bad-lengths, bad-set, bad-pair, bad-byte, bad-request}
+use Rattle.trace.specs.Refusals.{outcome, lengthsFit, firstFrom, badSet, lowestBadSet, faultAt, badEvent, firstBadEvent, outcomeOf}
+use Rattle.trace.specs.Given.{Fits, SetGood, EventGood, GoodSoFar, Given, accepted, bad-lengths, bad-set, bad-pair, bad-byte, bad-request}
 use Rattle.trace.proofs.Laws.{fits, fit, refused-lengths, refused-set, left-to-events, refused-event, no-event}
 
 -- The first number that passes: nothing before it passes, it passes where it is one of them, and no other number is so.
@@ -69,6 +69,11 @@ first-none p i (suc n) none =
     ∙ first-none p (suc i) n (λ j a b. none j (omega arith) (omega arith))
     ∙ omega arith
 
+-- a test that doesn't hold
+not-so : (b : Bool) → (b ≡ true → ⊥) → b ≡ false
+not-so true n = absurd (n refl)
+not-so false n = refl
+
 -- The refusal of one event, by the three tests.
 module _ (issue : Issue) (l : Lent) (k : ℕ) where
   abbrev faultOf : ℕ
@@ -82,19 +87,19 @@ module _ (issue : Issue) (l : Lent) (k : ℕ) where
       ∙ ap₂ (λ (x y : Bool). cond a (cond x (cond y 0 5) 4) 3) q r
 
   good-event : EventGood issue l k → faultOf ≡ 0
-  good-event g = by-tests true true true (lt-ltb (pairIn (l .pairs) k) (length (l .table)) (g .pair-good)) (g .in-range) (g .request-known)
+  good-event g = by-tests true true true (lt-ltb (pairIn (l .pairs) k) (length (l .table)) (g .pair-good)) (g .bytes-good) (g .request-good)
 
   event-good : faultOf ≡ 0 → EventGood issue l k
   event-good h = go (ltb (pairIn (l .pairs) k) (length (l .table))) (below (eventIn (l .events) k) 1 (issue .limits)) (requestOf (eventIn (l .events) k) ∈? issue .requests) refl refl refl
     where
       go : (a b c : Bool) → ltb (pairIn (l .pairs) k) (length (l .table)) ≡ a → below (eventIn (l .events) k) 1 (issue .limits) ≡ b
           → requestOf (eventIn (l .events) k) ∈? issue .requests ≡ c → EventGood issue l k
-      go true true true p q r = record { pair-good = ltb-true (pairIn (l .pairs) k) (length (l .table)) p; in-range = q; request-known = r }
+      go true true true p q r = record { pair-good = ltb-true (pairIn (l .pairs) k) (length (l .table)) p; bytes-good = q; request-good = r }
       go true true false p q r = absurd (omega (arith, by-tests true true false p q r))
       go true false c p q r = absurd (omega (arith, by-tests true false c p q r))
       go false b c p q r = absurd (omega (arith, by-tests false b c p q r))
 
-  bad-row : not (eqb faultOf 0) ≡ true → Reached issue l k → k < count l → Given issue l faultOf k
+  bad-row : not (eqb faultOf 0) ≡ true → GoodSoFar issue l k → k < count l → Given issue l faultOf k
   bad-row h reached inside =
       go (ltb (pairIn (l .pairs) k) (length (l .table))) (below (eventIn (l .events) k) 1 (issue .limits)) (requestOf (eventIn (l .events) k) ∈? issue .requests) refl refl refl
     where
@@ -103,20 +108,20 @@ module _ (issue : Issue) (l : Lent) (k : ℕ) where
       go true true true p q r = absurd (true≢false (sym h ∙ ap (λ (n : ℕ). not (eqb n 0)) (by-tests true true true p q r)))
       go true true false p q r =
           subst (λ (n : ℕ). Given issue l n k) (sym (by-tests true true false p q r))
-          (bad-request reached inside (ltb-true (pairIn (l .pairs) k) (length (l .table)) p) q r)
+          (bad-request reached inside (ltb-true (pairIn (l .pairs) k) (length (l .table)) p) q (λ g. true≢false (sym g ∙ r)))
       go true false c p q r =
           subst (λ (n : ℕ). Given issue l n k) (sym (by-tests true false c p q r))
-          (bad-byte reached inside (ltb-true (pairIn (l .pairs) k) (length (l .table)) p) q)
+          (bad-byte reached inside (ltb-true (pairIn (l .pairs) k) (length (l .table)) p) (λ g. true≢false (sym g ∙ q)))
       go false b c p q r =
           subst (λ (n : ℕ). Given issue l n k) (sym (by-tests false b c p q r))
-          (bad-pair reached inside (ltb-false (pairIn (l .pairs) k) (length (l .table)) p))
+          (bad-pair reached inside (λ g. absurd (omega (arith, g, ltb-false (pairIn (l .pairs) k) (length (l .table)) p))))
 
 module _ (issue : Issue) (l : Lent) where
   abbrev bad : ℕ → Bool
   bad = badEvent issue (l .events) (l .pairs) (l .table)
 
   abbrev firstBad : ℕ
-  firstBad = firstEvent issue (l .events) (l .pairs) (l .table)
+  firstBad = firstBadEvent issue (l .events) (l .pairs) (l .table)
 
   -- an event that isn't bad is good, and a good one isn't bad
   good-of : (k : ℕ) → bad k ≡ false → EventGood issue l k
@@ -131,72 +136,73 @@ module _ (issue : Issue) (l : Lent) where
 
   -- THE ROW OF THE OUTCOME: it is given.
   pub given : Given issue l (outcomeOf issue l .refusal .0) (outcomeOf issue l .place)
-  given = go (lengthsFit l) (ltb (lowestSet (l .table)) (length (l .table))) (ltb firstBad (length (l .pairs))) refl refl refl
+  given = go (lengthsFit l) (ltb (lowestBadSet (l .table)) (length (l .table))) (ltb firstBad (length (l .pairs))) refl refl refl
     where
       at : (o : Outcome) → o ≡ outcomeOf issue l → Given issue l (o .refusal .0) (o .place) → Given issue l (outcomeOf issue l .refusal .0) (outcomeOf issue l .place)
       at o h g = subst (λ (x : Outcome). Given issue l (x .refusal .0) (x .place)) h g
 
-      sets : (a : ltb (lowestSet (l .table)) (length (l .table)) ≡ false) → (p : ℕ) → p < length (l .table) → SetGood l p
-      sets a p k = set-of p (before-first (badSet (l .table)) 0 (length (l .table)) p (omega arith) (omega (arith, ltb-false (lowestSet (l .table)) (length (l .table)) a)))
+      sets : (a : ltb (lowestBadSet (l .table)) (length (l .table)) ≡ false) → (p : ℕ) → p < length (l .table) → SetGood l p
+      sets a p k = set-of p (before-first (badSet (l .table)) 0 (length (l .table)) p (omega arith) (omega (arith, ltb-false (lowestBadSet (l .table)) (length (l .table)) a)))
 
-      reached : (k : ℕ) → Fits l → ltb (lowestSet (l .table)) (length (l .table)) ≡ false → k ≤ firstBad → Reached issue l k
+      reached : (k : ℕ) → Fits l → ltb (lowestBadSet (l .table)) (length (l .table)) ≡ false → k ≤ firstBad → GoodSoFar issue l k
       reached k f a h =
           record { fits = f; sets-good = sets a; events-good = λ j b. good-of j (before-first bad 0 (length (l .pairs)) j (omega arith) (omega arith)) }
 
-      go : (a b c : Bool) → lengthsFit l ≡ a → ltb (lowestSet (l .table)) (length (l .table)) ≡ b → ltb firstBad (length (l .pairs)) ≡ c
+      go : (a b c : Bool) → lengthsFit l ≡ a → ltb (lowestBadSet (l .table)) (length (l .table)) ≡ b → ltb firstBad (length (l .pairs)) ≡ c
           → Given issue l (outcomeOf issue l .refusal .0) (outcomeOf issue l .place)
-      go false b c p q r = at (answer 1 0) (refused-lengths issue l false (sym p) refl) (bad-lengths (λ f. true≢false (sym (fit l f) ∙ p)))
+      go false b c p q r = at (outcome 1 0) (refused-lengths issue l false (sym p) refl) (bad-lengths (λ f. true≢false (sym (fit l f) ∙ p)))
       go true true c p q r =
-          let low = lowestSet (l .table) in
+          let low = lowestBadSet (l .table) in
           let k = ltb-true low (length (l .table)) q in
-          at (answer 2 low) (refused-set issue l true low (sym p) refl refl k)
-          (bad-set (fits l p) k
-          (λ g. absurd (omega (arith, g, ltb-true 127 (setIn (l .table) low) (first-passes (badSet (l .table)) 0 (length (l .table)) (omega arith)))))
-          (λ i h. set-of i (before-first (badSet (l .table)) 0 (length (l .table)) i (omega arith) h)))
+          at (outcome 2 low) (refused-set issue l true low (sym p) refl refl k)
+          (bad-set (fits l p)
+          (λ i h. set-of i (before-first (badSet (l .table)) 0 (length (l .table)) i (omega arith) h))
+          k
+          (λ g. absurd (omega (arith, g, ltb-true 127 (setIn (l .table) low) (first-passes (badSet (l .table)) 0 (length (l .table)) (omega arith))))))
       go true false true p q r =
           let f = fits l p in
           let k = ltb-true firstBad (length (l .pairs)) r in
-          at (answer (faultOf issue l firstBad) firstBad)
-          (left-to-events issue l true (lowestSet (l .table)) (answer (faultOf issue l firstBad) firstBad) (sym p) refl refl (ltb-false (lowestSet (l .table)) (length (l .table)) q)
+          at (outcome (faultOf issue l firstBad) firstBad)
+          (left-to-events issue l true (lowestBadSet (l .table)) (outcome (faultOf issue l firstBad) firstBad) (sym p) refl refl (ltb-false (lowestBadSet (l .table)) (length (l .table)) q)
           (refused-event issue (l .events) (l .pairs) (l .table) firstBad (faultOf issue l firstBad) refl k refl))
           (bad-row issue l firstBad (first-passes bad 0 (length (l .pairs)) (omega arith)) (reached firstBad f q (omega arith)) (omega (arith, f .pairs-fit)))
       go true false false p q r =
           let f = fits l p in
           let k = ltb-false firstBad (length (l .pairs)) r in
-          at (answer 0 (count l))
-          (ap (answer 0) (sym (f .pairs-fit))
-          ∙ left-to-events issue l true (lowestSet (l .table)) (answer 0 (length (l .pairs))) (sym p) refl refl (ltb-false (lowestSet (l .table)) (length (l .table)) q)
+          at (outcome 0 (count l))
+          (ap (outcome 0) (sym (f .pairs-fit))
+          ∙ left-to-events issue l true (lowestBadSet (l .table)) (outcome 0 (length (l .pairs))) (sym p) refl refl (ltb-false (lowestBadSet (l .table)) (length (l .table)) q)
           (no-event issue (l .events) (l .pairs) (l .table) firstBad refl k))
           (accepted (reached (count l) f q (omega (arith, f .pairs-fit))))
 
   -- the events are reached: no set is above 127
-  table-good : {k : ℕ} → Reached issue l k → lowestSet (l .table) ≡ length (l .table)
+  table-good : {k : ℕ} → GoodSoFar issue l k → lowestBadSet (l .table) ≡ length (l .table)
   table-good r =
       first-none (badSet (l .table)) 0 (length (l .table)) (λ p a b. le-ltb 127 (setIn (l .table) p) (r .sets-good p (omega arith)))
       ∙ zero-add (length (l .table))
 
   -- event k is the first that is refused
-  event-row : (k number : ℕ) → Reached issue l k → k < count l → faultOf issue l k ≡ number → not (eqb number 0) ≡ true → answer number k ≡ outcomeOf issue l
+  event-row : (k number : ℕ) → GoodSoFar issue l k → k < count l → faultOf issue l k ≡ number → not (eqb number 0) ≡ true → outcome number k ≡ outcomeOf issue l
   event-row k number r h e n =
       let is : firstBad ≡ k =
       first-is bad 0 (length (l .pairs)) k (omega arith) (omega (arith, r .fits .pairs-fit)) (λ j a b. good-not-bad j (r .events-good j b)) (ap (λ (x : ℕ). not (eqb x 0)) e ∙ n) in
-      left-to-events issue l true (length (l .table)) (answer number k) (sym (fit l (r .fits))) refl (sym (table-good r)) (omega arith)
+      left-to-events issue l true (length (l .table)) (outcome number k) (sym (fit l (r .fits))) refl (sym (table-good r)) (omega arith)
       (refused-event issue (l .events) (l .pairs) (l .table) k number (sym is) (omega (arith, r .fits .pairs-fit)) (sym e))
 
   -- EACH ROW THAT IS GIVEN is the outcome.
-  pub gives : {number place : ℕ} → Given issue l number place → answer number place ≡ outcomeOf issue l
+  pub gives : {number place : ℕ} → Given issue l number place → outcome number place ≡ outcomeOf issue l
   gives (accepted r) =
       let is : firstBad ≡ length (l .pairs) =
       first-none bad 0 (length (l .pairs)) (λ j a b. good-not-bad j (r .events-good j (omega (arith, r .fits .pairs-fit)))) ∙ zero-add (length (l .pairs)) in
-      ap (answer 0) (sym (r .fits .pairs-fit))
-      ∙ left-to-events issue l true (length (l .table)) (answer 0 (length (l .pairs))) (sym (fit l (r .fits))) refl (sym (table-good r)) (omega arith)
+      ap (outcome 0) (sym (r .fits .pairs-fit))
+      ∙ left-to-events issue l true (length (l .table)) (outcome 0 (length (l .pairs))) (sym (fit l (r .fits))) refl (sym (table-good r)) (omega arith)
       (no-event issue (l .events) (l .pairs) (l .table) (length (l .pairs)) (sym is) (omega arith))
   gives (bad-lengths n) = go (lengthsFit l) refl
     where
-      go : (b : Bool) → lengthsFit l ≡ b → answer 1 0 ≡ outcomeOf issue l
+      go : (b : Bool) → lengthsFit l ≡ b → outcome 1 0 ≡ outcomeOf issue l
       go true h = absurd (n (fits l h))
       go false h = refused-lengths issue l false (sym h) refl
-  gives (bad-set {p} f h n least) =
+  gives (bad-set {p} f least h n) =
       refused-set issue l true p (sym (fit l f)) refl
       (sym (first-is (badSet (l .table)) 0 (length (l .table)) p (omega arith) (omega arith) (λ j a b. le-ltb 127 (setIn (l .table) j) (least j b)) (above (badSet (l .table) p) refl)))
       h
@@ -204,9 +210,17 @@ module _ (issue : Issue) (l : Lent) where
       above : (b : Bool) → badSet (l .table) p ≡ b → b ≡ true
       above true q = refl
       above false q = absurd (n (set-of p q))
-  gives (bad-pair {k} r h a) =
-      event-row k 3 r h (by-tests issue l k false (below (eventIn (l .events) k) 1 (issue .limits)) (requestOf (eventIn (l .events) k) ∈? issue .requests) (le-ltb (pairIn (l .pairs) k) (length (l .table)) a) refl refl) refl
-  gives (bad-byte {k} r h a b) =
-      event-row k 4 r h (by-tests issue l k true false (requestOf (eventIn (l .events) k) ∈? issue .requests) (lt-ltb (pairIn (l .pairs) k) (length (l .table)) a) b refl) refl
-  gives (bad-request {k} r h a b d) =
-      event-row k 5 r h (by-tests issue l k true true false (lt-ltb (pairIn (l .pairs) k) (length (l .table)) a) b d) refl
+  gives (bad-pair {k} r h n) =
+      event-row k 3 r h (by-tests issue l k false (below (eventIn (l .events) k) 1 (issue .limits)) (requestOf (eventIn (l .events) k) ∈? issue .requests) outside refl refl) refl
+    where
+      outside : ltb (pairIn (l .pairs) k) (length (l .table)) ≡ false
+      outside = not-so (ltb (pairIn (l .pairs) k) (length (l .table))) (λ t. n (ltb-true (pairIn (l .pairs) k) (length (l .table)) t))
+  gives (bad-byte {k} r h a n) =
+      event-row k 4 r h
+      (by-tests issue l k true false (requestOf (eventIn (l .events) k) ∈? issue .requests) (lt-ltb (pairIn (l .pairs) k) (length (l .table)) a)
+      (not-so (below (eventIn (l .events) k) 1 (issue .limits)) n) refl)
+      refl
+  gives (bad-request {k} r h a b n) =
+      event-row k 5 r h
+      (by-tests issue l k true true false (lt-ltb (pairIn (l .pairs) k) (length (l .table)) a) b (not-so (requestOf (eventIn (l .events) k) ∈? issue .requests) n))
+      refl

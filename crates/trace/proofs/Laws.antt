@@ -15,12 +15,12 @@ use Rattle.kinds.proofs.Lists.{and-left, and-right, and-both}
 use Rattle.event.specs.Refusals.{Issue, fault}
 use Rattle.trace.specs.declared.Outcome.{Outcome}
 use Rattle.verdicts.specs.Verdicts.{after, verdict, dutyByte}
-use Rattle.trace.specs.Entries.{Entry, entries, run, outputs}
+use Rattle.trace.specs.Events.{TraceEvent, eventsFrom, run, outputs}
 use Rattle.trace.specs.Lent.{Lent, left, count}
 use Rattle.trace.specs.Given.{Fits}
 use Rattle.trace.specs.Judged.{accepts, acceptedLeft, refusedLeft, judged}
 use Rattle.trace.specs.Turns.{Room, AllJudged}
-use Rattle.trace.specs.Refusals.{answer, most, lengthsFit, firstFrom, lowestSet, faultAt, firstEvent, byEvents, outcomeOf}
+use Rattle.trace.specs.Refusals.{outcome, most, lengthsFit, firstFrom, lowestBadSet, faultAt, firstBadEvent, byEvents, outcomeOf}
 
 -- one less is left
 pub minus-suc : (n k : ℕ) → k < n → n - k ≡ suc (n - suc k)
@@ -122,37 +122,37 @@ pub good : (x n : ℕ) → x ≡ n → x ≡ 0 → not (eqb n 0) ≡ false
 good x n h k = ap not (eq-eqb n 0 (sym h ∙ k))
 
 module _ (issue : Issue) (events pairs table : List ℕ) where
-  pub refused-event : (k x : ℕ) → k ≡ firstEvent issue events pairs table → k < length pairs → x ≡ faultAt issue events pairs table k
-      → answer x k ≡ byEvents issue events pairs table
+  pub refused-event : (k x : ℕ) → k ≡ firstBadEvent issue events pairs table → k < length pairs → x ≡ faultAt issue events pairs table k
+      → outcome x k ≡ byEvents issue events pairs table
   unfolding byEvents
   refused-event k x h l p =
-      ap (λ (n : ℕ). answer n k) p
-      ∙ ap (λ (i : ℕ). answer (faultAt issue events pairs table i) i) h
-      ∙ sym (ap (λ (b : Bool). cond b (answer (faultAt issue events pairs table (firstEvent issue events pairs table)) (firstEvent issue events pairs table)) (answer 0 (length pairs))) (ap (λ (i : ℕ). ltb i (length pairs)) (sym h) ∙ lt-ltb k (length pairs) l))
+      ap (λ (n : ℕ). outcome n k) p
+      ∙ ap (λ (i : ℕ). outcome (faultAt issue events pairs table i) i) h
+      ∙ sym (ap (λ (b : Bool). cond b (outcome (faultAt issue events pairs table (firstBadEvent issue events pairs table)) (firstBadEvent issue events pairs table)) (outcome 0 (length pairs))) (ap (λ (i : ℕ). ltb i (length pairs)) (sym h) ∙ lt-ltb k (length pairs) l))
 
-  pub no-event : (k : ℕ) → k ≡ firstEvent issue events pairs table → length pairs ≤ k → answer 0 (length pairs) ≡ byEvents issue events pairs table
+  pub no-event : (k : ℕ) → k ≡ firstBadEvent issue events pairs table → length pairs ≤ k → outcome 0 (length pairs) ≡ byEvents issue events pairs table
   unfolding byEvents
   no-event k h l =
-      sym (ap (λ (b : Bool). cond b (answer (faultAt issue events pairs table (firstEvent issue events pairs table)) (firstEvent issue events pairs table)) (answer 0 (length pairs))) (ap (λ (i : ℕ). ltb i (length pairs)) (sym h) ∙ le-ltb k (length pairs) l))
+      sym (ap (λ (b : Bool). cond b (outcome (faultAt issue events pairs table (firstBadEvent issue events pairs table)) (firstBadEvent issue events pairs table)) (outcome 0 (length pairs))) (ap (λ (i : ℕ). ltb i (length pairs)) (sym h) ∙ le-ltb k (length pairs) l))
 
 module _ (issue : Issue) (l : Lent) where
   -- the outcome from the two tests
-  pub by-stages : (fit bad-table : Bool) → lengthsFit l ≡ fit → ltb (lowestSet (l .table)) (length (l .table)) ≡ bad-table
-      → outcomeOf issue l ≡ cond fit (cond bad-table (answer 2 (lowestSet (l .table))) (byEvents issue (l .events) (l .pairs) (l .table))) (answer 1 0)
+  pub by-stages : (fit bad-table : Bool) → lengthsFit l ≡ fit → ltb (lowestBadSet (l .table)) (length (l .table)) ≡ bad-table
+      → outcomeOf issue l ≡ cond fit (cond bad-table (outcome 2 (lowestBadSet (l .table))) (byEvents issue (l .events) (l .pairs) (l .table))) (outcome 1 0)
   unfolding outcomeOf
   by-stages fit bad-table p q =
-      ap₂ (λ (a b : Bool). cond a (cond b (answer 2 (lowestSet (l .table))) (byEvents issue (l .events) (l .pairs) (l .table))) (answer 1 0)) p q
+      ap₂ (λ (a b : Bool). cond a (cond b (outcome 2 (lowestBadSet (l .table))) (byEvents issue (l .events) (l .pairs) (l .table))) (outcome 1 0)) p q
 
-  pub refused-lengths : (fit : Bool) → fit ≡ lengthsFit l → not fit ≡ true → answer 1 0 ≡ outcomeOf issue l
-  refused-lengths fit h k = sym (by-stages false (ltb (lowestSet (l .table)) (length (l .table))) (sym h ∙ not-true fit k) refl)
+  pub refused-lengths : (fit : Bool) → fit ≡ lengthsFit l → not fit ≡ true → outcome 1 0 ≡ outcomeOf issue l
+  refused-lengths fit h k = sym (by-stages false (ltb (lowestBadSet (l .table)) (length (l .table))) (sym h ∙ not-true fit k) refl)
 
-  pub refused-set : (fit : Bool) (p : ℕ) → fit ≡ lengthsFit l → not fit ≡ false → p ≡ lowestSet (l .table) → p < length (l .table)
-      → answer 2 p ≡ outcomeOf issue l
+  pub refused-set : (fit : Bool) (p : ℕ) → fit ≡ lengthsFit l → not fit ≡ false → p ≡ lowestBadSet (l .table) → p < length (l .table)
+      → outcome 2 p ≡ outcomeOf issue l
   refused-set fit p h k q b =
-      ap (answer 2) q
+      ap (outcome 2) q
       ∙ sym (by-stages true true (sym h ∙ not-false fit k) (ap (λ (i : ℕ). ltb i (length (l .table))) (sym q) ∙ lt-ltb p (length (l .table)) b))
 
-  pub left-to-events : (fit : Bool) (p : ℕ) (r : Outcome) → fit ≡ lengthsFit l → not fit ≡ false → p ≡ lowestSet (l .table) → length (l .table) ≤ p
+  pub left-to-events : (fit : Bool) (p : ℕ) (r : Outcome) → fit ≡ lengthsFit l → not fit ≡ false → p ≡ lowestBadSet (l .table) → length (l .table) ≤ p
       → r ≡ byEvents issue (l .events) (l .pairs) (l .table) → r ≡ outcomeOf issue l
   left-to-events fit p r h k q b e =
       e
@@ -172,7 +172,7 @@ module _ (issue : Issue) (l : Lent) where
       go : (b : Bool) → lengthsFit l ≡ b → b ≡ true
       go true k = refl
       go false k =
-          let wrong : _≡_ {A = ℕ} 1 0 = sym (ap (λ (o : Outcome). o .refusal .0) (by-stages false (ltb (lowestSet (l .table)) (length (l .table))) k refl)) ∙ h in
+          let wrong : _≡_ {A = ℕ} 1 0 = sym (ap (λ (o : Outcome). o .refusal .0) (by-stages false (ltb (lowestBadSet (l .table)) (length (l .table))) k refl)) ∙ h in
           absurd (omega arith)
 
   -- what is left of a refused trace, and of an accepted one
@@ -188,12 +188,12 @@ module _ (issue : Issue) (l : Lent) where
   left-accepted o t v d a h k n all =
       ap₂ (λ (x y : List ℕ). left o x y d a) (all .in-table) (all .in-verdicts)
       ∙ ap₂ (λ (x y : List ℕ). left o (run (l .table) whole) (outputs verdict (l .table) whole) x y) (all .in-duties) (all .in-afters)
-      ∙ ap (λ (m : ℕ). left o (run (l .table) (entries (l .events) (l .pairs) 0 m)) (outputs verdict (l .table) (entries (l .events) (l .pairs) 0 m)) (outputs dutyByte (l .table) (entries (l .events) (l .pairs) 0 m)) (outputs after (l .table) (entries (l .events) (l .pairs) 0 m))) n
+      ∙ ap (λ (m : ℕ). left o (run (l .table) (eventsFrom (l .events) (l .pairs) 0 m)) (outputs verdict (l .table) (eventsFrom (l .events) (l .pairs) 0 m)) (outputs dutyByte (l .table) (eventsFrom (l .events) (l .pairs) 0 m)) (outputs after (l .table) (eventsFrom (l .events) (l .pairs) 0 m))) n
       ∙ ap (λ (x : Outcome). acceptedLeft x l) h
       ∙ sym (ap (λ (b : Bool). cond b (acceptedLeft (outcomeOf issue l) l) (refusedLeft (outcomeOf issue l) l)) (eq-eqb (outcomeOf issue l .refusal .0) 0 (ap (λ (x : Outcome). x .refusal .0) (sym h) ∙ k)))
     where
-      whole : List Entry
-      whole = entries (l .events) (l .pairs) 0 (length (l .pairs))
+      whole : List TraceEvent
+      whole = eventsFrom (l .events) (l .pairs) 0 (length (l .pairs))
 
   -- there is room for every event
   pub room : outcomeOf issue l .refusal .0 ≡ 0 → Room (l .pairs) (l .verdicts) (l .duties) (l .afters)

@@ -11,61 +11,65 @@ use lib.Seq.{take-suc-set, append-snoc, take-all}
 use Rattle.kinds.specs.Places.{setIn, pairIn, eventIn}
 use Rattle.verdicts.specs.declared.Finding.{Finding}
 use Rattle.verdicts.specs.Verdicts.{after, verdict, dutyByte, finding}
-use Rattle.trace.specs.Entries.{entryAt, entries, moved, run, outputs}
-use Rattle.trace.specs.Turns.{Room, OneJudged, AllJudged}
+use Rattle.trace.specs.Events.{eventAt, eventsFrom, moved, run, outputs}
+use Rattle.trace.specs.Turns.{Room, OnTable, OneJudged, AllJudged}
 use Rattle.trace.proofs.Laws.{minus-suc, minus-end}
 
--- the four buffers after one event, by the parts of its finding
-pub one-judged : (events pairs : List ℕ) (k : ℕ) (t v d a t′ v′ d′ a′ : List ℕ) (p m : ℕ) (e : List ℕ) (f : Finding)
-    → p ≡ pairIn pairs k → m ≡ setIn t p → e ≡ eventIn events k → f ≡ finding e m
-    → t′ ≡ set t p (f .after) → v′ ≡ set v k (f .verdict .0) → d′ ≡ set d k (f .duty .0) → a′ ≡ set a k (f .after)
-    → OneJudged events pairs k t v d a t′ v′ d′ a′
-one-judged events pairs k t v d a t′ v′ d′ a′ p m e f h₁ h₂ h₃ h₄ h₅ h₆ h₇ h₈ =
+-- one event on the table, by the parts of its judging
+pub on-table : (events pairs : List ℕ) (k : ℕ) (t t′ : List ℕ) (p m : ℕ) (e : List ℕ) (f : Finding)
+    → p ≡ pairIn pairs k → m ≡ setIn t p → e ≡ eventIn events k → f ≡ finding e m → t′ ≡ set t p (f .after) → OnTable events pairs k t f t′
+on-table events pairs k t t′ p m e f h₁ h₂ h₃ h₄ h₅ =
     let is : f ≡ finding (eventIn events k) (setIn t (pairIn pairs k)) = h₄ ∙ ap₂ finding h₃ (h₂ ∙ ap (setIn t) h₁) in
+    record { is-found = is; in-table = h₅ ∙ ap₂ (λ (x : ℕ) (g : Finding). set t x (g .after)) h₁ is }
+
+-- the four buffers after it
+pub one-judged : {events pairs : List ℕ} {k : ℕ} {t : List ℕ} {f : Finding} {t′ : List ℕ} (v d a v′ d′ a′ : List ℕ) → OnTable events pairs k t f t′
+    → v′ ≡ set v k (f .verdict .0) → d′ ≡ set d k (f .duty .0) → a′ ≡ set a k (f .after) → OneJudged events pairs k t v d a t′ v′ d′ a′
+one-judged {k = k} v d a v′ d′ a′ on h₁ h₂ h₃ =
     record {
-      in-table = h₅ ∙ ap₂ (λ (x : ℕ) (g : Finding). set t x (g .after)) h₁ is;
-      in-verdicts = h₆ ∙ ap (λ (g : Finding). set v k (g .verdict .0)) is;
-      in-duties = h₇ ∙ ap (λ (g : Finding). set d k (g .duty .0)) is;
-      in-afters = h₈ ∙ ap (λ (g : Finding). set a k (g .after)) is;
+      in-table = on .in-table;
+      in-verdicts = h₁ ∙ ap (λ (g : Finding). set v k (g .verdict .0)) (on .is-found);
+      in-duties = h₂ ∙ ap (λ (g : Finding). set d k (g .duty .0)) (on .is-found);
+      in-afters = h₃ ∙ ap (λ (g : Finding). set a k (g .after)) (on .is-found);
     }
 
 -- one output after k events: what is put so far, and what the rest will put, is the whole
 pub record Filled (f : List ℕ → ℕ → ℕ) (events pairs t₀ : List ℕ) (k : ℕ) (t out : List ℕ) : Type 0 where
-  pub so-far : take k out ++ outputs f t (entries events pairs k (length pairs - k)) ≡ outputs f t₀ (entries events pairs 0 (length pairs))
+  pub so-far : take k out ++ outputs f t (eventsFrom events pairs k (length pairs - k)) ≡ outputs f t₀ (eventsFrom events pairs 0 (length pairs))
   pub long : length out ≡ length pairs
 
 module _ (f : List ℕ → ℕ → ℕ) (events pairs t₀ : List ℕ) where
   filled-start : (out : List ℕ) → length out ≡ length pairs → Filled f events pairs t₀ 0 t₀ out
-  filled-start out h = record { so-far = ap (λ (n : ℕ). outputs f t₀ (entries events pairs 0 n)) (sub-zero (length pairs)); long = h }
+  filled-start out h = record { so-far = ap (λ (n : ℕ). outputs f t₀ (eventsFrom events pairs 0 n)) (sub-zero (length pairs)); long = h }
 
-  filled-next : (k : ℕ) (t out t′ out′ : List ℕ) → Filled f events pairs t₀ k t out → k < length pairs → t′ ≡ moved t (entryAt events pairs k)
+  filled-next : (k : ℕ) (t out t′ out′ : List ℕ) → Filled f events pairs t₀ k t out → k < length pairs → t′ ≡ moved t (eventAt events pairs k)
       → out′ ≡ set out k (f (eventIn events k) (setIn t (pairIn pairs k))) → Filled f events pairs t₀ (k + 1) t′ out′
   filled-next k t out t′ out′ go h p q =
       let y = f (eventIn events k) (setIn t (pairIn pairs k)) in
-      let rest = outputs f (moved t (entryAt events pairs k)) (entries events pairs (suc k) (length pairs - suc k)) in
+      let rest = outputs f (moved t (eventAt events pairs k)) (eventsFrom events pairs (suc k) (length pairs - suc k)) in
       record {
         so-far =
-            ap₂ (λ (o u : List ℕ). take (k + 1) o ++ outputs f u (entries events pairs (k + 1) (length pairs - (k + 1)))) q p
-            ∙ ap (λ (i : ℕ). take i (set out k y) ++ outputs f (moved t (entryAt events pairs k)) (entries events pairs i (length pairs - i))) (add-one k)
+            ap₂ (λ (o u : List ℕ). take (k + 1) o ++ outputs f u (eventsFrom events pairs (k + 1) (length pairs - (k + 1)))) q p
+            ∙ ap (λ (i : ℕ). take i (set out k y) ++ outputs f (moved t (eventAt events pairs k)) (eventsFrom events pairs i (length pairs - i))) (add-one k)
             ∙ ap (λ (o : List ℕ). o ++ rest) (take-suc-set out k y (omega (arith, go .long)))
             ∙ append-snoc (take k out) y rest
-            ∙ ap (λ (n : ℕ). take k out ++ outputs f t (entries events pairs k n)) (sym (minus-suc (length pairs) k h))
+            ∙ ap (λ (n : ℕ). take k out ++ outputs f t (eventsFrom events pairs k n)) (sym (minus-suc (length pairs) k h))
             ∙ go .so-far;
         long = ap length q ∙ length-set out k y ∙ go .long;
       }
 
-  filled-end : (k : ℕ) (t out : List ℕ) → Filled f events pairs t₀ k t out → length pairs ≤ k → out ≡ outputs f t₀ (entries events pairs 0 (length pairs))
+  filled-end : (k : ℕ) (t out : List ℕ) → Filled f events pairs t₀ k t out → length pairs ≤ k → out ≡ outputs f t₀ (eventsFrom events pairs 0 (length pairs))
   filled-end k t out go h =
       sym (take-all k out (omega (arith, go .long)))
       ∙ sym (append-nil (take k out))
-      ∙ ap (λ (n : ℕ). take k out ++ outputs f t (entries events pairs k n)) (sym (minus-end (length pairs) k h))
+      ∙ ap (λ (n : ℕ). take k out ++ outputs f t (eventsFrom events pairs k n)) (sym (minus-end (length pairs) k h))
       ∙ go .so-far
 
 -- the four buffers after k events
 pub record Going (events pairs t₀ : List ℕ) (k : ℕ) (t v d a : List ℕ) : Type 0 where
   pub within : k ≤ length pairs
   pub long : length t ≡ length t₀
-  pub table-so : run t (entries events pairs k (length pairs - k)) ≡ run t₀ (entries events pairs 0 (length pairs))
+  pub table-so : run t (eventsFrom events pairs k (length pairs - k)) ≡ run t₀ (eventsFrom events pairs 0 (length pairs))
   pub verdicts-so : Filled verdict events pairs t₀ k t v
   pub duties-so : Filled dutyByte events pairs t₀ k t d
   pub afters-so : Filled after events pairs t₀ k t a
@@ -76,7 +80,7 @@ module _ (events pairs t₀ : List ℕ) where
       record {
         within = omega arith;
         long = refl;
-        table-so = ap (λ (n : ℕ). run t₀ (entries events pairs 0 n)) (sub-zero (length pairs));
+        table-so = ap (λ (n : ℕ). run t₀ (eventsFrom events pairs 0 n)) (sub-zero (length pairs));
         verdicts-so = filled-start verdict events pairs t₀ v (room .verdicts-fit);
         duties-so = filled-start dutyByte events pairs t₀ d (room .duties-fit);
         afters-so = filled-start after events pairs t₀ a (room .afters-fit);
@@ -89,9 +93,9 @@ module _ (events pairs t₀ : List ℕ) where
         within = omega arith;
         long = ap length (one .in-table) ∙ length-set t (pairIn pairs k) (after (eventIn events k) (setIn t (pairIn pairs k))) ∙ go .long;
         table-so =
-            ap (λ (u : List ℕ). run u (entries events pairs (k + 1) (length pairs - (k + 1)))) (one .in-table)
-            ∙ ap (λ (i : ℕ). run (moved t (entryAt events pairs k)) (entries events pairs i (length pairs - i))) (add-one k)
-            ∙ ap (λ (n : ℕ). run t (entries events pairs k n)) (sym (minus-suc (length pairs) k h))
+            ap (λ (u : List ℕ). run u (eventsFrom events pairs (k + 1) (length pairs - (k + 1)))) (one .in-table)
+            ∙ ap (λ (i : ℕ). run (moved t (eventAt events pairs k)) (eventsFrom events pairs i (length pairs - i))) (add-one k)
+            ∙ ap (λ (n : ℕ). run t (eventsFrom events pairs k n)) (sym (minus-suc (length pairs) k h))
             ∙ go .table-so;
         verdicts-so = filled-next verdict events pairs t₀ k t v t′ v′ (go .verdicts-so) h (one .in-table) (one .in-verdicts);
         duties-so = filled-next dutyByte events pairs t₀ k t d t′ d′ (go .duties-so) h (one .in-table) (one .in-duties);
@@ -101,7 +105,7 @@ module _ (events pairs t₀ : List ℕ) where
   pub going-end : {k : ℕ} {t v d a : List ℕ} → Going events pairs t₀ k t v d a → length pairs ≤ k → AllJudged events pairs t₀ t v d a
   going-end {k} {t} {v} {d} {a} go h =
       record {
-        in-table = ap (λ (n : ℕ). run t (entries events pairs k n)) (sym (minus-end (length pairs) k h)) ∙ go .table-so;
+        in-table = ap (λ (n : ℕ). run t (eventsFrom events pairs k n)) (sym (minus-end (length pairs) k h)) ∙ go .table-so;
         in-verdicts = filled-end verdict events pairs t₀ k t v (go .verdicts-so) h;
         in-duties = filled-end dutyByte events pairs t₀ k t d (go .duties-so) h;
         in-afters = filled-end after events pairs t₀ k t a (go .afters-so) h;

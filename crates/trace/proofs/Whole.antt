@@ -8,7 +8,7 @@ use borrow.Author.Tests.{eq-eqb, ne-eqb}
 use Rattle.event.specs.Refusals.{Issue}
 use Rattle.trace.specs.Lent.{Lent, Left, count}
 use Rattle.trace.specs.Refusals.{outcomeOf}
-use Rattle.trace.specs.Given.{Reached, Given, accepted, bad-lengths, bad-set, bad-pair, bad-byte, bad-request}
+use Rattle.trace.specs.Given.{GoodSoFar, Given, accepted, bad-lengths, bad-set, bad-pair, bad-byte, bad-request}
 use Rattle.trace.specs.Judged.{accepts, acceptedLeft, refusedLeft, judged}
 use Rattle.trace.proofs.Given.{given}
 
@@ -34,7 +34,7 @@ module _ (issue : Issue) (l : Lent) where
   judged-refused h = by-acceptance false (ne-eqb (outcomeOf issue l .refusal .0) 0 h)
 
   -- number 0 is given by no other row
-  row-0 : {number place : ℕ} → Given issue l number place → number ≡ 0 → Reached issue l (count l)
+  row-0 : {number place : ℕ} → Given issue l number place → number ≡ 0 → GoodSoFar issue l (count l)
   row-0 (accepted r) h = r
   row-0 (bad-lengths n) h = absurd (omega arith)
   row-0 (bad-set f a b c) h = absurd (omega arith)
@@ -42,5 +42,5 @@ module _ (issue : Issue) (l : Lent) where
   row-0 (bad-byte r a b c) h = absurd (omega arith)
   row-0 (bad-request r a b c d) h = absurd (omega arith)
 
-  pub accepted-reached : outcomeOf issue l .refusal .0 ≡ 0 → Reached issue l (count l)
-  accepted-reached h = row-0 (given issue l) h
+  pub accepted-good : outcomeOf issue l .refusal .0 ≡ 0 → GoodSoFar issue l (count l)
+  accepted-good h = row-0 (given issue l) h

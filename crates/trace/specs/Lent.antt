@@ -14,6 +14,7 @@ pub record Lent : Type 0 where
   pub duties : List ℕ
   pub afters : List ℕ
 
+-- the six in the order of the call
 abbrev pub lent : List ℕ → List ℕ → List ℕ → List ℕ → List ℕ → List ℕ → Lent
 lent events pairs table verdicts duties afters =
     record { events = events; pairs = pairs; table = table; verdicts = verdicts; duties = duties; afters = afters }
@@ -26,6 +27,7 @@ pub record Left : Type 0 where
   pub duties : List ℕ
   pub afters : List ℕ
 
+-- the answer, then the four in the order of the call
 abbrev pub left : Outcome → List ℕ → List ℕ → List ℕ → List ℕ → Left
 left outcome table verdicts duties afters = record { outcome = outcome; table = table; verdicts = verdicts; duties = duties; afters = afters }
 

@@ -1,4 +1,4 @@
-pub mod Entries
+pub mod Events
 pub mod Lent
 pub mod Refusals
 pub mod Given

@@ -9,9 +9,9 @@ use Rattle.event.specs.Refusals.{Issue, fault}
 use Rattle.trace.specs.declared.Outcome.{Outcome}
 use Rattle.trace.specs.Lent.{Lent, count}
 
--- a number of the refusal table, and its place
-abbrev pub answer : ℕ → ℕ → Outcome
-answer number place = record { refusal = record { 0 = number }; place = place }
+-- the outcome that is a number of the refusal table and its place
+abbrev pub outcome : ℕ → ℕ → Outcome
+outcome number place = record { refusal = record { 0 = number }; place = place }
 
 -- at most this many events, and at most this many pairs
 abbrev pub most : ℕ
@@ -41,27 +41,29 @@ badSet table p = ltb 127 (setIn table p)
 unfoldable pub faultAt : Issue → List ℕ → List ℕ → List ℕ → ℕ → ℕ
 faultAt issue events pairs table k = cond (ltb (pairIn pairs k) (length table)) (fault issue (eventIn events k)) 3
 
+-- an event that is refused
 abbrev pub badEvent : Issue → List ℕ → List ℕ → List ℕ → ℕ → Bool
 badEvent issue events pairs table k = not (eqb (faultAt issue events pairs table k) 0)
 
--- the lowest pair whose set is bad, and the first event that is
-abbrev pub lowestSet : List ℕ → ℕ
-lowestSet table = firstFrom (badSet table) 0 (length table)
+-- the lowest pair whose set is bad, or how many pairs there are
+abbrev pub lowestBadSet : List ℕ → ℕ
+lowestBadSet table = firstFrom (badSet table) 0 (length table)
 
-abbrev pub firstEvent : Issue → List ℕ → List ℕ → List ℕ → ℕ
-firstEvent issue events pairs table = firstFrom (badEvent issue events pairs table) 0 (length pairs)
+-- the first event that is bad, or how many events there are
+abbrev pub firstBadEvent : Issue → List ℕ → List ℕ → List ℕ → ℕ
+firstBadEvent issue events pairs table = firstFrom (badEvent issue events pairs table) 0 (length pairs)
 
--- the events one after another
+-- the outcome of the events: the first bad one, or accepted with place n
 unfoldable pub byEvents : Issue → List ℕ → List ℕ → List ℕ → Outcome
 byEvents issue events pairs table =
-    let k = firstEvent issue events pairs table in
-    cond (ltb k (length pairs)) (answer (faultAt issue events pairs table k) k) (answer 0 (length pairs))
+    let k = firstBadEvent issue events pairs table in
+    cond (ltb k (length pairs)) (outcome (faultAt issue events pairs table k) k) (outcome 0 (length pairs))
 
--- 1, then 2 over the table, then the events
+-- the outcome: 1, then 2 over the table, then the events
 unfoldable pub outcomeOf : Issue → Lent → Outcome
 outcomeOf issue l =
     cond (lengthsFit l)
-    (cond (ltb (lowestSet (l .table)) (length (l .table)))
-    (answer 2 (lowestSet (l .table)))
+    (cond (ltb (lowestBadSet (l .table)) (length (l .table)))
+    (outcome 2 (lowestBadSet (l .table)))
     (byEvents issue (l .events) (l .pairs) (l .table)))
-    (answer 1 0)
+    (outcome 1 0)

@@ -4,9 +4,10 @@ use mathlib.Core.Path.{_≡_}
 use mathlib.Core.List.{List}
 use lib.ListN.{length, set}
 use Rattle.kinds.specs.Places.{setIn, pairIn, eventIn}
-use Rattle.verdicts.specs.Verdicts.{after, verdict, dutyByte}
+use Rattle.verdicts.specs.Verdicts.{after, verdict, dutyByte, finding}
+use Rattle.verdicts.specs.declared.Finding.{Finding}
 use Rattle.trace.specs.Refusals.{most}
-use Rattle.trace.specs.Entries.{entryAt, entries, moved, run, outputs}
+use Rattle.trace.specs.Events.{eventAt, eventsFrom, moved, run, outputs}
 
 -- room for a byte of each event
 pub record Room (pairs verdicts duties afters : List ℕ) : Type 0 where
@@ -15,16 +16,21 @@ pub record Room (pairs verdicts duties afters : List ℕ) : Type 0 where
   pub duties-fit : length duties ≡ length pairs
   pub afters-fit : length afters ≡ length pairs
 
+-- event k judged on the table: what is found, and the table moved
+pub record OnTable (events pairs : List ℕ) (k : ℕ) (table : List ℕ) (found : Finding) (table′ : List ℕ) : Type 0 where
+  pub is-found : found ≡ finding (eventIn events k) (setIn table (pairIn pairs k))
+  pub in-table : table′ ≡ moved table (eventAt events pairs k)
+
 -- the four buffers after event k: the table moved, and the event's byte in each of the others
 pub record OneJudged (events pairs : List ℕ) (k : ℕ) (table verdicts duties afters table′ verdicts′ duties′ afters′ : List ℕ) : Type 0 where
-  pub in-table : table′ ≡ moved table (entryAt events pairs k)
+  pub in-table : table′ ≡ moved table (eventAt events pairs k)
   pub in-verdicts : verdicts′ ≡ set verdicts k (verdict (eventIn events k) (setIn table (pairIn pairs k)))
   pub in-duties : duties′ ≡ set duties k (dutyByte (eventIn events k) (setIn table (pairIn pairs k)))
   pub in-afters : afters′ ≡ set afters k (after (eventIn events k) (setIn table (pairIn pairs k)))
 
 -- the four buffers after all events
 pub record AllJudged (events pairs table table′ verdicts′ duties′ afters′ : List ℕ) : Type 0 where
-  pub in-table : table′ ≡ run table (entries events pairs 0 (length pairs))
-  pub in-verdicts : verdicts′ ≡ outputs verdict table (entries events pairs 0 (length pairs))
-  pub in-duties : duties′ ≡ outputs dutyByte table (entries events pairs 0 (length pairs))
-  pub in-afters : afters′ ≡ outputs after table (entries events pairs 0 (length pairs))
+  pub in-table : table′ ≡ run table (eventsFrom events pairs 0 (length pairs))
+  pub in-verdicts : verdicts′ ≡ outputs verdict table (eventsFrom events pairs 0 (length pairs))
+  pub in-duties : duties′ ≡ outputs dutyByte table (eventsFrom events pairs 0 (length pairs))
+  pub in-afters : afters′ ≡ outputs after table (eventsFrom events pairs 0 (length pairs))

@@ -3,14 +3,15 @@ use kinds::EVENT_BYTES;
 use kinds::EventNumber;
 use kinds::PairNumber;
 use kinds::Refusal;
+use verdicts::Finding;
 ghost use Prim.Native.Nat.{_≤_};
 ghost use mathlib.Core.Path.{_≡_};
 ghost use lib.ListN.{length};
 ghost use Rattle.event.specs.Refusals.{issueE};
 ghost use Rattle.trace.specs.Lent.{lent, left};
-ghost use Rattle.trace.specs.Refusals.{lengthsFit, most, lowestSet, faultAt, firstEvent, byEvents, outcomeOf};
+ghost use Rattle.trace.specs.Refusals.{lengthsFit, most, lowestBadSet, faultAt, firstBadEvent, byEvents, outcomeOf};
 ghost use Rattle.trace.specs.Judged.{judged};
-ghost use Rattle.trace.specs.Turns.{Room, OneJudged, AllJudged};
+ghost use Rattle.trace.specs.Turns.{Room, OnTable, OneJudged, AllJudged};
 
 // At most this many events, and at most this many pairs.
 const MOST: usize = 4096;
@@ -18,7 +19,7 @@ const MOST: usize = 4096;
 // The largest set: all seven states.
 const ALL_STATES: u8 = 127;
 
-// A number of the refusal table, and its place: how many events for an accepted trace, the pair for a set, the event for an event.
+// A number of the refusal table, and its place: how many events there are, 0 for the lengths, the pair of a set, or the event.
 pub struct Outcome {
     pub refusal: Refusal,
     pub place: usize,
@@ -47,10 +48,10 @@ fn lengths_fit(
         & (afters.len() == n)
 }
 
-// The lowest pair whose set is above all states, or how many pairs there are.
-fn lowest_set(table: &[u8]) -> usize
+// The lowest pair whose set is above 127, or how many pairs there are.
+fn lowest_bad_set(table: &[u8]) -> usize
     requires { ⌜ length (now table) ≤ most ⌝ }
-    ensures { λ r. ⌜ r ≡ lowestSet (now (table .entry)) ⌝ }
+    ensures { λ r. ⌜ r ≡ lowestBadSet (now (table .entry)) ⌝ }
 {
     let mut p: usize = 0;
     while p < table.len() {
@@ -75,9 +76,9 @@ fn fault_at(k: EventNumber, events: &[u8], pairs: &[u16], table: &[u8]) -> Refus
 }
 
 // The first event that is refused, or how many events there are.
-fn first_event(events: &[u8], pairs: &[u16], table: &[u8]) -> EventNumber
+fn first_bad_event(events: &[u8], pairs: &[u16], table: &[u8]) -> EventNumber
     requires { ⌜ length (now pairs) ≤ most ⌝ }
-    ensures { λ r. ⌜ r .0 ≡ firstEvent issueE (now (events .entry)) (now (pairs .entry)) (now (table .entry)) ⌝ }
+    ensures { λ r. ⌜ r .0 ≡ firstBadEvent issueE (now (events .entry)) (now (pairs .entry)) (now (table .entry)) ⌝ }
 {
     let mut k: u32 = 0;
     while (k as usize) < pairs.len() {
@@ -96,7 +97,7 @@ fn by_events(events: &[u8], pairs: &[u16], table: &[u8]) -> Outcome
     requires { ⌜ length (now pairs) ≤ most ⌝ }
     ensures { λ r. ⌜ r ≡ byEvents issueE (now (events .entry)) (now (pairs .entry)) (now (table .entry)) ⌝ }
 {
-    let first = first_event(events, pairs, table);
+    let first = first_bad_event(events, pairs, table);
     let k = first.0;
     let place = k as usize;
     if place < pairs.len() {
@@ -128,7 +129,7 @@ fn outcome_of(
             place: 0,
         };
     }
-    let pair = lowest_set(table);
+    let pair = lowest_bad_set(table);
     if pair < table.len() {
         return Outcome {
             refusal: Refusal::SET,
@@ -138,7 +139,19 @@ fn outcome_of(
     by_events(events, pairs, table)
 }
 
-// Event k judged on the set of its pair: the table moves, and the event's verdict, duty and set after are put at its place.
+// Event k judged on the table: its pair's set becomes the set after.
+fn judge_on_table(k: EventNumber, events: &[u8], pairs: &[u16], table: &mut [u8]) -> Finding
+    ensures { λ r. ⌜ OnTable (now (events .entry)) (now (pairs .entry)) (k .0) (now (table .entry)) r (now (table .exit)) ⌝ }
+{
+    let pair = k.pair_in(pairs);
+    let before = pair.set_in(table);
+    let found = verdicts::judge(k.event_in(events), before);
+    let after = found.after;
+    pair.put_in(table, after);
+    found
+}
+
+// Event k judged: the table moves, and the event's verdict, duty and set after are put at its place.
 fn judge_one(
     k: EventNumber,
     events: &[u8],
@@ -152,14 +165,10 @@ fn judge_one(
         (now (table .entry)) (now (verdicts .entry)) (now (duties .entry)) (now (afters .entry))
         (now (table .exit)) (now (verdicts .exit)) (now (duties .exit)) (now (afters .exit)) ⌝ }
 {
-    let pair = k.pair_in(pairs);
-    let before = pair.set_in(table);
-    let found = verdicts::judge(k.event_in(events), before);
-    let after = found.after;
-    pair.put_in(table, after);
+    let found = judge_on_table(k, events, pairs, table);
     k.put_in(verdicts, found.verdict.0);
     k.put_in(duties, found.duty.0);
-    k.put_in(afters, after);
+    k.put_in(afters, found.after);
 }
 
 // Every event judged, one after another.

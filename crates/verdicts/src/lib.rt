@@ -11,7 +11,7 @@ pub struct Finding {
     pub duty: Duty,
 }
 
-// The event judged on a set: the one step of the judge.
+// The event judged on a set.
 pub fn judge(event: &[u8], before: u8) -> Finding
     ensures { λ r. ⌜ r ≡ finding (now (event .entry)) before ⌝ }
 {

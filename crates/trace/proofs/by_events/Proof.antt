@@ -7,8 +7,8 @@ use borrow.Author.Needs.{needs}
 use Rattle.trace.proofs.by_events.Statement.{statement}
 use Rattle.trace.proofs.by_events.Tie as tie
 
-first-event-requires : tie.Need-first-event-requires
-first-event-requires c κs = search needs
+first-bad-event-requires : tie.Need-first-bad-event-requires
+first-bad-event-requires c κs = search needs
 
 cast-place : tie.Need-cast-place
 cast-place c = search needs
@@ -17,11 +17,11 @@ fault-at-requires : tie.Need-fault-at-requires
 fault-at-requires c κs = search needs
 
 returns : tie.Need-returns
-returns c = refused-event issueE (now (c .before .before .before .before .before .before .args .events)) (now (c .before .before .before .before .before .before .args .pairs)) (now (c .before .before .before .before .before .before .args .table)) (c .before .before .first-event .result .0) (c .fault-at .result .0) (c .before .before .first-event .ensures) (c .before .if1 .taken) (c .fault-at .ensures)
+returns c = refused-event issueE (now (c .before .before .before .before .before .before .args .events)) (now (c .before .before .before .before .before .before .args .pairs)) (now (c .before .before .before .before .before .before .args .table)) (c .before .before .first-bad-event .result .0) (c .fault-at .result .0) (c .before .before .first-bad-event .ensures) (c .before .if1 .taken) (c .fault-at .ensures)
 
 returns-2 : tie.Need-returns-2
-returns-2 c = no-event issueE (now (c .before .before .before .before .before .args .events)) (now (c .before .before .before .before .before .args .pairs)) (now (c .before .before .before .before .before .args .table)) (c .before .first-event .result .0) (c .before .first-event .ensures) (c .if1 .left)
+returns-2 c = no-event issueE (now (c .before .before .before .before .before .args .events)) (now (c .before .before .before .before .before .args .pairs)) (now (c .before .before .before .before .before .args .table)) (c .before .first-bad-event .result .0) (c .before .first-bad-event .ensures) (c .if1 .left)
 
 pub by-events-spec : {M : Type 1} → statement M
 by-events-spec =
-    tie.close (tie.spec first-event-requires cast-place fault-at-requires returns returns-2)
+    tie.close (tie.spec first-bad-event-requires cast-place fault-at-requires returns returns-2)

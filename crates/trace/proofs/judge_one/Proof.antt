@@ -1,4 +1,4 @@
--- `trace::judge_one` meets its contract: each buffer gets its part of the finding.
+-- `trace::judge_one` meets its contract: each output gets its part of the finding.
 -- Assumes nothing.
 use denote.Ref.{now}
 use Rattle.trace.proofs.Turns.{one-judged}
@@ -6,17 +6,8 @@ use borrow.Author.Needs.{needs}
 use Rattle.trace.proofs.judge_one.Statement.{statement}
 use Rattle.trace.proofs.judge_one.Tie as tie
 
-pair-in-requires : tie.Need-pair-in-requires
-pair-in-requires c κs = search needs
-
-set-in-requires : tie.Need-set-in-requires
-set-in-requires c κs = search needs
-
-event-in-requires : tie.Need-event-in-requires
-event-in-requires c κs = search needs
-
-judge-requires : tie.Need-judge-requires
-judge-requires c κs = search needs
+judge-on-table-requires : tie.Need-judge-on-table-requires
+judge-on-table-requires c κs = search needs
 
 put-in-requires : tie.Need-put-in-requires
 put-in-requires c κs = search needs
@@ -26,9 +17,6 @@ put-in-requires-2 c κs = search needs
 
 put-in-requires-3 : tie.Need-put-in-requires-3
 put-in-requires-3 c κs = search needs
-
-put-in-requires-4 : tie.Need-put-in-requires-4
-put-in-requires-4 c κs = search needs
 
 same-length : tie.Need-same-length
 same-length c = search needs
@@ -43,24 +31,17 @@ same-length-4 : tie.Need-same-length-4
 same-length-4 c = search needs
 
 returns : tie.Need-returns
-returns c = one-judged (now (c .before .before .before .before .before .before .before .before .before .before .before .before .before .before .before .before .before .before .before .before .before .before .before .before .before .before .before .args .events)) (now (c .before .before .before .before .before .before .before .before .before .before .before .before .before .before .before .before .before .before .before .before .before .before .before .before .before .before .before .args .pairs)) (c .before .before .before .before .before .before .before .before .before .before .before .before .before .before .before .before .before .before .before .before .before .before .before .before .before .before .before .args .k .0)
-    (now (c .before .before .before .before .before .before .before .before .before .before .before .before .before .before .before .before .before .before .before .before .before .before .before .before .before .before .before .args .table)) (now (c .before .before .before .before .before .before .before .before .before .before .before .before .before .before .before .before .before .before .before .before .before .before .before .before .before .before .before .args .verdicts)) (now (c .before .before .before .before .before .before .before .before .before .before .before .before .before .before .before .before .before .before .before .before .before .before .before .before .before .before .before .args .duties)) (now (c .before .before .before .before .before .before .before .before .before .before .before .before .before .before .before .before .before .before .before .before .before .before .before .before .before .before .before .args .afters))
-    _ _ _ _
-    (c .before .before .before .before .before .before .before .before .before .before .before .before .before .before .before .before .before .before .before .before .pair-in .result .0) (c .before .before .before .before .before .before .before .before .before .before .before .before .before .before .before .before .before .before .set-in .result) (now (c .before .before .before .before .before .before .before .before .before .before .before .before .before .before .before .before .before .event-in .result)) (c .before .before .before .before .before .before .before .before .before .before .before .before .before .before .before .before .judge .result)
-    (c .before .before .before .before .before .before .before .before .before .before .before .before .before .before .before .before .before .before .before .before .pair-in .ensures) (c .before .before .before .before .before .before .before .before .before .before .before .before .before .before .before .before .before .before .set-in .ensures) (c .before .before .before .before .before .before .before .before .before .before .before .before .before .before .before .before .before .event-in .ensures) (c .before .before .before .before .before .before .before .before .before .before .before .before .before .before .before .before .judge .ensures) (c .before .before .before .before .before .before .before .before .before .before .before .before .before .before .put-in .ensures) (c .before .before .before .before .before .before .before .before .before .before .put-in2 .ensures) (c .before .before .before .before .before .before .put-in3 .ensures) (c .before .before .put-in4 .ensures)
+returns c = one-judged (now (c .before .before .before .before .before .before .before .before .before .before .before .before .before .before .before .before .before .before .before .before .before .before .args .verdicts)) (now (c .before .before .before .before .before .before .before .before .before .before .before .before .before .before .before .before .before .before .before .before .before .before .args .duties)) (now (c .before .before .before .before .before .before .before .before .before .before .before .before .before .before .before .before .before .before .before .before .before .before .args .afters)) _ _ _
+    (c .before .before .before .before .before .before .before .before .before .before .before .before .before .before .judge-on-table .ensures) (c .before .before .before .before .before .before .before .before .before .before .put-in .ensures) (c .before .before .before .before .before .before .put-in2 .ensures) (c .before .before .put-in3 .ensures)
 
 pub judge-one-spec : {M : Type 1} → statement M
 judge-one-spec =
     tie.close
     (tie.spec
-    pair-in-requires
-    set-in-requires
-    event-in-requires
-    judge-requires
+    judge-on-table-requires
     put-in-requires
     put-in-requires-2
     put-in-requires-3
-    put-in-requires-4
     same-length
     same-length-2
     same-length-3

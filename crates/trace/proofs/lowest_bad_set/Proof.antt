@@ -1,4 +1,4 @@
--- `trace::lowest_set` meets its contract: no set before p is bad. The measure is what is left of the table.
+-- `trace::lowest_bad_set` meets its contract: no set before p is bad. The measure is what is left of the table.
 -- Assumes nothing.
 use Prim.Native.Nat.{_-_}
 use native.Mathlib.Omega.{arith}
@@ -8,8 +8,8 @@ use lib.ListN.{length}
 use Rattle.kinds.specs.Places.{setIn}
 use Rattle.trace.specs.Refusals.{badSet}
 use Rattle.trace.proofs.Laws.{First, first-start, first-here, first-next, first-end, bad-set, good-set}
-use Rattle.trace.proofs.lowest_set.Statement.{statement}
-use Rattle.trace.proofs.lowest_set.Tie as tie
+use Rattle.trace.proofs.lowest_bad_set.Statement.{statement}
+use Rattle.trace.proofs.lowest_bad_set.Tie as tie
 
 abbrev Inv-loop : tie.InvT-loop
 Inv-loop table p₀ p = First (badSet table) (length table) p
@@ -41,8 +41,8 @@ loop-again c = first-next (c .before .before .before .loop .inv) (c .before .bef
 returns-2 : tie.Need-returns-2 Inv-loop μ-loop
 returns-2 c = first-end (c .before .loop .inv) (c .loop-test .left)
 
-pub lowest-set-spec : {M : Type 1} → statement M
-lowest-set-spec =
+pub lowest-bad-set-spec : {M : Type 1} → statement M
+lowest-bad-set-spec =
     tie.close
     (tie.spec
     Inv-loop

@@ -1,4 +1,4 @@
--- `trace::first_event` meets its contract: no event before k is bad. The measure is what is left of the pair numbers.
+-- `trace::first_bad_event` meets its contract: no event before k is bad. The measure is what is left of the pair numbers.
 -- Assumes nothing.
 use Prim.Native.Nat.{_-_}
 use native.Mathlib.Omega.{arith}
@@ -8,8 +8,8 @@ use lib.ListN.{length}
 use Rattle.event.specs.Refusals.{issueE}
 use Rattle.trace.specs.Refusals.{faultAt, badEvent}
 use Rattle.trace.proofs.Laws.{First, first-start, first-here, first-next, first-end, bad, good}
-use Rattle.trace.proofs.first_event.Statement.{statement}
-use Rattle.trace.proofs.first_event.Tie as tie
+use Rattle.trace.proofs.first_bad_event.Statement.{statement}
+use Rattle.trace.proofs.first_bad_event.Tie as tie
 
 abbrev Inv-loop : tie.InvT-loop
 Inv-loop events pairs table k₀ k = First (badEvent issueE events pairs table) (length pairs) k
@@ -41,8 +41,8 @@ loop-again c = first-next (c .before .before .before .before .loop .inv) (c .bef
 returns-2 : tie.Need-returns-2 Inv-loop μ-loop
 returns-2 c = first-end (c .before .loop .inv) (c .loop-test .left)
 
-pub first-event-spec : {M : Type 1} → statement M
-first-event-spec =
+pub first-bad-event-spec : {M : Type 1} → statement M
+first-bad-event-spec =
     tie.close
     (tie.spec
     Inv-loop
