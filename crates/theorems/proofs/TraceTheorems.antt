@@ -10,6 +10,7 @@ use native.Mathlib.Nat.{zero-add}
 use native.Mathlib.Omega.{arith}
 use lib.ListN.{length}
 -- the definitions that the theorems name
+use Rattle.kinds.specs.Tests.{all}
 use Rattle.kinds.specs.Codes.{dirty}
 use Rattle.kinds.specs.Places.{setIn, pairIn}
 use Rattle.sets.specs.Sets.{setOf, bit}
@@ -25,7 +26,7 @@ use Rattle.trace.specs.Given.{Given}
 use Rattle.trace.specs.Judged.{trace, refusedLeft, accepts, judged}
 use Rattle.histories.specs.Histories.{own, first, History, HistoryTo, VerdictGiven}
 use Rattle.theorems.specs.Duties.{nonDataError, HomeHolds, RequesterHolds}
-use Rattle.theorems.specs.Traces.{Accepted, verdictAt, dutyAt, afterAt, setAtEnd, pairOf, eventOf, DutySaid, DirtyReaches, sheet}
+use Rattle.theorems.specs.Traces.{Accepted, verdictAt, dutyAt, afterAt, setAtEnd, pairOf, eventOf, DutySaid, DirtyReaches, sheet, orders, inOrder}
 -- their proofs
 use Rattle.trace.proofs.Given.{given, gives}
 use Rattle.trace.proofs.Whole.{judged-outcome, judged-refused}
@@ -182,3 +183,8 @@ pub page-sheet : judged issueE sheet
     (33 ∷ 33 ∷ 0 ∷ 0 ∷ [])
 unfolding setOf bit rows asked answered tagged permitted steps duty fault after verdict dutyByte lengthsFit faultAt byEvents outcomeOf accepts judged
 page-sheet = refl
+
+-- THE ORDER OF THE REFUSALS, by cases in which more than one could be given.
+pub refusal-order : all inOrder orders ≡ true
+unfolding setOf bit rows asked answered tagged permitted steps duty fault after verdict dutyByte lengthsFit faultAt byEvents outcomeOf accepts judged
+refusal-order = refl
