@@ -1,13 +1,11 @@
 -- The set that events leave of a starting set holds exactly the states in which some history ends.
 -- Assumes nothing.
 use mathlib.Core.Path.{_≡_, refl, _∙_, ap}
-use mathlib.Core.Bool.{Bool, true, false}
+use mathlib.Core.Bool.{true}
 use mathlib.Core.List.{List, [], _∷_, _++_}
 use Prim.Native.Nat.{ℕ, _<_}
-use borrow.Author.Tests.{eqb-true, eqb-false}
-use lib.Dec.{eqb}
 use Rattle.sets.specs.Sets.{bit}
-use Rattle.sets.proofs.Laws.{held-some, some-held}
+use Rattle.sets.proofs.Laws.{held-some, none-held}
 use Rattle.verdicts.specs.Verdicts.{after}
 use Rattle.verdicts.proofs.Laws.{after-below, after-from, from-after, after-some}
 use Rattle.histories.specs.Histories.{Through, done, then, History}
@@ -43,11 +41,7 @@ ends-in m es s′ h = way-ends m (h .in-start) (h .way)
 
 -- from the empty set nothing comes
 pub after-empty : (e : List ℕ) → after e 0 ≡ 0
-after-empty e = go (eqb (after e 0) 0) refl
-  where
-    go : (b : Bool) → eqb (after e 0) 0 ≡ b → after e 0 ≡ 0
-    go true h = eqb-true (after e 0) 0 h
-    go false h = absurd (held-some (after-some e 0 (some-held (after e 0) (after-below e 0) (eqb-false (after e 0) 0 h))) refl)
+after-empty e = none-held (after e 0) (after-below e 0) (λ h. held-some (after-some e 0 h) refl)
 
 pub walk-empty : (es : List (List ℕ)) → walk 0 es ≡ 0
 walk-empty [] = refl

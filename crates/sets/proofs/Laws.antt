@@ -207,3 +207,10 @@ some-held m h k = go (any (bit m) states) refl
             test : (b : Bool) → bit m n ≡ b → b ≡ false
             test true q = absurd (true≢false (sym (found-any (bit m) (state-in n (bit-state m n h q)) q) ∙ l))
             test false q = refl
+
+pub none-held : (m : ℕ) → m < 128 → (Held m → ⊥) → m ≡ 0
+none-held m h none = go (eqb m 0) refl
+  where
+    go : (b : Bool) → eqb m 0 ≡ b → m ≡ 0
+    go true k = eqb-true m 0 k
+    go false k = absurd (none (some-held m h (eqb-false m 0 k)))

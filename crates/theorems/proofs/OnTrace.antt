@@ -5,8 +5,7 @@ use mathlib.Core.Logic.{_↔_, _⊎_, inl, inr, ⊎-elim}
 use mathlib.Core.Bool.{Bool, true, false, cond, not, _&&_}
 use Prim.Native.Nat.{ℕ, suc, _<_}
 use native.Mathlib.Omega.{arith}
-use borrow.Author.Tests.{eqb-true, eqb-false, eq-eqb, ne-eqb}
-use lib.Dec.{eqb}
+use borrow.Author.Tests.{eq-eqb, ne-eqb}
 use lib.ListN.{length, getD}
 use Rattle.kinds.specs.Codes.{dirty}
 use Rattle.kinds.specs.Places.{setIn}
@@ -15,7 +14,7 @@ use Rattle.steps.specs.Steps.{Step, duty, noDuty, Home, Requester, lost}
 use Rattle.event.specs.Refusals.{issueE}
 use Rattle.verdicts.specs.Verdicts.{after, verdict, dutyByte, explained, unexplained, notJudged}
 use Rattle.verdicts.proofs.Laws.{From, from-after, is-explained}
-use Rattle.sets.proofs.Laws.{bit-state, held-some, some-held}
+use Rattle.sets.proofs.Laws.{bit-state, held-some, none-held}
 use Rattle.trace.specs.declared.Outcome.{Outcome}
 use Rattle.trace.specs.Lent.{Lent, Left, count}
 use Rattle.trace.specs.Refusals.{outcomeOf}
@@ -41,11 +40,7 @@ read-set l p k s byte h =
 
 -- a set in which no history ends is empty
 none-ends : (l : Lent) (p k : ℕ) → setBefore l p k < 128 → (SomeHistory l p k → ⊥) → setBefore l p k ≡ 0
-none-ends l p k below none = go (eqb (setBefore l p k) 0) refl
-  where
-    go : (b : Bool) → eqb (setBefore l p k) 0 ≡ b → setBefore l p k ≡ 0
-    go true q = eqb-true (setBefore l p k) 0 q
-    go false q = absurd (none (held-history l p k (some-held (setBefore l p k) below (eqb-false (setBefore l p k) 0 q))))
+none-ends l p k below none = none-held (setBefore l p k) below (λ h. none (held-history l p k h))
 
 -- no history passes an unexplained event
 none-passes : {l : Lent} {k v : ℕ} → VerdictGiven l k v → v ≡ unexplained → Passes l k → ⊥

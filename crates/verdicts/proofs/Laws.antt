@@ -1,16 +1,16 @@
 -- Laws of one event judged on a set: the finding over plain variables, and the set after by its steps.
 -- Assumes nothing.
-use mathlib.Core.Path.{_≡_, refl, sym, _∙_, ap, ap₂}
+use mathlib.Core.Path.{_≡_, sym, _∙_, ap, ap₂}
 use mathlib.Core.Bool.{Bool, true, false, cond, _&&_}
 use mathlib.Core.List.{List}
 use Prim.Native.Nat.{ℕ, _<_}
-use borrow.Author.Tests.{eqb-false, ne-eqb}
+use borrow.Author.Tests.{eq-eqb, ne-eqb}
 use lib.Dec.{eqb}
 use Rattle.kinds.specs.Tests.{any}
 use Rattle.kinds.specs.Codes.{states}
 use Rattle.kinds.proofs.Lists.{any-found, found-any, and-left, and-right, and-both, state-in}
 use Rattle.sets.specs.Sets.{bit, apply}
-use Rattle.sets.proofs.Laws.{apply-setOf, bit-setOf, bit-state, setOf-below, Held, held-some, some-held}
+use Rattle.sets.proofs.Laws.{apply-setOf, bit-setOf, bit-state, setOf-below, Held, held-some, none-held}
 use Rattle.steps.specs.Steps.{Step, steps, setAfter, setsAfter, duty, noDuty}
 use Rattle.steps.proofs.Stepping.{steps-step, step-steps, permitted-before, permitted-after}
 use Rattle.verdicts.specs.Verdicts.{after, verdict, dutyByte, finding, explained, unexplained, notJudged}
@@ -81,11 +81,7 @@ module _ (e : List ℕ) (m : ℕ) (below : m < 128) where
   some {n} h = ne-eqb n 0 (held-some h)
 
   none : (n : ℕ) → n < 128 → (Held n → ⊥) → eqb n 0 ≡ true
-  none n l k = go (eqb n 0) refl
-    where
-      go : (b : Bool) → eqb n 0 ≡ b → b ≡ true
-      go true q = refl
-      go false q = absurd (k (some-held n l (eqb-false n 0 q)))
+  none n l k = eq-eqb n 0 (none-held n l k)
 
   pub is-explained : Held (after e m) → verdict e m ≡ explained
   is-explained h = by-tests false false (some (after-some e m h)) (some h)
