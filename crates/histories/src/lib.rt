@@ -1,1 +1,1 @@
-// What the judge's definitions imply: theorems over the rows, with no code of their own.
+// What a history is, and that the sets of the judge hold exactly the states in which histories end: laws, with no code of their own.
