@@ -317,6 +317,12 @@ impl Refusal {
     pub const RANGE: Refusal = Refusal(4);
 
     pub const REQUEST: Refusal = Refusal(5);
+
+    pub const HEADER: Refusal = Refusal(6);
+
+    pub const LINE: Refusal = Refusal(7);
+
+    pub const FIELDS: Refusal = Refusal(8);
 }
 
 // The number of a pair, one line in one cache: the only number that the table of sets is read by.

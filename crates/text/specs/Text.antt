@@ -1,0 +1,24 @@
+-- Text as bytes, and the bytes that part lines and fields.
+use Prim.Native.Nat.{ℕ}
+use Prim.Native.Char.{code}
+use Prim.Native.String.{String, [] as empty, _∷_ as _then_}
+use mathlib.Core.List.{List, [], _∷_}
+
+-- the bytes of a text, by their ASCII codes
+abbrev pub bytes : String → List ℕ
+bytes empty = []
+bytes (c then s) = code c ∷ bytes s
+
+-- what parts two fields
+abbrev pub comma : ℕ
+comma = 44
+
+-- carriage return and line feed: the two together end a line
+abbrev pub CR : ℕ
+CR = 13
+
+abbrev pub LF : ℕ
+LF = 10
+
+abbrev pub eol : List ℕ
+eol = CR ∷ LF ∷ []
