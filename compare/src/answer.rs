@@ -1,9 +1,10 @@
-//! Answers records the way the judge's program is to answer them.
+//! Answers records and bench sheets the way the judge's programs are to answer them.
 
 use crate::cases::{self, RECORD_BYTES};
 use crate::event;
 use crate::lent::Lent;
 use crate::pipe;
+use crate::sheet;
 use crate::trace;
 use std::io::{self, BufReader, BufWriter, Read, Write};
 
@@ -33,6 +34,14 @@ pub fn trace(input: impl Read, output: impl Write) -> io::Result<()> {
     while let Some(lent) = Lent::read(&mut input)? {
         output.write_all(&trace::judge(&lent).bytes())?;
     }
+    output.flush()
+}
+
+/// Answers the bench sheet that the input is.
+pub fn sheet(mut input: impl Read, mut output: impl Write) -> io::Result<()> {
+    let mut sheet = Vec::new();
+    input.read_to_end(&mut sheet)?;
+    output.write_all(&sheet::answer(&sheet).output)?;
     output.flush()
 }
 
@@ -66,6 +75,7 @@ mod tests {
         assert!(event(&[41; 41][..], Vec::new()).is_err());
         assert!(event(&[][..], Vec::new()).is_ok());
     }
+
     /// Cases of a whole trace are answered one after another, and a cut one is an error.
     #[test]
     fn traces_are_answered() {
@@ -81,5 +91,24 @@ mod tests {
         assert_eq!(output[10..], [3, 0, 0, 0, 0, 5, 127, 91, 92, 93]);
         assert!(trace(&case[..case.len() - 1], Vec::new()).is_err());
         assert!(trace(&[][..], Vec::new()).is_ok());
+    }
+    /// A sheet is answered as a whole, whatever bytes it holds.
+    #[test]
+    fn sheets_are_answered() {
+        for (input, expected) in [
+            (&b""[..], "event,verdict,duty,states\r\nrefused,6,1\r\n"),
+            (
+                &[0, 255, 13, 10][..],
+                "event,verdict,duty,states\r\nrefused,6,1\r\n",
+            ),
+            (
+                b"pair,request,RetToSrc,DoNotGoToSD,excl,tag,response,TagOp,RespErr,forward,final",
+                "event,verdict,duty,states\r\n",
+            ),
+        ] {
+            let mut output = Vec::new();
+            sheet(input, &mut output).unwrap();
+            assert_eq!(output, expected.as_bytes());
+        }
     }
 }

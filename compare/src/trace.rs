@@ -48,28 +48,49 @@ pub fn judge(lent: &Lent) -> Answer {
     };
     for (n, event) in events.iter().enumerate() {
         let pair = usize::from(lent.pairs[n]);
-        let before = buffers.table[pair];
-        let after = step(event, before);
-        let verdict = if before == 0 {
-            NOT_JUDGED
-        } else if after == 0 {
-            UNEXPLAINED
-        } else {
-            EXPLAINED
-        };
-        buffers.verdicts[n] = verdict;
-        buffers.duties[n] = if verdict == EXPLAINED {
-            event.duty(holds_dirty(before))
-        } else {
-            0
-        };
-        buffers.after_sets[n] = after;
-        buffers.table[pair] = after;
+        let judged = judge_event(event, buffers.table[pair]);
+        buffers.verdicts[n] = judged.verdict;
+        buffers.duties[n] = judged.duty;
+        buffers.after_sets[n] = judged.after;
+        buffers.table[pair] = judged.after;
     }
     Answer {
         refusal: ACCEPTED,
         place: events.len() as u32,
         buffers,
+    }
+}
+
+/// What is told of one event of a pair.
+#[derive(Clone, Copy, Debug, PartialEq, Eq)]
+pub struct Judged {
+    /// Its verdict.
+    pub verdict: u8,
+    /// Its duty.
+    pub duty: u8,
+    /// The pair's set after it.
+    pub after: u8,
+}
+
+/// What is told of an event whose pair had this set before it.
+pub fn judge_event(event: &Event, before: u8) -> Judged {
+    let after = step(event, before);
+    let verdict = if before == 0 {
+        NOT_JUDGED
+    } else if after == 0 {
+        UNEXPLAINED
+    } else {
+        EXPLAINED
+    };
+    let duty = if verdict == EXPLAINED {
+        event.duty(holds_dirty(before))
+    } else {
+        0
+    };
+    Judged {
+        verdict,
+        duty,
+        after,
     }
 }
 

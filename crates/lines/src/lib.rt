@@ -1,0 +1,62 @@
+// Where the lines of a text end.
+ghost use mathlib.Core.Path.{_≡_};
+ghost use Prim.Native.Nat.{_+_, _≤_, min};
+ghost use lib.ListN.{length, drop};
+ghost use Rattle.lines.specs.Lines.{crlf};
+ghost use Rattle.lines.specs.Seen.{lineEnd, tooLong};
+
+// A line that has this many bytes before its CR LF is too long, whatever follows.
+const TOO_LONG: usize = 161;
+
+// Carriage return and line feed: the two together end a line.
+const CR: u8 = 13;
+
+const LF: u8 = 10;
+
+// The place up to which a line that starts at a place is looked at.
+fn last_seen(text: &[u8], start: usize) -> usize
+    requires { ⌜ start ≤ length (now text) ⌝ }
+    ensures { λ r. ⌜ r ≡ start + min (length (drop start (now (text .entry)))) tooLong ⌝ }
+{
+    let left = text.len() - start;
+    if left < TOO_LONG {
+        return start + left;
+    }
+    start + TOO_LONG
+}
+
+// Whether CR LF stands at a place.
+pub fn ends_line(text: &[u8], at: usize) -> bool
+    ensures { λ r. ⌜ r ≡ crlf (drop at (now (text .entry))) ⌝ }
+{
+    let len = text.len();
+    if len <= at {
+        return false;
+    }
+    if len - at < 2 {
+        return false;
+    }
+    (text[at] == CR) & (text[at + 1] == LF)
+}
+
+// The place where the line that starts at a place ends: at its CR LF, where it is known to be too long, or at the end of the text.
+pub fn line_end(text: &[u8], start: usize) -> usize
+    ensures { λ r. ⌜ r ≡ lineEnd (now (text .entry)) start ⌝ }
+{
+    if text.len() <= start {
+        return start;
+    }
+    let last = last_seen(text, start);
+    let mut at = start;
+    while at < last {
+        if text[at] != CR {
+            at += 1;
+            continue;
+        }
+        if ends_line(text, at) {
+            return at;
+        }
+        at += 1;
+    }
+    at
+}
