@@ -40,7 +40,16 @@ pub fn trace(input: impl Read, output: impl Write) -> io::Result<()> {
 /// Answers the bench sheet that the input is.
 pub fn sheet(mut input: impl Read, mut output: impl Write) -> io::Result<()> {
     let mut sheet = Vec::new();
-    input.read_to_end(&mut sheet)?;
+    // Of a piece that is longer than the room for it the rest would be lost, so the room never shrinks.
+    let mut room = vec![0; pipe::BUFFER];
+    loop {
+        match input.read(&mut room) {
+            Ok(0) => break,
+            Ok(came) => sheet.extend(&room[..came]),
+            Err(error) if error.kind() == io::ErrorKind::Interrupted => {}
+            Err(error) => return Err(error),
+        }
+    }
     output.write_all(&sheet::answer(&sheet).output)?;
     output.flush()
 }

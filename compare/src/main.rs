@@ -6,6 +6,7 @@ mod answer;
 mod cases;
 mod codes;
 mod compare_event;
+mod compare_sheet;
 mod compare_trace;
 mod draw;
 mod event;
@@ -14,6 +15,13 @@ mod lent;
 mod names;
 mod pipe;
 mod rows;
+mod sheet;
+mod sheet_borders;
+mod sheet_cases;
+mod sheet_draws;
+mod sheet_lines;
+mod sheet_run;
+mod sheet_sweeps;
 mod trace;
 mod trace_cases;
 mod trace_draws;
@@ -28,8 +36,10 @@ use std::process::ExitCode;
 const USAGE: &str = "usage:
   compare event [--seed N] [--random N] -- PROGRAM ARGS..
   compare trace [--seed N] [--random N] -- PROGRAM ARGS..
+  compare sheet [--seed N] [--random N] -- PROGRAM ARGS..
   compare answer event
-  compare answer trace";
+  compare answer trace
+  compare answer sheet";
 
 /// The seed where none is named.
 const SEED: u64 = 1;
@@ -39,6 +49,9 @@ const RANDOM_EVENTS: u64 = 1_200_000;
 
 /// How many random cases of a whole trace there are where no number is named.
 const RANDOM_TRACES: u64 = 140_000;
+
+/// How many random bench sheets there are where no number is named.
+const RANDOM_SHEETS: u64 = 1_000;
 
 /// The most random cases that can be asked for.
 const MOST_RANDOM: u64 = 1_000_000_000;
@@ -73,6 +86,11 @@ fn subcommand(words: &[OsString]) -> Result<bool, String> {
             let cases = trace_cases::Cases::new(asked.seed, asked.random);
             Ok(told(compare_trace::run(cases, asked.program)))
         }
+        (Some("sheet"), _) => {
+            let asked = comparison(&words[1..], RANDOM_SHEETS)?;
+            let cases = sheet_cases::Cases::new(asked.seed, asked.random as usize);
+            Ok(told(compare_sheet::run(&cases, asked.program)))
+        }
         (Some("answer"), Some("event")) if words.len() == 2 => {
             let answered = answer::event(io::stdin().lock(), io::stdout().lock());
             Ok(told(
@@ -81,6 +99,12 @@ fn subcommand(words: &[OsString]) -> Result<bool, String> {
         }
         (Some("answer"), Some("trace")) if words.len() == 2 => {
             let answered = answer::trace(io::stdin().lock(), io::stdout().lock());
+            Ok(told(
+                answered.map(|()| true).map_err(|error| error.to_string()),
+            ))
+        }
+        (Some("answer"), Some("sheet")) if words.len() == 2 => {
+            let answered = answer::sheet(io::stdin().lock(), io::stdout().lock());
             Ok(told(
                 answered.map(|()| true).map_err(|error| error.to_string()),
             ))
@@ -179,10 +203,13 @@ mod tests {
             "answer",
             "answer event more",
             "answer trace more",
+            "answer sheet more",
             "answer else",
             "event",
             "trace",
             "trace --",
+            "sheet",
+            "sheet --seed",
         ] {
             assert!(subcommand(&words(line)).is_err(), "{}", line);
         }

@@ -165,7 +165,7 @@ fn read_line(number: usize, line: &[u8]) -> Result<(usize, Event), u8> {
 }
 
 /// The pair number and the event that a line's fields say, if they say any.
-fn read_fields(line: &[u8]) -> Option<(usize, Event)> {
+pub fn read_fields(line: &[u8]) -> Option<(usize, Event)> {
     let fields: Vec<&[u8]> = line.split(|byte| *byte == b',').collect();
     if fields.len() != FIELDS {
         return None;

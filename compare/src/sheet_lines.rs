@@ -2,7 +2,7 @@
 
 use crate::codes::{resp_err, state, tag, tag_op, FORWARDS, REQUESTS, RESPONSES};
 use crate::event::Event;
-use crate::names::{forward_name, response_name};
+use crate::names::{forward_name, meaning, response_name};
 use crate::sheet::{CRLF, FIELDS, HEADER, NOT_SEEN};
 
 /// The fields of a line of which nothing else is told.
@@ -77,21 +77,19 @@ pub fn event_line(pair: usize, event: &Event) -> Vec<u8> {
 /// The fields of that line.
 pub fn event_fields(pair: usize, event: &Event) -> Vec<Vec<u8>> {
     let bytes = event.bytes();
-    let request = REQUESTS.iter().find(|(_, code)| *code == event.request);
-    let tag = names(5)[usize::from(event.tag)];
-    let after = names(10)[usize::from(event.after)];
-    let fields = [
-        &pair.to_string(),
-        request.map_or("no request", |(name, _)| name),
+    let pair = pair.to_string();
+    let fields: [&str; FIELDS] = [
+        &pair,
+        meaning(0, event.request),
         names(2)[usize::from(event.ret_to_src)],
         names(3)[usize::from(event.do_not_go_to_sd)],
         names(4)[usize::from(event.excl)],
-        tag,
+        names(5)[usize::from(event.tag)],
         response_name(&bytes),
         names(7)[usize::from(event.tag_op)],
         names(8)[usize::from(event.resp_err)],
         forward_name(&bytes),
-        after,
+        names(10)[usize::from(event.after)],
     ];
     fields.iter().map(|field| field.as_bytes().to_vec()).collect()
 }

@@ -226,7 +226,7 @@ fn add_names(sheets: &mut Sheets) {
 }
 
 /// The requests that are not judged.
-const OTHER_REQUESTS: [&str; 16] = [
+pub const OTHER_REQUESTS: [&str; 16] = [
     "SnpUnique",
     "SnpUniqueFwd",
     "SnpOnce",
@@ -246,6 +246,7 @@ const OTHER_REQUESTS: [&str; 16] = [
 ];
 
 /// Fields that a column doesn't know, though somebody might write them there.
+#[rustfmt::skip]
 const STRANGE: [(usize, &[&str]); 10] = [
     (1, &["-", "?", "1", "SnpShared ", " SnpShared", "SnpClean_"]),
     (2, &["", "2", "00", "01", "10", "-", "?", "true", "O", "l", "0 ", " 0", "-0", "+1", "0.0"]),
@@ -333,7 +334,8 @@ fn add_bytes(sheets: &mut Sheets) {
 }
 
 /// Fields that are tried for a pair.
-const PAIR_FIELDS: [&str; 83] = [
+#[rustfmt::skip]
+pub const PAIR_FIELDS: [&str; 83] = [
     "", "0", "1", "9", "10", "11", "99", "100", "255", "256", "999", "1000", "1001", "1023", "2047", "2048", "3999",
     "4000", "4089", "4090", "4094", "4095", "4096", "4097", "4099", "4100", "4195", "4999", "5000", "5095", "8191",
     "8192", "9000", "9999", "10000", "10001", "40950", "40960", "65535", "65536", "65537", "69631", "99999", "100000",
@@ -427,7 +429,8 @@ fn add_fields(sheets: &mut Sheets) {
 }
 
 /// What is tried in the place of a CRLF.
-const OTHER_ENDS: [&[u8]; 20] = [
+#[rustfmt::skip]
+pub const OTHER_ENDS: [&[u8]; 20] = [
     b"", b"\r", b"\n", b"\n\r", b"\r\r", b"\n\n", b"\r\r\n", b"\r\r\r\n", b"\n\r\n", b"\r\n\n", b"\r\n\r",
     b"\r\n\r\n", b"\r\n\r\n\r\n", b"\r \n", b" \r\n", b"\0\r\n", b"\r\0\n", b"\x1a\r\n", b"\x0b", b"\xc2\x85",
 ];

@@ -89,7 +89,7 @@ pub fn some_pairs(draw: &mut Draw, table: usize, count: usize) -> Vec<u16> {
 }
 
 /// An event that is explained from a set, but for rare ones, or that follows any row where the set is empty.
-fn explained_event(draw: &mut Draw, set: u8, keeping: bool) -> Event {
+pub fn explained_event(draw: &mut Draw, set: u8, keeping: bool) -> Event {
     if set == 0 {
         let before = draw.below(7) as u8;
         return event_from(draw, before, keeping);

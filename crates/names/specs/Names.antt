@@ -1,0 +1,173 @@
+-- The fields of the bench sheet by their names: for each column what may stand there, with the code it stands for.
+use Prim.Native.Nat.{ℕ, suc, _+_, _*_, _-_}
+use Prim.Native.String.{String}
+use mathlib.Core.Bool.{Bool, cond, not, _&&_}
+use mathlib.Core.List.{List, [], _∷_, map}
+use lib.Dec.{eqb, ltb, leb}
+use lib.ListN.{length, getD, take}
+use Rattle.text.specs.Text.{bytes}
+use Rattle.kinds.specs.Tests.{same, all}
+use Rattle.kinds.specs.Codes.{SnpShared, SnpClean, SnpNotSharedDirty, SnpCleanFwd, SnpNotSharedDirtyFwd, SnpPreferUnique, SnpPreferUniqueFwd, tagInvalid, tagClean, tagDirty, tagNotSeen, opInvalid, opTransfer, opUpdate, opMatch, OK, EXOK, DERR, NDERR, Fwd-SC, Fwd-UC, Fwd-UD-PD, Fwd-SD-PD, I, UC, UCE, UD, UDP, SC, SD, stateNotSeen}
+use Rattle.kinds.specs.declared.Answer.{Answer}
+use Rattle.kinds.specs.Answers.{wire, SnpResp-I, SnpResp-SC, SnpRespData-I, SnpRespData-SC, SnpRespData-SD, SnpRespData-I-PD, SnpRespData-SC-PD, SnpRespDataPtl-I-PD, SnpResp-I-Fwded-SC, SnpResp-SC-Fwded-SC, SnpResp-SD-Fwded-SC, SnpResp-I-Fwded-SD-PD, SnpResp-SC-Fwded-SD-PD, SnpResp-I-Fwded-UC, SnpResp-I-Fwded-UD-PD, SnpRespData-I-Fwded-SC, SnpRespData-SC-Fwded-SC, SnpRespData-SD-Fwded-SC, SnpRespData-I-Fwded-SD-PD, SnpRespData-SC-Fwded-SD-PD, SnpRespData-I-PD-Fwded-SC, SnpRespData-SC-PD-Fwded-SC}
+
+-- a name, and the code it stands for
+pub record Named : Type 0 where
+  pub name : List ℕ
+  pub code : ℕ
+
+abbrev pub named : String → ℕ → Named
+named text code = record { name = bytes text; code = code }
+
+-- in place of a code: the column doesn't know the field
+abbrev pub unknown : ℕ
+unknown = 65535
+
+-- the code of the name that the field is, or unknown
+unfoldable pub codeOf : List Named → List ℕ → ℕ
+codeOf [] field = unknown
+codeOf (n ∷ ns) field = cond (same field (n .name)) (n .code) (codeOf ns field)
+
+-- The columns' names, in the order of the sheet's header.
+unfoldable pub requestNames : List Named
+requestNames =
+    named "SnpShared" SnpShared ∷
+    named "SnpClean" SnpClean ∷
+    named "SnpNotSharedDirty" SnpNotSharedDirty ∷
+    named "SnpCleanFwd" SnpCleanFwd ∷
+    named "SnpNotSharedDirtyFwd" SnpNotSharedDirtyFwd ∷
+    named "SnpPreferUnique" SnpPreferUnique ∷
+    named "SnpPreferUniqueFwd" SnpPreferUniqueFwd ∷
+    []
+
+-- of RetToSrc, DoNotGoToSD and excl alike
+unfoldable pub flagNames : List Named
+flagNames = named "0" 0 ∷ named "1" 1 ∷ []
+
+unfoldable pub tagNames : List Named
+tagNames = named "Invalid" tagInvalid ∷ named "Clean" tagClean ∷ named "Dirty" tagDirty ∷ named "?" tagNotSeen ∷ []
+
+-- a response by its name, and the answer it is
+pub record Response : Type 0 where
+  pub name : List ℕ
+  pub answer : Answer
+
+abbrev pub response : String → Answer → Response
+response text answer = record { name = bytes text; answer = answer }
+
+unfoldable pub responses : List Response
+responses =
+    response "SnpResp_I" SnpResp-I ∷
+    response "SnpResp_SC" SnpResp-SC ∷
+    response "SnpRespData_I" SnpRespData-I ∷
+    response "SnpRespData_SC" SnpRespData-SC ∷
+    response "SnpRespData_SD" SnpRespData-SD ∷
+    response "SnpRespData_I_PD" SnpRespData-I-PD ∷
+    response "SnpRespData_SC_PD" SnpRespData-SC-PD ∷
+    response "SnpRespDataPtl_I_PD" SnpRespDataPtl-I-PD ∷
+    response "SnpResp_I_Fwded_SC" SnpResp-I-Fwded-SC ∷
+    response "SnpResp_SC_Fwded_SC" SnpResp-SC-Fwded-SC ∷
+    response "SnpResp_SD_Fwded_SC" SnpResp-SD-Fwded-SC ∷
+    response "SnpResp_I_Fwded_SD_PD" SnpResp-I-Fwded-SD-PD ∷
+    response "SnpResp_SC_Fwded_SD_PD" SnpResp-SC-Fwded-SD-PD ∷
+    response "SnpResp_I_Fwded_UC" SnpResp-I-Fwded-UC ∷
+    response "SnpResp_I_Fwded_UD_PD" SnpResp-I-Fwded-UD-PD ∷
+    response "SnpRespData_I_Fwded_SC" SnpRespData-I-Fwded-SC ∷
+    response "SnpRespData_SC_Fwded_SC" SnpRespData-SC-Fwded-SC ∷
+    response "SnpRespData_SD_Fwded_SC" SnpRespData-SD-Fwded-SC ∷
+    response "SnpRespData_I_Fwded_SD_PD" SnpRespData-I-Fwded-SD-PD ∷
+    response "SnpRespData_SC_Fwded_SD_PD" SnpRespData-SC-Fwded-SD-PD ∷
+    response "SnpRespData_I_PD_Fwded_SC" SnpRespData-I-PD-Fwded-SC ∷
+    response "SnpRespData_SC_PD_Fwded_SC" SnpRespData-SC-PD-Fwded-SC ∷
+    []
+
+-- a response's code is its place in the list, counted on from k
+abbrev pub numbered : ℕ → List Response → List Named
+numbered k [] = []
+numbered k (r ∷ rs) = record { name = r .name; code = k } ∷ numbered (suc k) rs
+
+unfoldable pub responseNames : List Named
+responseNames = numbered 0 responses
+
+-- the answers, each at the place that is its response's code
+unfoldable pub answers : List Answer
+answers = map (λ (r : Response). r .answer) responses
+
+-- channel, opcode, Resp and FwdState of the answer at a place, event bytes 5 to 8; four zeros past the last
+unfoldable pub answerBytes : ℕ → List ℕ
+answerBytes place = getD (map (λ (a : Answer). take 4 (wire a)) answers) place (0 ∷ 0 ∷ 0 ∷ 0 ∷ [])
+
+unfoldable pub tagOpNames : List Named
+tagOpNames = named "Invalid" opInvalid ∷ named "Transfer" opTransfer ∷ named "Update" opUpdate ∷ named "Match" opMatch ∷ []
+
+unfoldable pub respErrNames : List Named
+respErrNames = named "OK" OK ∷ named "EXOK" EXOK ∷ named "DERR" DERR ∷ named "NDERR" NDERR ∷ []
+
+-- by FwdState, 0 for no forward
+unfoldable pub forwardNames : List Named
+forwardNames =
+    named "-" 0 ∷
+    named "CompData_SC" Fwd-SC ∷
+    named "CompData_UC" Fwd-UC ∷
+    named "CompData_UD_PD" Fwd-UD-PD ∷
+    named "CompData_SD_PD" Fwd-SD-PD ∷
+    []
+
+unfoldable pub finalNames : List Named
+finalNames =
+    named "I" I ∷
+    named "UC" UC ∷
+    named "UCE" UCE ∷
+    named "UD" UD ∷
+    named "UDP" UDP ∷
+    named "SC" SC ∷
+    named "SD" SD ∷
+    named "?" stateNotSeen ∷
+    []
+
+-- The pair's field is a number, not a name. Digits are the bytes 48 to 57.
+abbrev pub zeroDigit : ℕ
+zeroDigit = 48
+
+abbrev pub nineDigit : ℕ
+nineDigit = 57
+
+abbrev pub isDigit : ℕ → Bool
+isDigit b = leb zeroDigit b && leb b nineDigit
+
+-- it starts with a zero and goes on
+abbrev pub leadingZero : List ℕ → Bool
+leadingZero field = eqb (getD field 0 0) zeroDigit && ltb 1 (length field)
+
+-- 1 to 4 digits without a leading zero
+unfoldable pub isPair : List ℕ → Bool
+isPair field = all isDigit field && ltb 0 (length field) && leb (length field) 4 && not (leadingZero field)
+
+-- the number that digits are, read on from v
+unfoldable pub decimal : ℕ → List ℕ → ℕ
+decimal v [] = v
+decimal v (d ∷ ds) = decimal (v * 10 + (d - zeroDigit)) ds
+
+-- the pair's number, or unknown
+unfoldable pub pairOf : List ℕ → ℕ
+pairOf field = cond (isPair field) (decimal 0 field) unknown
+
+-- what a field is in each column of the header: pair, request, RetToSrc, DoNotGoToSD, excl, tag, response, TagOp, RespErr, forward, final
+unfoldable pub columns : List (List ℕ → ℕ)
+columns =
+    pairOf ∷
+    codeOf requestNames ∷
+    codeOf flagNames ∷
+    codeOf flagNames ∷
+    codeOf flagNames ∷
+    codeOf tagNames ∷
+    codeOf responseNames ∷
+    codeOf tagOpNames ∷
+    codeOf respErrNames ∷
+    codeOf forwardNames ∷
+    codeOf finalNames ∷
+    []
+
+-- the field's code in a column, by the column's number from 0; unknown past the last
+unfoldable pub inColumn : ℕ → List ℕ → ℕ
+inColumn number = getD columns number (λ (field : List ℕ). unknown)

@@ -1,0 +1,71 @@
+-- A sheet that arrives in pieces: what is done with the bytes at hand, line by line.
+use Prim.Native.Nat.{ℕ, zero, suc, _+_, _-_}
+use mathlib.Core.Bool.{Bool, cond, _&&_, _||_}
+use mathlib.Core.List.{List, [], _++_}
+use lib.Dec.{eqb, leb, ltb}
+use lib.ListN.{length, take, drop}
+use Rattle.lines.specs.Lines.{crlf, linesOf}
+use Rattle.lines.specs.Seen.{tooLong, reach}
+use Rattle.sheet.specs.Sheet.{Told, onLine, answers}
+
+-- a run so far: the bytes that are held and not taken yet, how many lines were taken, the table of sets, the text that was put, and whether it goes on
+pub record Held : Type 0 where
+  pub rest : List ℕ
+  pub lines : ℕ
+  pub table : List ℕ
+  pub text : List ℕ
+  pub going : Bool
+
+-- the next line, as far as it has to be known
+abbrev pub nextLine : List ℕ → List ℕ
+nextLine rest = take (reach tooLong rest) rest
+
+-- its CR LF is there
+unfoldable pub whole : List ℕ → Bool
+whole rest = crlf (drop (reach tooLong rest) rest)
+
+-- how many bytes it takes, its CR LF among them
+unfoldable pub taken : List ℕ → ℕ
+taken rest = reach tooLong rest + cond (whole rest) 2 0
+
+-- enough is known of the next line: its CR LF, that it is too long, or that the input has ended; an input without lines counts as an empty first line
+unfoldable pub sure : Bool → ℕ → List ℕ → Bool
+sure ended lines rest = whole rest || (ltb tooLong (length rest) || (ended && (ltb 0 (length rest) || eqb lines 0)))
+
+-- every answer fits into this many bytes
+abbrev pub room : ℕ
+room = 64
+
+-- the run goes on, there is room for an answer, and enough is known of the next line
+unfoldable pub ready : Bool → ℕ → Held → Bool
+ready ended space h = h .going && (leb (length (h .text) + room) space && sure ended (h .lines) (h .rest))
+
+-- the run after the next line
+abbrev pub afterLine : Held → Told → Held
+afterLine h t = record {
+  rest = drop (taken (h .rest)) (h .rest);
+  lines = cond (t .goes) (h .lines + 1) (h .lines);
+  table = t .table;
+  text = h .text ++ t .text;
+  going = t .goes;
+}
+
+-- one turn: the next line where it is ready, else nothing
+unfoldable pub turn : Bool → ℕ → Held → Held
+turn ended space h = cond (ready ended space h) (afterLine h (onLine (h .lines) (h .table) (nextLine (h .rest)))) h
+
+abbrev pub times : ℕ → (Held → Held) → Held → Held
+times zero f h = h
+times (suc n) f h = times n f (f h)
+
+-- as many turns as can do anything: each takes a byte, or ends the run
+unfoldable pub eaten : Bool → ℕ → Held → Held
+eaten ended space h = times (suc (length (h .rest))) (turn ended space) h
+
+-- what is still to be written of a run, where these bytes are to come
+unfoldable pub toCome : Held → List ℕ → List ℕ
+toCome h more = cond (h .going) (answers (h .lines) (h .table) (linesOf (h .rest ++ more))) []
+
+-- all that is written of a run
+unfoldable pub total : Held → List ℕ → List ℕ
+total h more = h .text ++ toCome h more

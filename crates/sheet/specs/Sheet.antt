@@ -1,0 +1,71 @@
+-- THE BENCH SHEET: the whole output for the whole input.
+use Prim.Native.Nat.{ℕ, _+_, _-_}
+use mathlib.Core.Bool.{Bool, true, false, cond}
+use mathlib.Core.List.{List, [], _∷_, _++_}
+use lib.Dec.{eqb, ltb}
+use lib.ListN.{length, replicate}
+use Rattle.kinds.specs.Tests.{same}
+use Rattle.kinds.specs.Places.{setIn}
+use Rattle.verdicts.specs.Verdicts.{finding}
+use Rattle.trace.specs.Events.{moved}
+use Rattle.text.specs.Text.{bytes}
+use Rattle.lines.specs.Lines.{linesOf}
+use Rattle.entries.specs.Entries.{entryOf}
+use Rattle.entries.specs.declared.Entry.{Entry}
+use Rattle.replies.specs.Replies.{headerLine, answerLine, refusedLine}
+
+-- what a line does: the text that answers it, the table of sets after it, and whether the run goes on
+pub record Told : Type 0 where
+  pub text : List ℕ
+  pub table : List ℕ
+  pub goes : Bool
+
+abbrev pub told : List ℕ → List ℕ → Bool → Told
+told text table goes = record { text = text; table = table; goes = goes }
+
+-- a refusal ends the run; k lines stand before the one that is refused
+abbrev pub refuse : ℕ → ℕ → List ℕ → Told
+refuse number k table = told (refusedLine number (k + 1)) table false
+
+-- the first line
+unfoldable pub header : List ℕ
+header = bytes "pair,request,RetToSrc,DoNotGoToSD,excl,tag,response,TagOp,RespErr,forward,final"
+
+-- a line has at most this many bytes before its CR LF
+abbrev pub longest : ℕ
+longest = 160
+
+-- a sheet has at most this many lines
+abbrev pub mostLines : ℕ
+mostLines = 1000001
+
+-- line 1: the header, or 6
+abbrev pub onHeader : List ℕ → List ℕ → Told
+onHeader table line = cond (same line header) (told [] table true) (refuse 6 0 table)
+
+-- what is read of a line behind the header: its refusal, or its event judged on the set of its pair. The first such line has event 0
+abbrev pub onEntry : ℕ → List ℕ → Entry → Told
+onEntry k table e =
+    cond (eqb (e .refusal .0) 0)
+    (told (answerLine (k - 1) (finding (e .event) (setIn table (e .pair .0)))) (moved table (record { pair = e .pair .0; bytes = e .event })) true)
+    (refuse (e .refusal .0) k table)
+
+-- a line with k lines before it: on line 1 only 6; then 7 for a line too many or too long, then what is read of it
+unfoldable pub onLine : ℕ → List ℕ → List ℕ → Told
+onLine k table line =
+    cond (eqb k 0) (onHeader table line)
+    (cond (ltb mostLines (k + 1)) (refuse 7 k table) (cond (ltb longest (length line)) (refuse 7 k table) (onEntry k table (entryOf line))))
+
+-- the answers to the lines, with k lines before them; an input without lines has no header
+abbrev pub answers : ℕ → List ℕ → List (List ℕ) → List ℕ
+answers k table [] = cond (eqb k 0) (refusedLine 6 1) []
+answers k table (line ∷ others) =
+    onLine k table line .text ++ cond (onLine k table line .goes) (answers (k + 1) (onLine k table line .table) others) []
+
+-- 4,096 pairs, each from the set of all seven states
+unfoldable pub startTable : List ℕ
+startTable = replicate 4096 127
+
+-- THE WHOLE OUTPUT, for any input
+abbrev pub sheetOut : List ℕ → List ℕ
+sheetOut input = headerLine ++ answers 0 startTable (linesOf input)
