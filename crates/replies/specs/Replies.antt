@@ -23,9 +23,9 @@ abbrev pub decimalIn : ℕ → ℕ → List ℕ
 decimalIn zero n = digit (n % 10) ∷ []
 decimalIn (suc f) n = cond (ltb n 10) (digit n ∷ []) (decimalIn f (n / 10) ++ digit (n % 10) ∷ [])
 
--- a number in decimal, without leading zeros
+-- a number of at most twenty digits in decimal, without leading zeros; every number of 64 bits is one
 unfoldable pub decimal : ℕ → List ℕ
-decimal n = decimalIn n n
+decimal n = decimalIn 19 n
 
 -- a verdict's name; any other code reads as not judged
 unfoldable pub verdictText : ℕ → List ℕ

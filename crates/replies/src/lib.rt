@@ -1,1 +1,176 @@
-// stub
+// The text that the bench sheet answers, laid into a buffer byte for byte.
+use kinds::Duty;
+use kinds::LineState;
+use kinds::Refusal;
+use kinds::Verdict;
+use verdicts::Finding;
+ghost use Prim.Native.Nat.{_+_, _≤_, _<_};
+ghost use mathlib.Core.Path.{_≡_};
+ghost use mathlib.Core.List.{[], _∷_, _++_};
+ghost use lib.ListN.{length, take, drop};
+ghost use Rattle.text.specs.Text.{comma};
+ghost use Rattle.replies.specs.Laid.{laid, lay, layAll};
+ghost use Rattle.replies.specs.Replies.{space, decimal, verdictText, dutyText, statesTexts, stateText, headerLine, answerTexts, refusalTexts};
+
+// Copies a text that fits into the buffer, from the place on.
+fn copy(out: &mut [u8], at: usize, text: &[u8])
+    requires { ⌜ at + length (now text) ≤ length (now out) ⌝ }
+    ensures { λ _. ⌜ now (out .exit) ≡
+        take at (now (out .entry)) ++ now (text .entry) ++ drop (at + length (now (text .entry))) (now (out .entry)) ⌝ }
+{
+    let mut i = 0;
+    while i < text.len() {
+        out[at + i] = text[i];
+        i += 1;
+    }
+}
+
+// Puts a text into the buffer at a place, and answers the place behind it; a text that doesn't fit is left out.
+pub fn put(out: &mut [u8], at: usize, text: &[u8]) -> usize
+    ensures { λ r. ⌜ laid r (now (out .exit)) ≡ lay (laid at (now (out .entry))) (now (text .entry)) ⌝ }
+{
+    let len = text.len();
+    if out.len() < len {
+        return at;
+    }
+    if out.len() - len < at {
+        return at;
+    }
+    copy(out, at, text);
+    at + len
+}
+
+// How many digits a number has.
+fn places(n: u64) -> usize
+    ensures { λ r. ⌜ r ≡ length (decimal n) ⌝ }
+{
+    let mut k: usize = 1;
+    let mut rest = n;
+    while rest > 9 {
+        rest /= 10;
+        k += 1;
+    }
+    k
+}
+
+// Spells a number whose k digits fit into the buffer, the last digit first.
+fn spell(out: &mut [u8], at: usize, k: usize, n: u64)
+    requires { ⌜ k ≡ length (decimal n) ⌝ }
+    requires { ⌜ at + k ≤ length (now out) ⌝ }
+    ensures { λ _. ⌜ now (out .exit) ≡ take at (now (out .entry)) ++ decimal n ++ drop (at + k) (now (out .entry)) ⌝ }
+{
+    let mut i = k;
+    let mut rest = n;
+    while rest > 9 {
+        i -= 1;
+        out[at + i] = 48 + (rest % 10) as u8;
+        rest /= 10;
+    }
+    out[at] = 48 + (rest % 10) as u8;
+}
+
+// Puts a number in decimal.
+fn put_decimal(out: &mut [u8], at: usize, n: u64) -> usize
+    ensures { λ r. ⌜ laid r (now (out .exit)) ≡ lay (laid at (now (out .entry))) (decimal n) ⌝ }
+{
+    let k = places(n);
+    if out.len() < k {
+        return at;
+    }
+    if out.len() - k < at {
+        return at;
+    }
+    spell(out, at, k, n);
+    at + k
+}
+
+// Puts a verdict's name between commas.
+fn put_verdict(out: &mut [u8], at: usize, verdict: Verdict) -> usize
+    ensures { λ r. ⌜ laid r (now (out .exit)) ≡
+        lay (laid at (now (out .entry))) (comma ∷ verdictText (verdict .0) ++ comma ∷ []) ⌝ }
+{
+    let code = verdict.0;
+    if code == Verdict::EXPLAINED.0 {
+        return put(out, at, b",explained,");
+    }
+    if code == Verdict::UNEXPLAINED.0 {
+        return put(out, at, b",unexplained,");
+    }
+    put(out, at, b",not judged,")
+}
+
+// Puts a duty's name and a comma.
+fn put_duty(out: &mut [u8], at: usize, duty: Duty) -> usize
+    ensures { λ r. ⌜ laid r (now (out .exit)) ≡ lay (laid at (now (out .entry))) (dutyText (duty .0) ++ comma ∷ []) ⌝ }
+{
+    let code = duty.0;
+    if code == Duty::NONE.0 {
+        return put(out, at, b"none,");
+    }
+    if code == Duty::HOME.0 {
+        return put(out, at, b"Home,");
+    }
+    if code == Duty::REQUESTER.0 {
+        return put(out, at, b"Requester,");
+    }
+    put(out, at, b"lost,")
+}
+
+// Puts a state's name where the state is in the set, behind a space where a state before it is too; the name comes with its space.
+fn put_state(out: &mut [u8], at: usize, states: u8, state: u8, spaced: &[u8]) -> usize
+    requires { ⌜ state < 7 ⌝ }
+    requires { ⌜ now spaced ≡ space ∷ drop 1 (now spaced) ⌝ }
+    ensures { λ r. ⌜ laid r (now (out .exit)) ≡
+        lay (laid at (now (out .entry))) (stateText states state (drop 1 (now (spaced .entry)))) ⌝ }
+{
+    if (states >> state) % 2 != 1 {
+        return at;
+    }
+    if states % (1 << state) == 0 {
+        return put(out, at, &spaced[1..]);
+    }
+    put(out, at, spaced)
+}
+
+// Puts the names of the states of a set.
+fn put_states(out: &mut [u8], at: usize, states: u8) -> usize
+    ensures { λ r. ⌜ laid r (now (out .exit)) ≡ layAll (laid at (now (out .entry))) (statesTexts states) ⌝ }
+{
+    let i = put_state(out, at, states, LineState::I.0, b" I");
+    let uc = put_state(out, i, states, LineState::UC.0, b" UC");
+    let uce = put_state(out, uc, states, LineState::UCE.0, b" UCE");
+    let ud = put_state(out, uce, states, LineState::UD.0, b" UD");
+    let udp = put_state(out, ud, states, LineState::UDP.0, b" UDP");
+    let sc = put_state(out, udp, states, LineState::SC.0, b" SC");
+    put_state(out, sc, states, LineState::SD.0, b" SD")
+}
+
+// Puts the line that answers an event.
+pub fn put_answer(out: &mut [u8], at: usize, event: u64, found: Finding) -> usize
+    ensures { λ r. ⌜ laid r (now (out .exit)) ≡ layAll (laid at (now (out .entry))) (answerTexts event found) ⌝ }
+{
+    let numbered = put_decimal(out, at, event);
+    let judged = put_verdict(out, numbered, found.verdict);
+    let owed = put_duty(out, judged, found.duty);
+    let named = put_states(out, owed, found.after);
+    put(out, named, b"\r\n")
+}
+
+// Puts the line that ends a run: why, and at which line.
+pub fn put_refusal(out: &mut [u8], at: usize, refusal: Refusal, line: u64) -> usize
+    ensures { λ r. ⌜ laid r (now (out .exit)) ≡ layAll (laid at (now (out .entry))) (refusalTexts (refusal .0) line) ⌝ }
+{
+    let number = refusal.0;
+    let opened = put(out, at, b"refused,");
+    let numbered = put_decimal(out, opened, number as u64);
+    let parted = put(out, numbered, b",");
+    let placed = put_decimal(out, parted, line);
+    put(out, placed, b"\r\n")
+}
+
+// Puts the first line of the answer.
+pub fn put_header(out: &mut [u8], at: usize) -> usize
+    ensures { λ r. ⌜ laid r (now (out .exit)) ≡ lay (laid at (now (out .entry))) headerLine ⌝ }
+{
+    put(out, at, b"event,verdict,duty,states\r\n")
+}

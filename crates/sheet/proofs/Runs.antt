@@ -1,18 +1,20 @@
 -- However the input is cut into pieces, and whatever the buffer's size, a run writes the sheet.
 -- Assumes nothing.
-use mathlib.Core.Path.{_≡_, refl, sym, _∙_, ap}
-use mathlib.Core.Bool.{Bool, true, false, cond, false≢true}
-use mathlib.Core.List.{List, [], _++_, append-assoc}
-use Prim.Native.Nat.{ℕ, _<_}
+use mathlib.Core.Path.{_≡_, refl, sym, _∙_, ap, subst}
+use mathlib.Core.Bool.{Bool, true, false, cond, _&&_, _||_, false≢true}
+use mathlib.Core.List.{List, [], _++_, append-nil, append-assoc}
+use Prim.Native.Nat.{ℕ, zero, suc, _≤_, _<_}
 use native.Mathlib.Omega.{arith}
-use borrow.Author.Tests.{ne-eqb}
-use lib.Dec.{eqb}
+use borrow.Author.Tests.{ne-eqb, ltb-false, eqb-false}
+use lib.Dec.{eqb, ltb}
+use lib.ListN.{length}
 use Rattle.lines.specs.Lines.{linesOf}
+use Rattle.lines.specs.Seen.{tooLong}
 use Rattle.replies.specs.Replies.{headerLine, refusedLine}
 use Rattle.sheet.specs.Sheet.{answers, startTable, sheetOut}
-use Rattle.sheet.specs.Pieces.{Held, eaten, toCome, total}
+use Rattle.sheet.specs.Pieces.{Held, whole, sure, room, ready, eaten, toCome, total}
 use Rattle.sheet.specs.Runs.{emptied, withPiece, Run, reads, eats, ends, refused, done, start}
-use Rattle.sheet.proofs.Turns.{eaten-keeps}
+use Rattle.sheet.proofs.Turns.{eaten-keeps, nothing, size, eaten-less}
 
 piece-read : (h : Held) (piece input : List ℕ) → toCome (withPiece h piece) input ≡ toCome h (piece ++ input)
 unfolding toCome
@@ -57,3 +59,46 @@ run-is-sheet r = ap (λ (s : List ℕ). headerLine ++ s) (run-writes r)
 -- two runs of one input write the same
 pub runs-agree : {input out out′ : List ℕ} → Run start input out → Run start input out′ → out ≡ out′
 runs-agree r r′ = run-writes r ∙ sym (run-writes r′)
+
+-- some run of what is held and this input
+pub record SomeRun (h : Held) (input : List ℕ) : Type 0 where
+  pub out : List ℕ
+  pub run : Run h input out
+
+-- where the input has ended, a buffer with room for one answer is enough, and what is held is not ready only behind a refusal or the last line
+not-ready : (h : Held) → ready true room (emptied h) ≡ false → SomeRun h []
+unfolding ready sure
+not-ready h e = go (h .going) refl (whole (h .rest)) (ltb tooLong (length (h .rest))) (ltb 0 (length (h .rest))) refl (eqb (h .lines) 0) refl e
+  where
+    go : (a : Bool) → h .going ≡ a → (b c d : Bool) → ltb 0 (length (h .rest)) ≡ d → (z : Bool) → eqb (h .lines) 0 ≡ z
+        → a && (true && (b || (c || (true && (d || z))))) ≡ false → SomeRun h []
+    go false f b c d g z k q = record { out = []; run = refused f }
+    go true f true c d g z k q = absurd (false≢true (sym q))
+    go true f false true d g z k q = absurd (false≢true (sym q))
+    go true f false false true g z k q = absurd (false≢true (sym q))
+    go true f false false false g true k q = absurd (false≢true (sym q))
+    go true f false false false g false k q = record {
+      out = [];
+      run = done (nothing (h .rest) (ltb-false 0 (length (h .rest)) g)) (positive (h .lines) (eqb-false (h .lines) 0 k));
+    }
+      where
+        positive : (n : ℕ) → (n ≡ 0 → ⊥) → 0 < n
+        positive zero p = absurd (p refl)
+        positive (suc n) p = omega arith
+
+finish : (n : ℕ) (h : Held) (b : Bool) → ready true room (emptied h) ≡ b → size h ≤ n → SomeRun h []
+unfolding size
+finish zero h false e p = not-ready h e
+finish zero h true e p = absurd (omega (arith, eaten-less true room (emptied h) e))
+finish (suc n) h false e p = not-ready h e
+finish (suc n) h true e p =
+    let h′ = eaten true room (emptied h) in
+    let r = finish n h′ (ready true room (emptied h′)) refl (omega (arith, p, eaten-less true room (emptied h) e)) in
+    record { out = h′ .text ++ r .out; run = ends room (r .run) }
+
+-- EVERY INPUT HAS A RUN: read at once, and eaten to its end.
+pub run-exists : (input : List ℕ) → SomeRun start input
+run-exists input =
+    let h = withPiece start input in
+    let r = finish (size h) h (ready true room (emptied h)) refl (omega arith) in
+    subst (λ (s : List ℕ). SomeRun start s) (append-nil input) (record { out = r .out; run = reads input (r .run) })

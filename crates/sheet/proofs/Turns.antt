@@ -96,7 +96,7 @@ none-seen : (table : List ℕ) (ls : List (List ℕ)) → answers 0 table (lines
 unfolding onLine header
 none-seen table ls = sym (append-nil (refusedLine 6 1))
 
-nothing : (s : List ℕ) → length s ≤ 0 → s ≡ []
+pub nothing : (s : List ℕ) → length s ≤ 0 → s ≡ []
 nothing [] h = refl
 nothing (x ∷ s) h = absurd (omega arith)
 
@@ -204,7 +204,7 @@ unfolding eaten
 eaten-keeps ended space h more f = times-keeps (suc (length (h .rest))) ended space h more f
 
 -- what a run has left to do: the bytes that it holds, and its end
-pub size : Held → ℕ
+unfoldable pub size : Held → ℕ
 size h = length (h .rest) + cond (h .going) 1 0
 
 -- a run that goes on behind a line that is not its CR LF's has taken a byte
@@ -220,6 +220,15 @@ two-bytes : (s : List ℕ) → crlf s ≡ true → 2 ≤ length s
 two-bytes [] h = absurd (false≢true h)
 two-bytes (x ∷ []) h = absurd (false≢true h)
 two-bytes (x ∷ y ∷ s) h = omega arith
+
+-- no more is taken than is there
+pub taken-within : (rest : List ℕ) → taken rest ≤ length rest
+unfolding taken whole
+taken-within rest = go (whole rest) refl
+  where
+    go : (b : Bool) → whole rest ≡ b → reach tooLong rest + cond b 2 0 ≤ length rest
+    go true e = omega (arith, subst (λ n. 2 ≤ n) (length-drop (reach tooLong rest) rest) (two-bytes (drop (reach tooLong rest) rest) e))
+    go false e = omega (arith, reach-within tooLong rest)
 
 -- where the run goes on behind the next line, that line took a byte
 goes-takes : (ended : Bool) (k : ℕ) (table rest : List ℕ) → sure ended k rest ≡ true → onLine k table (nextLine rest) .goes ≡ true
@@ -301,6 +310,22 @@ eaten-turn ended space h = go (ready ended space h) refl
 pub eaten-stuck : (ended : Bool) (space : ℕ) (h : Held) → ready ended space h ≡ false → eaten ended space h ≡ h
 unfolding eaten
 eaten-stuck ended space h e = times-stuck (suc (length (h .rest))) ended space h e
+
+turn-not-more : (ended : Bool) (space : ℕ) (h : Held) → size (turn ended space h) ≤ size h
+turn-not-more ended space h = go (ready ended space h) refl
+  where
+    go : (b : Bool) → ready ended space h ≡ b → size (turn ended space h) ≤ size h
+    go true e = omega (arith, turn-less ended space h e)
+    go false e = subst (λ x. size x ≤ size h) (sym (turn-stuck ended space h e)) (omega arith)
+
+times-not-more : (n : ℕ) (ended : Bool) (space : ℕ) (h : Held) → size (times n (turn ended space) h) ≤ size h
+times-not-more zero ended space h = omega arith
+times-not-more (suc n) ended space h = omega (arith, times-not-more n ended space (turn ended space h), turn-not-more ended space h)
+
+-- where a run is ready, eating leaves less to do
+pub eaten-less : (ended : Bool) (space : ℕ) (h : Held) → ready ended space h ≡ true → size (eaten ended space h) < size h
+unfolding eaten
+eaten-less ended space h e = omega (arith, times-not-more (length (h .rest)) ended space (turn ended space h), turn-less ended space h e)
 
 stuck-after : (n : ℕ) (ended : Bool) (space : ℕ) (h : Held) (b : Bool) → ready ended space h ≡ b → size h ≤ n → ready ended space (times n (turn ended space) h) ≡ false
 stuck-after zero ended space h true e p = absurd (omega (arith, turn-less ended space h e))

@@ -1,0 +1,46 @@
+-- `entries::read` meets its contract: 8, then 3, else the pair and the event.
+-- Assumes nothing.
+use mathlib.Core.Path.{_∙_}
+use borrow.Author.Tests.{not-true, not-false}
+use denote.Ref.{now}
+use Rattle.entries.proofs.Events.{entry-bad, entry-high, entry-good}
+use borrow.Author.Needs.{needs}
+use Rattle.entries.proofs.read.Statement.{statement}
+use Rattle.entries.proofs.read.Tie as tie
+
+codes-of-requires : tie.Need-codes-of-requires
+codes-of-requires c κs = search needs
+
+refused-requires : tie.Need-refused-requires
+refused-requires c κs = search needs
+
+returns : tie.Need-returns
+returns c = c .refused .ensures ∙ entry-bad (now (c .before .before .before .before .before .args .line)) (c .before .before .before .codes-of .result) (c .before .before .before .codes-of .ensures) (not-true _ (c .before .if1 .taken))
+
+array-read-pair : tie.Need-array-read-pair
+array-read-pair c = search needs
+
+refused-requires-2 : tie.Need-refused-requires-2
+refused-requires-2 c κs = search needs
+
+returns-2 : tie.Need-returns-2
+returns-2 c = c .refused2 .ensures ∙ entry-high (now (c .before .before .before .before .before .before .args .line)) (c .before .before .before .before .codes-of .result) (c .before .before .before .before .codes-of .ensures) (not-false _ (c .before .before .if1 .left)) (c .before .if2 .taken)
+
+event-of-requires : tie.Need-event-of-requires
+event-of-requires c κs = search needs
+
+returns-3 : tie.Need-returns-3
+returns-3 c = entry-good (now (c .before .before .before .before .before .before .args .line)) (c .event-of .result) (c .before .before .before .before .codes-of .result) (c .before .before .before .before .codes-of .ensures) (not-false _ (c .before .before .if1 .left)) (c .before .if2 .left) (c .event-of .ensures)
+
+pub read-spec : {M : Type 1} → statement M
+read-spec =
+    tie.close
+    (tie.spec
+    codes-of-requires
+    refused-requires
+    returns
+    array-read-pair
+    refused-requires-2
+    returns-2
+    event-of-requires
+    returns-3)

@@ -1,0 +1,228 @@
+-- Laws of the names, over plain variables: two lists walked side by side, a column name by name, and digits one by one.
+-- Assumes nothing.
+use mathlib.Core.Path.{_≡_, refl, sym, _∙_, ap, ap₂}
+use mathlib.Core.Bool.{Bool, true, false, cond, not, _&&_, true≢false, false≢true}
+use mathlib.Core.List.{List, [], _∷_, map}
+use Prim.Native.Nat.{ℕ, zero, suc, _+_, _-_, _*_, _/_, _%_, _^_, _<_, _≤_}
+use native.Mathlib.Numerals.{add-one}
+use native.Mathlib.Nat.{pow-suc}
+use native.Mathlib.Omega.{arith}
+use borrow.Author.Tests.{ltb-true, leb-true, not-true, not-false}
+use lib.Dec.{eqb, leb, ltb}
+use lib.ListN.{length, getD, take, drop, drop-of-length-le, List·getD-eq-default, List·getD-map}
+use lib.Seq.{drop-cons}
+use Rattle.kinds.specs.Tests.{same, all}
+use Rattle.kinds.specs.declared.Answer.{Answer}
+use Rattle.kinds.specs.Answers.{wire}
+use Rattle.kinds.proofs.Lists.{and-left, and-right}
+use Rattle.names.specs.Names.{Named, unknown, codeOf, isDigit, leadingZero, isPair, decimal, pairOf, flagNames, responses, answers, answerBytes, columns, inColumn}
+use Rattle.names.specs.Words.{answerWords}
+
+and-false : (b : Bool) {a : Bool} → a ≡ false → b && a ≡ false
+and-false true h = h
+and-false false h = refl
+
+-- lists of different lengths are not the same
+pub same-other-length : (f n : List ℕ) → (length f ≡ length n → ⊥) → same f n ≡ false
+same-other-length [] [] h = absurd (h refl)
+same-other-length [] (y ∷ ys) h = refl
+same-other-length (x ∷ xs) [] h = refl
+same-other-length (x ∷ xs) (y ∷ ys) h = and-false (eqb x y) (same-other-length xs ys (λ e. h (ap suc e)))
+
+and-true : (a : Bool) → a && true ≡ a
+and-true true = refl
+and-true false = refl
+
+and-assoc : (a b c : Bool) → (a && b) && c ≡ a && (b && c)
+and-assoc true b c = refl
+and-assoc false b c = refl
+
+-- t says whether two lists of m numbers each are the same up to i
+pub record Alike (f n : List ℕ) (m : ℕ) (t : Bool) (i : ℕ) : Type 0 where
+  pub within : i ≤ m
+  pub first-length : length f ≡ m
+  pub second-length : length n ≡ m
+  pub rest : t && same (drop i f) (drop i n) ≡ same f n
+
+pub alike-start : (f n : List ℕ) (m : ℕ) → length f ≡ m → length n ≡ m → Alike f n m true 0
+alike-start f n m p q = record { within = omega arith; first-length = p; second-length = q; rest = refl }
+
+-- what is left begins with the numbers at i
+ahead : {f n : List ℕ} {m i : ℕ} {t : Bool} → Alike f n m t i → i < m
+    → same (drop i f) (drop i n) ≡ eqb (getD f i 0) (getD n i 0) && same (drop (suc i) f) (drop (suc i) n)
+ahead {f} {n} {m} {i} {t} a h =
+    ap₂ same (drop-cons f i 0 (omega (arith, a .first-length))) (drop-cons n i 0 (omega (arith, a .second-length)))
+
+pub alike-next : {f n : List ℕ} {m i : ℕ} {t : Bool} → Alike f n m t i → i < m → Alike f n m (t && eqb (getD f i 0) (getD n i 0)) (i + 1)
+alike-next {f} {n} {m} {i} {t} a h =
+    record {
+      within = omega arith;
+      first-length = a .first-length;
+      second-length = a .second-length;
+      rest =
+          ap (λ (k : ℕ). (t && eqb (getD f i 0) (getD n i 0)) && same (drop k f) (drop k n)) (add-one i)
+          ∙ and-assoc t (eqb (getD f i 0) (getD n i 0)) (same (drop (suc i) f) (drop (suc i) n))
+          ∙ ap (λ (b : Bool). t && b) (sym (ahead a h))
+          ∙ a .rest;
+    }
+
+pub alike-end : {f n : List ℕ} {m i : ℕ} {t : Bool} → Alike f n m t i → m ≤ i → t ≡ same f n
+alike-end {f} {n} {m} {i} {t} a h =
+    sym (and-true t)
+    ∙ ap (λ (b : Bool). t && b) (sym (ap₂ same (drop-of-length-le f {i = i} (omega (arith, a .first-length))) (drop-of-length-le n {i = i} (omega (arith, a .second-length)))))
+    ∙ a .rest
+
+-- one name of a column: the field is it, or what the names after it say
+pub by-name : (n : Named) (ns : List Named) (f : List ℕ) {x y : ℕ} → x ≡ cond (same f (n .name)) (n .code) y → y ≡ codeOf ns f → x ≡ codeOf (n ∷ ns) f
+unfolding codeOf
+by-name n ns f h k = h ∙ ap (cond (same f (n .name)) (n .code)) k
+
+-- a name and the two ways past it
+pub met : {t : Bool} (s : Bool) (code other : ℕ) → t ≡ s → t ≡ true → code ≡ cond s code other
+met s code other h k = sym (ap (λ (b : Bool). cond b code other) (sym h ∙ k))
+
+pub missed : {t : Bool} (s : Bool) (code other : ℕ) → t ≡ s → t ≡ false → other ≡ cond s code other
+missed s code other h k = sym (ap (λ (b : Bool). cond b code other) (sym h ∙ k))
+
+-- the number that digits are, or unknown
+number : ℕ → List ℕ → ℕ
+number v f = cond (all isDigit f) (decimal v f) unknown
+
+-- the first i of at most four digits are v
+pub record Read (f : List ℕ) (m v i : ℕ) : Type 0 where
+  pub within : i ≤ m
+  pub long : length f ≡ m
+  pub small : v < 10 ^ i
+  pub rest : cond (all isDigit (drop i f)) (decimal v (drop i f)) unknown ≡ cond (all isDigit f) (decimal 0 f) unknown
+
+pub read-start : (f : List ℕ) (m : ℕ) → length f ≡ m → Read f m 0 0
+read-start f m p = record { within = omega arith; long = p; small = omega arith; rest = refl }
+
+digits-ahead : {f : List ℕ} {m v i : ℕ} → Read f m v i → i < m
+    → number v (drop i f)
+    ≡ cond (isDigit (getD f i 0) && all isDigit (drop (suc i) f)) (decimal (v * 10 + (getD f i 0 - 48)) (drop (suc i) f)) unknown
+unfolding number decimal
+digits-ahead {f} {m} {v} {i} a h = ap (number v) (drop-cons f i 0 (omega (arith, a .long)))
+
+pub read-other : {f : List ℕ} {m v i : ℕ} → Read f m v i → i < m → not (isDigit (getD f i 0)) ≡ true
+    → unknown ≡ cond (all isDigit f) (decimal 0 f) unknown
+unfolding number
+read-other {f} {m} {v} {i} a h t =
+    sym (digits-ahead a h ∙ ap (λ (b : Bool). cond (b && all isDigit (drop (suc i) f)) (decimal (v * 10 + (getD f i 0 - 48)) (drop (suc i) f)) unknown) (not-true (isDigit (getD f i 0)) t))
+    ∙ a .rest
+
+pub digit-low : (d : ℕ) → not (isDigit d) ≡ false → 48 ≤ d
+digit-low d h = leb-true 48 d (and-left (leb 48 d) (leb d 57) (not-false (isDigit d) h))
+
+pub digit-high : (d : ℕ) → not (isDigit d) ≡ false → d ≤ 57
+digit-high d h = leb-true d 57 (and-right (leb 48 d) (leb d 57) (not-false (isDigit d) h))
+
+-- three digits are below 1,000
+pub few-digits : (i m v : ℕ) → i < m → m ≤ 4 → v < 10 ^ i → v < 1000
+few-digits zero m v h k l = omega arith
+few-digits (suc zero) m v h k l = omega arith
+few-digits (suc (suc zero)) m v h k l = omega arith
+few-digits (suc (suc (suc zero))) m v h k l = omega arith
+few-digits (suc (suc (suc (suc i)))) m v h k l = absurd (omega arith)
+
+one-more : (p v d : ℕ) → v < p → d ≤ 57 → v * 10 + (d - 48) < p * 10
+one-more p v d h k = omega arith
+
+pub read-next : {f : List ℕ} {m v i : ℕ} → Read f m v i → i < m → not (isDigit (getD f i 0)) ≡ false
+    → Read f m (v * 10 + (getD f i 0 - 48)) (i + 1)
+unfolding number
+read-next {f} {m} {v} {i} a h t =
+    record {
+      within = omega arith;
+      long = a .long;
+      small = rw (add-one, pow-suc) (one-more (10 ^ i) v (getD f i 0) (a .small) (digit-high (getD f i 0) t));
+      rest =
+          ap (λ (k : ℕ). number (v * 10 + (getD f i 0 - 48)) (drop k f)) (add-one i)
+          ∙ sym (digits-ahead a h ∙ ap (λ (b : Bool). cond (b && all isDigit (drop (suc i) f)) (decimal (v * 10 + (getD f i 0 - 48)) (drop (suc i) f)) unknown) (not-false (isDigit (getD f i 0)) t))
+          ∙ a .rest;
+    }
+
+pub read-end : {f : List ℕ} {m v i : ℕ} → Read f m v i → m ≤ i → v ≡ cond (all isDigit f) (decimal 0 f) unknown
+unfolding number decimal
+read-end {f} {m} {v} {i} a h = sym (ap (number v) (drop-of-length-le f {i = i} (omega (arith, a .long)))) ∙ a .rest
+
+-- the four tests of a pair's field: a of them all are the digits, b and c its length, z a leading zero
+no-length : (a b c z : Bool) → not (b && c) ≡ true → a && b && c && not z ≡ false
+no-length false b c z h = refl
+no-length true false c z h = refl
+no-length true true false z h = refl
+no-length true true true z h = absurd (false≢true h)
+
+good-shape : (a b c z : Bool) → not (b && c) ≡ false → z ≡ false → a && b && c && not z ≡ a
+good-shape a true true z h k = rw k (and-trues a)
+  where
+    and-trues : (x : Bool) → x && true && true && true ≡ x
+    and-trues true = refl
+    and-trues false = refl
+good-shape a true false z h k = absurd (true≢false h)
+good-shape a false c z h k = absurd (true≢false h)
+
+module _ (f : List ℕ) where
+  pub pair-length : not (ltb 0 (length f) && leb (length f) 4) ≡ true → unknown ≡ pairOf f
+  unfolding pairOf isPair
+  pair-length h =
+      sym (ap (λ (b : Bool). cond b (decimal 0 f) unknown) (no-length (all isDigit f) (ltb 0 (length f)) (leb (length f) 4) (leadingZero f) h))
+
+  pub pair-zero : leadingZero f ≡ true → unknown ≡ pairOf f
+  unfolding pairOf isPair
+  pair-zero h =
+      sym (ap (λ (b : Bool). cond b (decimal 0 f) unknown) (and-false (all isDigit f && ltb 0 (length f) && leb (length f) 4) (ap not h)))
+
+  pub pair-digits : {x : ℕ} → not (ltb 0 (length f) && leb (length f) 4) ≡ false → leadingZero f ≡ false
+      → x ≡ cond (all isDigit f) (decimal 0 f) unknown → x ≡ pairOf f
+  unfolding pairOf isPair
+  pair-digits h k l =
+      l
+      ∙ sym (ap (λ (b : Bool). cond b (decimal 0 f) unknown) (good-shape (all isDigit f) (ltb 0 (length f)) (leb (length f) 4) (leadingZero f) h k))
+
+  pub some-byte : not (ltb 0 (length f) && leb (length f) 4) ≡ false → 0 < length f
+  some-byte h = ltb-true 0 (length f) (and-left (ltb 0 (length f)) (leb (length f) 4) (not-false (ltb 0 (length f) && leb (length f) 4) h))
+
+  pub four-bytes : not (ltb 0 (length f) && leb (length f) 4) ≡ false → length f ≤ 4
+  four-bytes h = leb-true (length f) 4 (and-right (ltb 0 (length f)) (leb (length f) 4) (not-false (ltb 0 (length f) && leb (length f) 4) h))
+
+-- the column by its number
+module _ (n : ℕ) (f : List ℕ) {x : ℕ} where
+  pub in-column : (k : ℕ) → n ≡ k → x ≡ inColumn k f → x ≡ inColumn n f
+  in-column k h p = p ∙ ap (λ (i : ℕ). inColumn i f) (sym h)
+
+-- the columns 2, 3 and 4 are flags
+pub flag-column : (n : ℕ) (f : List ℕ) {x : ℕ} → (n ≡ 0 → ⊥) → (n ≡ 1 → ⊥) → n < 5 → x ≡ codeOf flagNames f → x ≡ inColumn n f
+unfolding inColumn columns
+flag-column zero f h k l p = absurd (h refl)
+flag-column (suc zero) f h k l p = absurd (k refl)
+flag-column (suc (suc zero)) f h k l p = p
+flag-column (suc (suc (suc zero))) f h k l p = p
+flag-column (suc (suc (suc (suc zero)))) f h k l p = p
+flag-column (suc (suc (suc (suc (suc n))))) f h k l p = absurd (omega arith)
+
+-- past the last column
+pub past-columns : (n : ℕ) (f : List ℕ) → 11 ≤ n → unknown ≡ inColumn n f
+unfolding inColumn columns
+past-columns n f h = sym (ap (λ (g : List ℕ → ℕ). g f) (List·getD-eq-default columns (λ (field : List ℕ). unknown) h))
+
+-- the four bytes of a word, the channel's lowest
+bytesOf : ℕ → List ℕ
+bytesOf w = w % 256 ∷ w / 2 ^ 8 % 256 ∷ w / 2 ^ 16 % 256 ∷ w / 2 ^ 24 % 256 ∷ []
+
+-- every word has the bytes of its answer
+each-word : map bytesOf answerWords ≡ map (λ (a : Answer). take 4 (wire a)) answers
+unfolding bytesOf answerWords answers responses
+each-word = refl
+
+pub word-bytes : (w place : ℕ) → w ≡ getD answerWords place 0
+    → _≡_ {A = List ℕ} (w % 256 ∷ w / 2 ^ 8 % 256 ∷ w / 2 ^ 16 % 256 ∷ w / 2 ^ 24 % 256 ∷ []) (answerBytes place)
+unfolding bytesOf answerBytes
+word-bytes w place h =
+    ap bytesOf h
+    ∙ sym (List·getD-map bytesOf answerWords place 0)
+    ∙ ap (λ (l : List (List ℕ)). getD l place (0 ∷ 0 ∷ 0 ∷ 0 ∷ [])) each-word
+
+pub past-words : (place : ℕ) → 22 ≤ place → 0 ≡ getD answerWords place 0
+unfolding answerWords answers responses
+past-words place h = sym (List·getD-eq-default answerWords 0 h)

@@ -1,0 +1,267 @@
+-- Names both ways: in every column a field has a name's code exactly when it is that name, and is unknown exactly when it is none of the names;
+-- and below which number each column's codes lie.
+-- Assumes nothing.
+use mathlib.Core.Path.{_≡_, refl, sym, _∙_, ap, subst}
+use mathlib.Core.Bool.{Bool, true, false, cond, not, _&&_, true≢false, false≢true}
+use mathlib.Core.List.{List, [], _∷_, map}
+use mathlib.Core.Logic.{_↔_, _⊎_, inl, inr}
+use Prim.Native.Nat.{ℕ, zero, suc, _+_, _*_, _-_, _^_, _<_, _≤_}
+use native.Mathlib.Nat.{pow-suc, lt-of-lt-of-le, mul-le-mul-right, mul-assoc, mul-comm, pow-le-pow-right}
+use native.Mathlib.Omega.{arith}
+use borrow.Author.Tests.{eqb-true, eqb-false, eq-eqb, ltb-true, leb-true, not-true}
+use lib.Dec.{eqb, ltb, leb}
+use lib.ListN.{length, getD, take}
+use Rattle.text.specs.Text.{bytes}
+use Rattle.kinds.specs.Tests.{same, all}
+use Rattle.kinds.specs.declared.Answer.{Answer}
+use Rattle.kinds.specs.Answers.{wire}
+use Rattle.kinds.proofs.Lists.{In, here, there, and-left, and-right, and-both, all-at}
+use Rattle.names.specs.Names.{Named, unknown, codeOf, requestNames, flagNames, tagNames, responses, responseNames, answers, answerBytes, tagOpNames, respErrNames, forwardNames, finalNames, isDigit, leadingZero, isPair, decimal, pairOf, columns, inColumn}
+
+-- the test on two lists is their equality
+pub same-equal : (f n : List ℕ) → same f n ≡ true → f ≡ n
+same-equal [] [] h = refl
+same-equal [] (y ∷ ys) h = absurd (false≢true h)
+same-equal (x ∷ xs) [] h = absurd (false≢true h)
+same-equal (x ∷ xs) (y ∷ ys) h =
+    let p = eqb-true x y (and-left (eqb x y) (same xs ys) h) in
+    let q = same-equal xs ys (and-right (eqb x y) (same xs ys) h) in
+    cc
+
+pub same-self : (f : List ℕ) → same f f ≡ true
+same-self [] = refl
+same-self (x ∷ xs) = and-both (eq-eqb x x refl) (same-self xs)
+
+pub equal-same : (f n : List ℕ) → f ≡ n → same f n ≡ true
+equal-same f n h = ap (same f) (sym h) ∙ same-self f
+
+-- what a search through the names comes to
+pub data Sought (ns : List Named) (f : List ℕ) : Type 0 where
+  none : codeOf ns f ≡ unknown → ((n : Named) → In n ns → f ≡ n .name → ⊥) → Sought ns f
+  found : (n : Named) → In n ns → f ≡ n .name → codeOf ns f ≡ n .code → Sought ns f
+
+no-name : {f : List ℕ} (n : Named) → In n [] → f ≡ n .name → ⊥
+no-name n i h = absurd (false≢true (all-at (λ (m : Named). false) refl i))
+
+not-this : (m : Named) (ms : List Named) (f : List ℕ) → same f (m .name) ≡ false → ((n : Named) → In n ms → f ≡ n .name → ⊥)
+    → (n : Named) → In n (m ∷ ms) → f ≡ n .name → ⊥
+not-this m ms f h k n here e = true≢false (sym (equal-same f (m .name) e) ∙ h)
+not-this m ms f h k n (there i) e = k n i e
+
+pub seek : (ns : List Named) (f : List ℕ) → Sought ns f
+unfolding codeOf
+seek [] f = none refl no-name
+seek (m ∷ ms) f = go (same f (m .name)) refl (seek ms f)
+  where
+    go : (b : Bool) → same f (m .name) ≡ b → Sought ms f → Sought (m ∷ ms) f
+    go true h s = found m here (same-equal f (m .name) h) (ap (λ (b : Bool). cond b (m .code) (codeOf ms f)) h)
+    go false h (none p q) = none (ap (λ (b : Bool). cond b (m .code) (codeOf ms f)) h ∙ p) (not-this m ms f h q)
+    go false h (found n i p q) = found n (there i) p (ap (λ (b : Bool). cond b (m .code) (codeOf ms f)) h ∙ q)
+
+-- two tests say the same
+agree : Bool → Bool → Bool
+agree a b = cond a b (not b)
+
+-- no code is unknown's, and two entries have one code exactly when they have one name
+tidy : List Named → Bool
+tidy ns = all (λ (m : Named). not (eqb (m .code) unknown) && all (λ (n : Named). agree (same (m .name) (n .name)) (eqb (m .code) (n .code))) ns) ns
+
+-- a column's names and codes are one to one
+pub record OneToOne (ns : List Named) : Type 0 where
+  pub known-exactly : (n : Named) → In n ns → (f : List ℕ) → (codeOf ns f ≡ n .code) ↔ (f ≡ n .name)
+  pub unknown-exactly : (f : List ℕ) → (codeOf ns f ≡ unknown) ↔ ((n : Named) → In n ns → f ≡ n .name → ⊥)
+
+agree-right : (a b : Bool) → agree a b ≡ true → a ≡ true → b ≡ true
+unfolding agree
+agree-right true b h k = h
+agree-right false b h k = absurd (false≢true k)
+
+agree-left : (a b : Bool) → agree a b ≡ true → b ≡ true → a ≡ true
+unfolding agree
+agree-left true b h k = refl
+agree-left false b h k = absurd (true≢false (sym k ∙ not-true b h))
+
+module _ (ns : List Named) (t : tidy ns ≡ true) where
+  known-code : (n : Named) → In n ns → n .code ≡ unknown → ⊥
+  unfolding tidy
+  known-code n i =
+      eqb-false (n .code) unknown
+      (not-true (eqb (n .code) unknown)
+      (and-left (not (eqb (n .code) unknown)) (all (λ (m : Named). agree (same (n .name) (m .name)) (eqb (n .code) (m .code))) ns)
+      (all-at (λ (m : Named). not (eqb (m .code) unknown) && all (λ (k : Named). agree (same (m .name) (k .name)) (eqb (m .code) (k .code))) ns) t i)))
+
+  agreed : (m n : Named) → In m ns → In n ns → agree (same (m .name) (n .name)) (eqb (m .code) (n .code)) ≡ true
+  unfolding tidy
+  agreed m n i j =
+      all-at (λ (k : Named). agree (same (m .name) (k .name)) (eqb (m .code) (k .code)))
+      (and-right (not (eqb (m .code) unknown)) (all (λ (k : Named). agree (same (m .name) (k .name)) (eqb (m .code) (k .code))) ns)
+      (all-at (λ (q : Named). not (eqb (q .code) unknown) && all (λ (k : Named). agree (same (q .name) (k .name)) (eqb (q .code) (k .code))) ns) t i))
+      j
+
+  one-name : (m n : Named) → In m ns → In n ns → m .code ≡ n .code → m .name ≡ n .name
+  one-name m n i j h =
+      same-equal (m .name) (n .name)
+      (agree-left (same (m .name) (n .name)) (eqb (m .code) (n .code)) (agreed m n i j) (eq-eqb (m .code) (n .code) h))
+
+  one-code : (m n : Named) → In m ns → In n ns → m .name ≡ n .name → m .code ≡ n .code
+  one-code m n i j h =
+      eqb-true (m .code) (n .code)
+      (agree-right (same (m .name) (n .name)) (eqb (m .code) (n .code)) (agreed m n i j) (equal-same (m .name) (n .name) h))
+
+  from-code : (n : Named) → In n ns → (f : List ℕ) → Sought ns f → codeOf ns f ≡ n .code → f ≡ n .name
+  from-code n i f (none p q) h = absurd (known-code n i (sym h ∙ p))
+  from-code n i f (found m j p q) h = p ∙ one-name m n j i (sym q ∙ h)
+
+  from-name : (n : Named) → In n ns → (f : List ℕ) → Sought ns f → f ≡ n .name → codeOf ns f ≡ n .code
+  from-name n i f (none p q) h = absurd (q n i h)
+  from-name n i f (found m j p q) h = q ∙ one-code m n j i (sym p ∙ h)
+
+  from-unknown : (f : List ℕ) → Sought ns f → codeOf ns f ≡ unknown → (n : Named) → In n ns → f ≡ n .name → ⊥
+  from-unknown f (none p q) h n i e = q n i e
+  from-unknown f (found m j p q) h n i e = known-code m j (sym q ∙ h)
+
+  from-none : (f : List ℕ) → Sought ns f → ((n : Named) → In n ns → f ≡ n .name → ⊥) → codeOf ns f ≡ unknown
+  from-none f (none p q) h = p
+  from-none f (found m j p q) h = absurd (h m j p)
+
+  one-to-one : OneToOne ns
+  one-to-one =
+      record {
+        known-exactly = λ n i f. (from-code n i f (seek ns f), from-name n i f (seek ns f));
+        unknown-exactly = λ f. (from-unknown f (seek ns f), from-none f (seek ns f));
+      }
+
+-- so for every column of names
+pub requests-both-ways : OneToOne requestNames
+unfolding tidy agree requestNames
+requests-both-ways = one-to-one requestNames refl
+
+pub flags-both-ways : OneToOne flagNames
+unfolding tidy agree flagNames
+flags-both-ways = one-to-one flagNames refl
+
+pub tags-both-ways : OneToOne tagNames
+unfolding tidy agree tagNames
+tags-both-ways = one-to-one tagNames refl
+
+pub responses-both-ways : OneToOne responseNames
+unfolding tidy agree responses responseNames
+responses-both-ways = one-to-one responseNames refl
+
+pub tag-ops-both-ways : OneToOne tagOpNames
+unfolding tidy agree tagOpNames
+tag-ops-both-ways = one-to-one tagOpNames refl
+
+pub resp-errs-both-ways : OneToOne respErrNames
+unfolding tidy agree respErrNames
+resp-errs-both-ways = one-to-one respErrNames refl
+
+pub forwards-both-ways : OneToOne forwardNames
+unfolding tidy agree forwardNames
+forwards-both-ways = one-to-one forwardNames refl
+
+pub finals-both-ways : OneToOne finalNames
+unfolding tidy agree finalNames
+finals-both-ways = one-to-one finalNames refl
+
+-- a column's codes lie below a limit that every one of its names keeps
+pub codes-below : (ns : List Named) (limit : ℕ) → all (λ (n : Named). ltb (n .code) limit) ns ≡ true → (f : List ℕ)
+    → (codeOf ns f ≡ unknown) ⊎ (codeOf ns f < limit)
+codes-below ns limit t f = go (seek ns f)
+  where
+    go : Sought ns f → (codeOf ns f ≡ unknown) ⊎ (codeOf ns f < limit)
+    go (none p q) = inl p
+    go (found n i p q) = inr (omega (arith, q, ltb-true (n .code) limit (all-at (λ (m : Named). ltb (m .code) limit) t i)))
+
+-- a digit more
+digit-more : (v d p q : ℕ) → d ≤ 57 → q < (v * 10 + (d - 48) + 1) * p → q < (v + 1) * (p * 10)
+digit-more v d p q h k =
+    let le : v * 10 + (d - 48) + 1 ≤ (v + 1) * 10 = omega arith in
+    subst (λ (n : ℕ). q < n) (mul-assoc (v + 1) 10 p ∙ ap (λ (n : ℕ). (v + 1) * n) (mul-comm 10 p)) (lt-of-lt-of-le k (mul-le-mul-right p le))
+
+-- n digits are below 10 to the n
+decimal-below : (v : ℕ) (f : List ℕ) → all isDigit f ≡ true → decimal v f < (v + 1) * 10 ^ length f
+unfolding decimal
+decimal-below v [] h = omega arith
+decimal-below v (d ∷ ds) h =
+    rw pow-suc
+    (digit-more v d (10 ^ length ds) (decimal (v * 10 + (d - 48)) ds)
+    (leb-true d 57 (and-right (leb 48 d) (leb d 57) (and-left (isDigit d) (all isDigit ds) h)))
+    (decimal-below (v * 10 + (d - 48)) ds (and-right (isDigit d) (all isDigit ds) h)))
+
+-- what the test of a pair's field says of it
+all-digits : (f : List ℕ) → isPair f ≡ true → all isDigit f ≡ true
+unfolding isPair
+all-digits f h =
+    let a = all isDigit f in
+    let b = a && ltb 0 (length f) in
+    let c = b && leb (length f) 4 in
+    and-left a (ltb 0 (length f)) (and-left b (leb (length f) 4) (and-left c (not (leadingZero f)) h))
+
+four-long : (f : List ℕ) → isPair f ≡ true → length f ≤ 4
+unfolding isPair
+four-long f h =
+    let b = all isDigit f && ltb 0 (length f) in
+    let c = b && leb (length f) 4 in
+    leb-true (length f) 4 (and-right b (leb (length f) 4) (and-left c (not (leadingZero f)) h))
+
+-- what every entry passes, and what stands past the last, an entry looked up passes
+getD-all {ℓ} : {A : Type ℓ} (p : A → Bool) (l : List A) (d : A) → all p l ≡ true → p d ≡ true → (i : ℕ) → p (getD l i d) ≡ true
+getD-all p [] d h k i = k
+getD-all p (x ∷ xs) d h k zero = and-left (p x) (all p xs) h
+getD-all p (x ∷ xs) d h k (suc i) = getD-all p xs d (and-right (p x) (all p xs) h) k i
+
+-- the four bytes of each answer
+entries : List (List ℕ)
+entries = map (λ (a : Answer). take 4 (wire a)) answers
+
+-- a pair's number has at most four digits
+pub pair-below : (f : List ℕ) → (pairOf f ≡ unknown) ⊎ (pairOf f < 10000)
+unfolding pairOf
+pair-below f = go (isPair f) refl
+  where
+    few : length f ≤ 4 → decimal 0 f < (0 + 1) * 10 ^ length f → decimal 0 f < 10000
+    few h k = let le : 10 ^ length f ≤ 10 ^ 4 = pow-le-pow-right (omega arith) h in omega arith
+
+    go : (b : Bool) → isPair f ≡ b → (cond b (decimal 0 f) unknown ≡ unknown) ⊎ (cond b (decimal 0 f) unknown < 10000)
+    go false h = inl refl
+    go true h = inr (few (four-long f h) (decimal-below 0 f (all-digits f h)))
+
+-- below which number the codes of each column lie
+abbrev pub limits : List ℕ
+limits = 10000 ∷ 256 ∷ 2 ∷ 2 ∷ 2 ∷ 4 ∷ 22 ∷ 4 ∷ 4 ∷ 8 ∷ 8 ∷ []
+
+-- a field's code is unknown, or below its column's limit
+pub column-below : (number : ℕ) (f : List ℕ) → (inColumn number f ≡ unknown) ⊎ (inColumn number f < getD limits number 0)
+unfolding inColumn columns requestNames flagNames tagNames responses responseNames tagOpNames respErrNames forwardNames finalNames
+column-below zero f = pair-below f
+column-below (suc zero) f = codes-below requestNames 256 refl f
+column-below (suc (suc zero)) f = codes-below flagNames 2 refl f
+column-below (suc (suc (suc zero))) f = codes-below flagNames 2 refl f
+column-below (suc (suc (suc (suc zero)))) f = codes-below flagNames 2 refl f
+column-below (suc (suc (suc (suc (suc zero))))) f = codes-below tagNames 4 refl f
+column-below (suc (suc (suc (suc (suc (suc zero)))))) f = codes-below responseNames 22 refl f
+column-below (suc (suc (suc (suc (suc (suc (suc zero))))))) f = codes-below tagOpNames 4 refl f
+column-below (suc (suc (suc (suc (suc (suc (suc (suc zero)))))))) f = codes-below respErrNames 4 refl f
+column-below (suc (suc (suc (suc (suc (suc (suc (suc (suc zero))))))))) f = codes-below forwardNames 8 refl f
+column-below (suc (suc (suc (suc (suc (suc (suc (suc (suc (suc zero)))))))))) f = codes-below finalNames 8 refl f
+column-below (suc (suc (suc (suc (suc (suc (suc (suc (suc (suc (suc n))))))))))) f = inl refl
+
+-- pairs that are good, and some that are not: the limits of the field one by one
+pub some-pairs :
+    map pairOf (bytes "0" ∷ bytes "9" ∷ bytes "10" ∷ bytes "4095" ∷ bytes "9999" ∷ bytes "10000" ∷ bytes "" ∷ bytes "00" ∷ bytes "01" ∷ bytes "1:" ∷ bytes "/1" ∷ bytes "-1" ∷ bytes " 1" ∷ [])
+    ≡ 0 ∷ 9 ∷ 10 ∷ 4095 ∷ 9999 ∷ unknown ∷ unknown ∷ unknown ∷ unknown ∷ unknown ∷ unknown ∷ unknown ∷ unknown ∷ []
+unfolding pairOf isPair decimal
+some-pairs = refl
+
+-- four bytes an answer
+pub answer-length : (place : ℕ) → length (answerBytes place) ≡ 4
+unfolding entries answerBytes answers responses
+answer-length place = eqb-true (length (answerBytes place)) 4 (getD-all (λ (l : List ℕ). eqb (length l) 4) entries (0 ∷ 0 ∷ 0 ∷ 0 ∷ []) refl refl place)
+
+-- they keep the ranges of event bytes 5 to 8: channel, opcode, Resp, FwdState
+pub answer-in-range : (place : ℕ) → ltb (getD (answerBytes place) 0 0) 2 && ltb (getD (answerBytes place) 1 0) 32
+    && ltb (getD (answerBytes place) 2 0) 8 && ltb (getD (answerBytes place) 3 0) 8 ≡ true
+unfolding entries answerBytes answers responses
+answer-in-range place =
+    getD-all (λ (l : List ℕ). ltb (getD l 0 0) 2 && ltb (getD l 1 0) 32 && ltb (getD l 2 0) 8 && ltb (getD l 3 0) 8) entries (0 ∷ 0 ∷ 0 ∷ 0 ∷ []) refl refl place

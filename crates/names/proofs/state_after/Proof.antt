@@ -1,0 +1,65 @@
+-- `names::state_after` meets its contract: the names of the column, one after another.
+-- Assumes nothing.
+use mathlib.Core.Path.{refl}
+use denote.Ref.{now}
+use borrow.Author.Needs.{needs}
+use lib.ListN.{drop}
+use Rattle.names.specs.Names.{codeOf, finalNames}
+use Rattle.names.proofs.Laws.{by-name}
+use Rattle.names.proofs.state_after.Statement.{statement}
+use Rattle.names.proofs.state_after.Tie as tie
+
+slice-aggregate-known : tie.Need-slice-aggregate-known
+slice-aggregate-known c = search needs
+
+known-requires : tie.Need-known-requires
+known-requires c κs = search needs
+
+slice-aggregate-known-2 : tie.Need-slice-aggregate-known-2
+slice-aggregate-known-2 c = search needs
+
+known-requires-2 : tie.Need-known-requires-2
+known-requires-2 c κs = search needs
+
+slice-aggregate-known-3 : tie.Need-slice-aggregate-known-3
+slice-aggregate-known-3 c = search needs
+
+known-requires-3 : tie.Need-known-requires-3
+known-requires-3 c κs = search needs
+
+slice-aggregate-known-4 : tie.Need-slice-aggregate-known-4
+slice-aggregate-known-4 c = search needs
+
+known-requires-4 : tie.Need-known-requires-4
+known-requires-4 c κs = search needs
+
+slice-aggregate-known-5 : tie.Need-slice-aggregate-known-5
+slice-aggregate-known-5 c = search needs
+
+known-requires-5 : tie.Need-known-requires-5
+known-requires-5 c κs = search needs
+
+slice-aggregate-known-6 : tie.Need-slice-aggregate-known-6
+slice-aggregate-known-6 c = search needs
+
+known-requires-6 : tie.Need-known-requires-6
+known-requires-6 c κs = search needs
+
+slice-aggregate-known-7 : tie.Need-slice-aggregate-known-7
+slice-aggregate-known-7 c = search needs
+
+known-requires-7 : tie.Need-known-requires-7
+known-requires-7 c κs = search needs
+
+slice-aggregate-known-8 : tie.Need-slice-aggregate-known-8
+slice-aggregate-known-8 c = search needs
+
+known-requires-8 : tie.Need-known-requires-8
+known-requires-8 c κs = search needs
+
+returns : tie.Need-returns
+unfolding codeOf finalNames
+returns c = by-name _ (drop 1 finalNames) (now (c .before .before .before .before .before .before .before .before .before .before .before .before .before .before .before .before .before .args .field)) (c .known8 .ensures) (by-name _ (drop 2 finalNames) (now (c .before .before .before .before .before .before .before .before .before .before .before .before .before .before .before .before .before .args .field)) (c .before .before .known7 .ensures) (by-name _ (drop 3 finalNames) (now (c .before .before .before .before .before .before .before .before .before .before .before .before .before .before .before .before .before .args .field)) (c .before .before .before .before .known6 .ensures) (by-name _ (drop 4 finalNames) (now (c .before .before .before .before .before .before .before .before .before .before .before .before .before .before .before .before .before .args .field)) (c .before .before .before .before .before .before .known5 .ensures) (by-name _ (drop 5 finalNames) (now (c .before .before .before .before .before .before .before .before .before .before .before .before .before .before .before .before .before .args .field)) (c .before .before .before .before .before .before .before .before .known4 .ensures) (by-name _ (drop 6 finalNames) (now (c .before .before .before .before .before .before .before .before .before .before .before .before .before .before .before .before .before .args .field)) (c .before .before .before .before .before .before .before .before .before .before .known3 .ensures) (by-name _ (drop 7 finalNames) (now (c .before .before .before .before .before .before .before .before .before .before .before .before .before .before .before .before .before .args .field)) (c .before .before .before .before .before .before .before .before .before .before .before .before .known2 .ensures) (by-name _ (drop 8 finalNames) (now (c .before .before .before .before .before .before .before .before .before .before .before .before .before .before .before .before .before .args .field)) (c .before .before .before .before .before .before .before .before .before .before .before .before .before .before .known .ensures) (refl))))))))
+
+pub state-after-spec : {M : Type 1} → statement M
+state-after-spec = tie.close (tie.spec slice-aggregate-known known-requires slice-aggregate-known-2 known-requires-2 slice-aggregate-known-3 known-requires-3 slice-aggregate-known-4 known-requires-4 slice-aggregate-known-5 known-requires-5 slice-aggregate-known-6 known-requires-6 slice-aggregate-known-7 known-requires-7 slice-aggregate-known-8 known-requires-8 returns)

@@ -1,0 +1,144 @@
+-- The laws for whoever puts lines into a buffer: what laying does, that the parts of a line make the line, how long a line can be,
+-- and what a buffer with room holds after one. Assumes nothing.
+use mathlib.Core.Path.{_≡_, refl, sym, _∙_, ap, ap₂}
+use mathlib.Core.Bool.{Bool, true, false, cond}
+use mathlib.Core.List.{List, [], _∷_, _++_, append-assoc, append-nil}
+use Prim.Native.Nat.{ℕ, _+_, _%_, _^_, _≤_, _<_}
+use native.Mathlib.Nat.{le-trans}
+use native.Mathlib.Omega.{arith}
+use lib.Dec.{eqb}
+use lib.ListN.{length, take, drop, length-append}
+use Rattle.sets.specs.Sets.{bit}
+use Rattle.steps.specs.Steps.{noDuty, Home, Requester}
+use Rattle.verdicts.specs.Verdicts.{explained, unexplained}
+use Rattle.verdicts.specs.declared.Finding.{Finding}
+use Rattle.text.specs.Text.{bytes, comma, eol}
+use Rattle.replies.specs.Laid.{Laid, laid, lay, layAll, concat}
+use Rattle.replies.specs.Replies.{space, decimal, verdictText, dutyText, statesText, headerLine, answerLine, refusedLine, stateText, statesTexts, answerTexts, refusalTexts}
+pub use Rattle.replies.proofs.Laying.{lay-fits, lay-short, lay-nothing, lay-lay, lay-all, lay-all-append, length-in, length-lay, length-lay-all}
+pub use Rattle.replies.proofs.Decimal.{decimal-one, decimal-small, decimal-step, decimal-short}
+pub use Rattle.replies.proofs.States.{concat-states}
+
+-- texts one after another, in two lots
+concat-append : (ss ts : List (List ℕ)) → concat (ss ++ ts) ≡ concat ss ++ concat ts
+concat-append [] ts = refl
+concat-append (s ∷ ss) ts = ap (λ (r : List ℕ). s ++ r) (concat-append ss ts) ∙ sym (append-assoc s (concat ss) (concat ts))
+
+-- five parts, with what parts them, as one text
+parts-of-five : (c n v d t e : List ℕ) → n ++ (c ++ v ++ c ++ (d ++ c ++ (t ++ (e ++ [])))) ≡ n ++ (c ++ v) ++ (c ++ d) ++ (c ++ t) ++ e
+parts-of-five c n v d t e = simp (append-assoc, append-nil)
+
+-- the parts in which an answer is put make its line
+pub concat-answer : (k : ℕ) (found : Finding) → concat (answerTexts k found) ≡ answerLine k found
+unfolding answerTexts answerLine
+concat-answer k found =
+    ap (λ (r : List ℕ). decimal k ++ ((comma ∷ verdictText (found .verdict .0) ++ comma ∷ []) ++ ((dutyText (found .duty .0) ++ comma ∷ []) ++ r)))
+        (concat-append (statesTexts (found .after)) (eol ∷ [])
+        ∙ ap (λ (r : List ℕ). r ++ (eol ++ [])) (concat-states (found .after)))
+    ∙ parts-of-five (comma ∷ []) (decimal k) (verdictText (found .verdict .0)) (dutyText (found .duty .0)) (statesText (found .after)) eol
+
+parts-of-three : (n l e : List ℕ) → bytes "refused," ++ (n ++ ((comma ∷ []) ++ (l ++ (e ++ [])))) ≡ bytes "refused" ++ comma ∷ n ++ comma ∷ l ++ e
+parts-of-three n l e = simp (append-assoc, append-nil)
+
+-- the parts in which a refusal is put make its line
+pub concat-refusal : (number line : ℕ) → concat (refusalTexts number line) ≡ refusedLine number line
+unfolding refusalTexts refusedLine
+concat-refusal number line = parts-of-three (decimal number) (decimal line) eol
+
+-- How long a line can be.
+
+length-cond : (b : Bool) (s t : List ℕ) (n : ℕ) → length s ≤ n → length t ≤ n → length (cond b s t) ≤ n
+length-cond true s t n h k = h
+length-cond false s t n h k = k
+
+verdict-short : (v : ℕ) → length (verdictText v) ≤ 11
+unfolding verdictText
+verdict-short v =
+    length-cond (eqb v explained) (bytes "explained") (cond (eqb v unexplained) (bytes "unexplained") (bytes "not judged")) 11 (omega arith)
+    (length-cond (eqb v unexplained) (bytes "unexplained") (bytes "not judged") 11 (omega arith) (omega arith))
+
+duty-short : (d : ℕ) → length (dutyText d) ≤ 9
+unfolding dutyText
+duty-short d =
+    length-cond (eqb d noDuty) (bytes "none") (cond (eqb d Home) (bytes "Home") (cond (eqb d Requester) (bytes "Requester") (bytes "lost"))) 9 (omega arith)
+    (length-cond (eqb d Home) (bytes "Home") (cond (eqb d Requester) (bytes "Requester") (bytes "lost")) 9 (omega arith)
+    (length-cond (eqb d Requester) (bytes "Requester") (bytes "lost") 9 (omega arith) (omega arith)))
+
+state-short : (m n : ℕ) (name : List ℕ) → length (stateText m n name) ≤ 1 + length name
+state-short m n name =
+    length-cond (bit m n) (cond (eqb (m % 2 ^ n) 0) name (space ∷ name)) [] (1 + length name)
+    (length-cond (eqb (m % 2 ^ n) 0) name (space ∷ name) (1 + length name) (omega arith) (omega arith)) (omega arith)
+
+add-short : (s t : List ℕ) (n k : ℕ) → length s ≤ n → length t ≤ k → length (s ++ t) ≤ n + k
+add-short s t n k h l = omega (arith, length-append s t)
+
+states-in-parts : (m : ℕ) → length (concat (statesTexts m)) ≤ 22
+unfolding statesTexts
+states-in-parts m =
+    add-short _ _ 2 20 (state-short m 0 (bytes "I"))
+    (add-short _ _ 3 17 (state-short m 1 (bytes "UC"))
+    (add-short _ _ 4 13 (state-short m 2 (bytes "UCE"))
+    (add-short _ _ 3 10 (state-short m 3 (bytes "UD"))
+    (add-short _ _ 4 6 (state-short m 4 (bytes "UDP"))
+    (add-short _ _ 3 3 (state-short m 5 (bytes "SC"))
+    (add-short _ _ 3 0 (state-short m 6 (bytes "SD")) (omega arith)))))))
+
+states-short : (m : ℕ) → length (statesText m) ≤ 22
+states-short m = omega (arith, states-in-parts m, ap length (concat-states m))
+
+-- an answer to one of the first ten million events is at most 64 bytes long
+pub answer-short : (k : ℕ) (found : Finding) → k < 10 ^ 7 → length (answerLine k found) ≤ 64
+unfolding answerLine
+answer-short k found h =
+    le-trans
+    (add-short _ eol 52 2
+    (add-short _ (comma ∷ statesText (found .after)) 29 23
+    (add-short _ (comma ∷ dutyText (found .duty .0)) 19 10
+    (add-short (decimal k) (comma ∷ verdictText (found .verdict .0)) 7 12 (decimal-short 6 k h) (omega (arith, verdict-short (found .verdict .0))))
+    (omega (arith, duty-short (found .duty .0))))
+    (omega (arith, states-short (found .after))))
+    (omega arith))
+    (omega arith)
+
+-- a refusal's line, of a refusal of one digit and one of the first ten million lines
+pub refusal-short : (number line : ℕ) → number < 10 → line < 10 ^ 7 → length (refusedLine number line) ≤ 64
+unfolding refusedLine
+refusal-short number line h k =
+    le-trans
+    (add-short _ eol 17 2
+    (add-short _ (comma ∷ decimal line) 9 8
+    (add-short (bytes "refused") (comma ∷ decimal number) 7 2 (omega arith) (omega (arith, decimal-short 0 number h)))
+    (omega (arith, decimal-short 6 line k)))
+    (omega arith))
+    (omega arith)
+
+-- What a buffer with room holds after a line.
+
+-- parts put where there is room for the text that they make
+parts-laid : (at : ℕ) (out : List ℕ) (ss : List (List ℕ)) (s : List ℕ) → concat ss ≡ s → at + length s ≤ length out
+    → layAll (laid at out) ss ≡ laid (at + length s) (take at out ++ s ++ drop (at + length s) out)
+parts-laid at out ss s e h =
+    lay-all (laid at out) ss (omega (arith, ap length e)) ∙ ap (lay (laid at out)) e ∙ lay-fits (laid at out) s h
+
+-- after an answer
+pub answer-laid : (at k : ℕ) (out : List ℕ) (found : Finding) → at + 64 ≤ length out → k < 10 ^ 7
+    → layAll (laid at out) (answerTexts k found)
+    ≡ laid (at + length (answerLine k found)) (take at out ++ answerLine k found ++ drop (at + length (answerLine k found)) out)
+answer-laid at k out found room h =
+    parts-laid at out (answerTexts k found) (answerLine k found) (concat-answer k found) (omega (arith, answer-short k found h))
+
+-- after a refusal
+pub refusal-laid : (at number line : ℕ) (out : List ℕ) → at + 64 ≤ length out → number < 10 → line < 10 ^ 7
+    → layAll (laid at out) (refusalTexts number line)
+    ≡ laid (at + length (refusedLine number line)) (take at out ++ refusedLine number line ++ drop (at + length (refusedLine number line)) out)
+refusal-laid at number line out room h k =
+    parts-laid at out (refusalTexts number line) (refusedLine number line) (concat-refusal number line) (omega (arith, refusal-short number line h k))
+
+header-length : length headerLine ≡ 27
+unfolding headerLine
+header-length = refl
+
+-- after the header
+pub header-laid : (at : ℕ) (out : List ℕ) → at + 64 ≤ length out
+    → lay (laid at out) headerLine ≡ laid (at + length headerLine) (take at out ++ headerLine ++ drop (at + length headerLine) out)
+header-laid at out room = lay-fits (laid at out) headerLine (omega (arith, header-length))

@@ -1,0 +1,6 @@
+pub mod Laying
+pub mod Decimal
+pub mod Parts
+pub mod States
+pub mod Laws
+pub mod Page

@@ -1,0 +1,48 @@
+-- The page's own answer, computed: its four lines, its header and a refusal come out of the definitions byte for byte.
+-- Assumes nothing.
+use mathlib.Core.Path.{_≡_, refl}
+use mathlib.Core.List.{List, [], _∷_, _++_}
+use Prim.Native.Nat.{ℕ, _+_}
+use Rattle.kinds.specs.Codes.{I, SC}
+use Rattle.sets.specs.Sets.{bit}
+use Rattle.steps.specs.Steps.{noDuty, Home}
+use Rattle.verdicts.specs.Verdicts.{explained, unexplained, notJudged}
+use Rattle.verdicts.specs.declared.Finding.{Finding}
+use Rattle.text.specs.Text.{bytes, eol}
+use Rattle.replies.specs.Laid.{concat}
+use Rattle.replies.specs.Replies.{decimal, verdictText, dutyText, statesText, statesTexts, headerLine, answerLine, refusedLine, answerTexts, refusalTexts}
+
+-- what was found of an event: verdict, duty and the set after
+abbrev pub found : ℕ → ℕ → ℕ → Finding
+found verdict duty after = record { after = after; verdict = record { 0 = verdict }; duty = record { 0 = duty } }
+
+-- the set of I and SC
+abbrev pub I-SC : ℕ
+I-SC = 33
+
+-- the page's answer: its header and its four lines
+pub page :
+    headerLine
+    ++ answerLine 0 (found explained Home I-SC)
+    ++ answerLine 1 (found explained noDuty I-SC)
+    ++ answerLine 2 (found unexplained noDuty 0)
+    ++ answerLine 3 (found notJudged noDuty 0)
+    ≡ bytes "event,verdict,duty,states" ++ eol
+    ++ bytes "0,explained,Home,I SC" ++ eol
+    ++ bytes "1,explained,none,I SC" ++ eol
+    ++ bytes "2,unexplained,none," ++ eol
+    ++ bytes "3,not judged,none," ++ eol
+unfolding headerLine answerLine decimal verdictText dutyText statesText bit
+page = refl
+
+-- a late event with every state, a duty of the Requester and one that is lost
+pub all-states :
+    answerLine 999999 (found explained 2 127) ++ answerLine 1000000 (found explained 3 1)
+    ≡ bytes "999999,explained,Requester,I UC UCE UD UDP SC SD" ++ eol ++ bytes "1000000,explained,lost,I" ++ eol
+unfolding answerLine decimal verdictText dutyText statesText bit
+all-states = refl
+
+-- a refusal of line 10
+pub refused : refusedLine 8 10 ≡ bytes "refused,8,10" ++ eol
+unfolding refusedLine decimal
+refused = refl

@@ -1,0 +1,146 @@
+-- Laws of the parts of a line: what each function that puts a part has put.
+-- Assumes nothing.
+use mathlib.Core.Path.{_≡_, refl, sym, _∙_, ap, ap₂, subst⁻¹}
+use mathlib.Core.Bool.{Bool, true, false, cond}
+use mathlib.Core.List.{List, [], _∷_, _++_}
+use Prim.Native.Nat.{ℕ, _*_, _%_, _/_, _^_, _<_, _≤_, _-_}
+use native.Mathlib.Nat.{one-mul, mod-eq-of-lt, lt-of-lt-of-le, le-of-eq}
+use native.Mathlib.Omega.{arith}
+use borrow.Author.Tests.{eq-eqb, ne-eqb}
+use lib.Pow.{pow-lt, pow-pos}
+use lib.Dec.{eqb}
+use lib.ListN.{length, take, drop, length-drop}
+use lib.Seq.{take-all}
+use Rattle.kinds.specs.Codes.{I, UC, UCE, UD, UDP, SC, SD}
+use Rattle.sets.specs.Sets.{bit}
+use Rattle.steps.specs.Steps.{noDuty, Home, Requester}
+use Rattle.verdicts.specs.Verdicts.{explained, unexplained}
+use Rattle.verdicts.specs.declared.Finding.{Finding}
+use Rattle.text.specs.Text.{bytes, comma, eol}
+use Rattle.replies.specs.Laid.{Laid, laid, lay, layAll}
+use Rattle.replies.specs.Replies.{space, decimal, verdictText, dutyText, stateText, statesTexts, headerLine, answerTexts, refusalTexts}
+use Rattle.replies.proofs.Laying.{lay-nothing, lay-all-append, length-lay-all}
+
+-- a verdict's name between commas
+abbrev pub verdictPart : ℕ → List ℕ
+verdictPart v = comma ∷ verdictText v ++ comma ∷ []
+
+pub is-explained : {r : Laid} (l : Laid) {v : ℕ} → v ≡ explained → r ≡ lay l (bytes ",explained,") → r ≡ lay l (verdictPart v)
+unfolding verdictText
+is-explained l h e = e ∙ ap (λ (n : ℕ). lay l (verdictPart n)) (sym h)
+
+pub is-unexplained : {r : Laid} (l : Laid) {v : ℕ} → v ≡ unexplained → r ≡ lay l (bytes ",unexplained,") → r ≡ lay l (verdictPart v)
+unfolding verdictText
+is-unexplained l h e = e ∙ ap (λ (n : ℕ). lay l (verdictPart n)) (sym h)
+
+other-verdict : (v : ℕ) → (v ≡ explained → ⊥) → (v ≡ unexplained → ⊥) → verdictText v ≡ bytes "not judged"
+unfolding verdictText
+other-verdict v h₀ h₁ =
+    ap₂ (λ (a b : Bool). cond a (bytes "explained") (cond b (bytes "unexplained") (bytes "not judged")))
+    (ne-eqb v explained h₀) (ne-eqb v unexplained h₁)
+
+pub is-not-judged : {r : Laid} (l : Laid) {v : ℕ} → (v ≡ explained → ⊥) → (v ≡ unexplained → ⊥) → r ≡ lay l (bytes ",not judged,")
+    → r ≡ lay l (verdictPart v)
+is-not-judged l {v} h₀ h₁ e = e ∙ ap (λ (s : List ℕ). lay l (comma ∷ s ++ comma ∷ [])) (sym (other-verdict v h₀ h₁))
+
+-- a duty's name and a comma
+abbrev pub dutyPart : ℕ → List ℕ
+dutyPart d = dutyText d ++ comma ∷ []
+
+pub is-none : {r : Laid} (l : Laid) {d : ℕ} → d ≡ noDuty → r ≡ lay l (bytes "none,") → r ≡ lay l (dutyPart d)
+unfolding dutyText
+is-none l h e = e ∙ ap (λ (n : ℕ). lay l (dutyPart n)) (sym h)
+
+pub is-Home : {r : Laid} (l : Laid) {d : ℕ} → d ≡ Home → r ≡ lay l (bytes "Home,") → r ≡ lay l (dutyPart d)
+unfolding dutyText
+is-Home l h e = e ∙ ap (λ (n : ℕ). lay l (dutyPart n)) (sym h)
+
+pub is-Requester : {r : Laid} (l : Laid) {d : ℕ} → d ≡ Requester → r ≡ lay l (bytes "Requester,") → r ≡ lay l (dutyPart d)
+unfolding dutyText
+is-Requester l h e = e ∙ ap (λ (n : ℕ). lay l (dutyPart n)) (sym h)
+
+other-duty : (d : ℕ) → (d ≡ noDuty → ⊥) → (d ≡ Home → ⊥) → (d ≡ Requester → ⊥) → dutyText d ≡ bytes "lost"
+unfolding dutyText
+other-duty d h₀ h₁ h₂ =
+    ap₂ (λ (a b : Bool). cond a (bytes "none") (cond b (bytes "Home") (cond (eqb d Requester) (bytes "Requester") (bytes "lost"))))
+    (ne-eqb d noDuty h₀) (ne-eqb d Home h₁)
+    ∙ ap (λ (a : Bool). cond a (bytes "Requester") (bytes "lost")) (ne-eqb d Requester h₂)
+
+pub is-lost : {r : Laid} (l : Laid) {d : ℕ} → (d ≡ noDuty → ⊥) → (d ≡ Home → ⊥) → (d ≡ Requester → ⊥) → r ≡ lay l (bytes "lost,")
+    → r ≡ lay l (dutyPart d)
+is-lost l {d} h₀ h₁ h₂ e = e ∙ ap (λ (s : List ℕ). lay l (s ++ comma ∷ [])) (sym (other-duty d h₀ h₁ h₂))
+
+-- a state that is not in the set, the first that is, and one after others
+pub not-in : {l : Laid} (m n : ℕ) (name : List ℕ) → (m / 2 ^ n % 2 ≡ 1 → ⊥) → l ≡ lay l (stateText m n name)
+unfolding bit
+not-in {l} m n name h =
+    sym (lay-nothing l)
+    ∙ ap (λ (b : Bool). lay l (cond b (cond (eqb (m % 2 ^ n) 0) name (space ∷ name)) [])) (sym (ne-eqb (m / 2 ^ n % 2) 1 h))
+
+pub first-in : {r : Laid} (l : Laid) (m n : ℕ) (spaced : List ℕ) → m / 2 ^ n % 2 ≡ 1 → m % 2 ^ n ≡ 0
+    → r ≡ lay l (take (length spaced - 1) (drop 1 spaced)) → r ≡ lay l (stateText m n (drop 1 spaced))
+unfolding bit
+first-in l m n spaced h z e =
+    e ∙ ap (lay l) (take-all (length spaced - 1) (drop 1 spaced) (le-of-eq (length-drop 1 spaced)))
+    ∙ ap₂ (λ (a b : Bool). lay l (cond a (cond b (drop 1 spaced) (space ∷ drop 1 spaced)) []))
+        (sym (eq-eqb (m / 2 ^ n % 2) 1 h)) (sym (eq-eqb (m % 2 ^ n) 0 z))
+
+pub later-in : {r : Laid} (l : Laid) (m n : ℕ) (spaced : List ℕ) → m / 2 ^ n % 2 ≡ 1 → (m % 2 ^ n ≡ 0 → ⊥) → spaced ≡ space ∷ drop 1 spaced
+    → r ≡ lay l spaced → r ≡ lay l (stateText m n (drop 1 spaced))
+unfolding bit
+later-in l m n spaced h z s e =
+    e ∙ ap (lay l) s
+    ∙ ap₂ (λ (a b : Bool). lay l (cond a (cond b (drop 1 spaced) (space ∷ drop 1 spaced)) []))
+        (sym (eq-eqb (m / 2 ^ n % 2) 1 h)) (sym (ne-eqb (m % 2 ^ n) 0 z))
+
+-- the weight of a state, as it is shifted into place
+pub weight : (s : ℕ) → s < 7 → 1 * 2 ^ s % 256 ≡ 2 ^ s
+weight s h = ap (λ (w : ℕ). w % 256) (one-mul (2 ^ s)) ∙ mod-eq-of-lt (lt-of-lt-of-le (pow-lt h) (omega arith))
+
+pub weight-pos : (s : ℕ) → s < 7 → 0 < 1 * 2 ^ s % 256
+weight-pos s h = subst⁻¹ (λ (w : ℕ). 0 < w) (weight s h) (pow-pos s)
+
+pub none-before : (m s : ℕ) → s < 7 → m % (1 * 2 ^ s % 256) ≡ 0 → m % 2 ^ s ≡ 0
+none-before m s h e = ap (λ (w : ℕ). m % w) (sym (weight s h)) ∙ e
+
+pub some-before : (m s : ℕ) → s < 7 → (m % (1 * 2 ^ s % 256) ≡ 0 → ⊥) → m % 2 ^ s ≡ 0 → ⊥
+some-before m s h f e = f (ap (λ (w : ℕ). m % w) (weight s h) ∙ e)
+
+-- a name that comes with its space is not empty
+pub not-empty : (spaced : List ℕ) → spaced ≡ space ∷ drop 1 spaced → 1 ≤ length spaced
+not-empty spaced e = omega (arith, ap length e)
+
+-- one text more
+then : {r r′ k : Laid} (t : List ℕ) → r′ ≡ lay r t → r ≡ k → r′ ≡ lay k t
+then t e h = e ∙ ap (λ (x : Laid). lay x t) h
+
+-- the seven states in their order
+pub seven : {r₀ r₁ r₂ r₃ r₄ r₅ r₆ : Laid} (l : Laid) (m : ℕ)
+    → r₀ ≡ lay l (stateText m I (bytes "I")) → r₁ ≡ lay r₀ (stateText m UC (bytes "UC")) → r₂ ≡ lay r₁ (stateText m UCE (bytes "UCE"))
+    → r₃ ≡ lay r₂ (stateText m UD (bytes "UD")) → r₄ ≡ lay r₃ (stateText m UDP (bytes "UDP")) → r₅ ≡ lay r₄ (stateText m SC (bytes "SC"))
+    → r₆ ≡ lay r₅ (stateText m SD (bytes "SD")) → r₆ ≡ layAll l (statesTexts m)
+unfolding statesTexts
+seven l m e₀ e₁ e₂ e₃ e₄ e₅ e₆ = then _ e₆ (then _ e₅ (then _ e₄ (then _ e₃ (then _ e₂ (then _ e₁ e₀)))))
+
+pub seven-length : {r : Laid} (l : Laid) (m : ℕ) → r ≡ layAll l (statesTexts m) → length (r .out) ≡ length (l .out)
+seven-length l m e = ap (λ (k : Laid). length (k .out)) e ∙ length-lay-all l (statesTexts m)
+
+-- an answer's parts in their order
+pub answered : {r₀ r₁ r₂ r₃ r₄ : Laid} (l : Laid) (k : ℕ) (found : Finding) → r₀ ≡ lay l (decimal k) → r₁ ≡ lay r₀ (verdictPart (found .verdict .0))
+    → r₂ ≡ lay r₁ (dutyPart (found .duty .0)) → r₃ ≡ layAll r₂ (statesTexts (found .after)) → r₄ ≡ lay r₃ eol
+    → r₄ ≡ layAll l (answerTexts k found)
+unfolding answerTexts
+answered l k found e₀ e₁ e₂ e₃ e₄ =
+    then _ e₄ (e₃ ∙ ap (λ (x : Laid). layAll x (statesTexts (found .after))) (then _ e₂ (then _ e₁ e₀)))
+    ∙ sym (lay-all-append _ (statesTexts (found .after)) (eol ∷ []))
+
+-- a refusal's parts in their order
+pub refused : {r₀ r₁ r₂ r₃ r₄ : Laid} (l : Laid) (number line : ℕ) → r₀ ≡ lay l (bytes "refused,") → r₁ ≡ lay r₀ (decimal number) → r₂ ≡ lay r₁ (comma ∷ [])
+    → r₃ ≡ lay r₂ (decimal line) → r₄ ≡ lay r₃ eol → r₄ ≡ layAll l (refusalTexts number line)
+unfolding refusalTexts
+refused l number line e₀ e₁ e₂ e₃ e₄ = then _ e₄ (then _ e₃ (then _ e₂ (then _ e₁ e₀)))
+
+-- the header
+pub headed : {r : Laid} (l : Laid) → r ≡ lay l (bytes "event,verdict,duty,states" ++ eol) → r ≡ lay l headerLine
+unfolding headerLine
+headed l e = e
