@@ -2,9 +2,10 @@
 
 use crate::sheet::{self, Answer};
 use crate::sheet_cases::{Case, Cases};
+use crate::sheet_made::Kind;
 use crate::sheet_run::{self, Arrival, Ran};
-use crate::sheet_sweeps::Kind;
 use std::ffi::OsString;
+use std::ops::Range;
 use std::sync::atomic::{AtomicBool, AtomicUsize, Ordering};
 use std::sync::Arc;
 use std::thread;
@@ -23,7 +24,7 @@ const REFUSALS: [u8; 4] = [3, 6, 7, 8];
 
 /// Compares a program with this one over all the cases, prints what came of it and tells whether all agree.
 pub fn run(cases: &Cases, program: &[OsString]) -> Result<bool, String> {
-    let outcome = compare(cases, |sheet, arrival| {
+    let outcome = compare(cases, 0..cases.total(), |sheet, arrival| {
         sheet_run::run(program, sheet, arrival)
     });
     print!("{}", outcome.report(cases));
@@ -141,18 +142,18 @@ struct Outcome {
     failures: Vec<String>,
 }
 
-/// Compares what a program does with all the cases with this program's own answers.
-fn compare<F>(cases: &Cases, run: F) -> Outcome
+/// Compares what a program makes of some cases with this program's own answers.
+fn compare<F>(cases: &Cases, numbers: Range<usize>, run: F) -> Outcome
 where
     F: Fn(&Arc<Vec<u8>>, Arrival) -> Result<Ran, String> + Sync,
 {
-    let next = AtomicUsize::new(0);
+    let next = AtomicUsize::new(numbers.start);
     let failed = AtomicBool::new(false);
     let part = || {
         let mut outcome = Outcome::default();
         while !failed.load(Ordering::SeqCst) {
             let number = next.fetch_add(1, Ordering::SeqCst);
-            if number >= cases.total() {
+            if number >= numbers.end {
                 break;
             }
             if let Err(failure) = outcome.compare_case(number, cases.case(number), &run) {
@@ -200,7 +201,7 @@ impl Outcome {
         let mut differs = false;
         for arrival in &arrivals {
             let arrived = format!(
-                "sheet {} ({}), {}, {} bytes {}",
+                "sheet {} ({}), {}: {} bytes that arrive {}",
                 number,
                 made.kind.name(),
                 made.how,
@@ -244,8 +245,10 @@ impl Outcome {
     fn report(&self, cases: &Cases) -> String {
         let all = self.all();
         let mut text = format!(
-            "bench sheets, seed {}, {} random sheets\n",
-            cases.seed, cases.random
+            "bench sheets, seed {}, {} random sheets{}\n",
+            cases.seed,
+            cases.random,
+            if cases.once { ", each run once" } else { "" }
         );
         text += "sheets           compared    runs    lines  accepted";
         for number in REFUSALS {
@@ -313,7 +316,10 @@ fn difference(sheet: &[u8], own: &Answer, ran: &Ran) -> Option<String> {
 
 /// The first place in which two outputs to a sheet differ, with the lines there.
 fn output_difference(sheet: &[u8], own: &[u8], other: &[u8]) -> String {
-    let same = own.iter().zip(other).take_while(|(own, other)| own == other);
+    let same = own
+        .iter()
+        .zip(other)
+        .take_while(|(own, other)| own == other);
     let place = same.count();
     let ends = own[..place].windows(2).filter(|two| *two == sheet::CRLF);
     let line = 1 + ends.count();
@@ -337,7 +343,9 @@ fn output_difference(sheet: &[u8], own: &[u8], other: &[u8]) -> String {
 
 /// Where the line begins that a place of an output stands in.
 fn start_of_line(output: &[u8], place: usize) -> usize {
-    let before = output[..place].windows(2).rposition(|two| two == sheet::CRLF);
+    let before = output[..place]
+        .windows(2)
+        .rposition(|two| two == sheet::CRLF);
     before.map_or(0, |end| end + 2)
 }
 
@@ -357,5 +365,166 @@ fn shown(bytes: &[u8]) -> String {
             bytes.len() - SHOWN_BYTES
         ),
         _ => format!("\"{}\"", bytes.escape_ascii()),
+    }
+}
+
+#[cfg(test)]
+mod tests {
+    use super::*;
+    use std::os::unix::process::ExitStatusExt;
+    use std::process::ExitStatus;
+
+    /// The cases of these tests.
+    fn cases() -> Cases {
+        Cases::new(3, 200, false)
+    }
+
+    /// All the numbers of these cases but those of the longest sheets.
+    fn numbers(cases: &Cases) -> Range<usize> {
+        0..cases.total() - 4
+    }
+
+    /// A good run that wrote this.
+    fn wrote(output: Vec<u8>) -> Result<Ran, String> {
+        Ok(Ran {
+            output,
+            complaint: Vec::new(),
+            status: ExitStatus::from_raw(0),
+        })
+    }
+
+    /// This program's own output agrees with it, and every refusal, verdict, duty and way to arrive is among the cases.
+    #[test]
+    fn own_answers_agree() {
+        let cases = cases();
+        let outcome = compare(&cases, numbers(&cases), |bytes, _| {
+            wrote(sheet::answer(bytes).output)
+        });
+        let all = outcome.all();
+        assert_eq!(all.sheets as usize, cases.total() - 4);
+        assert_eq!((all.differ, outcome.runs_that_differ), (0, 0));
+        assert!(outcome.first.is_empty() && outcome.failures.is_empty());
+        assert!(!outcome.all_agree(&cases), "the longest sheets are missing");
+        assert!(outcome.report(&cases).contains("compare: failed, of "));
+        assert_eq!(all.refusals.iter().sum::<u64>() + all.accepted, all.sheets);
+        assert!(all.refusals.iter().all(|count| *count > 50));
+        assert!(all.verdicts.iter().all(|count| *count > 1_000));
+        assert!(all.duties.iter().all(|count| *count > 1_000));
+        assert!(all.arrivals.iter().all(|count| *count > 200));
+        assert_eq!(all.arrivals.iter().sum::<u64>(), all.runs);
+        assert!(outcome.report(&cases).ends_with(" runs, 0 differ\n"));
+    }
+
+    /// A program that answers one sheet wrongly in one way is found, and the place is shown.
+    #[test]
+    fn a_difference_is_shown() {
+        let cases = cases();
+        let first = Arc::new(cases.case(0).made.sheet);
+        let outcome = compare(&cases, 0..40, |bytes, arrival| {
+            let mut output = sheet::answer(bytes).output;
+            if *bytes == first && arrival == Arrival::Pieces(7) {
+                let place = output.len() - 30;
+                output[place] ^= 1;
+            }
+            wrote(output)
+        });
+        assert_eq!((outcome.all().differ, outcome.runs_that_differ), (1, 1));
+        assert!(!outcome.all_agree(&cases));
+        let report = outcome.report(&cases);
+        for line in [
+            "difference 1 of 1: sheet 0 (the example), the example's first 4 events: 305 bytes that arrive 7 bytes at a time",
+            "  the outputs, of 114 and 114 bytes, differ first at byte 84, in line 4",
+            "  sheet's line 4: \"0,SnpClean,0,0,0,Invalid,SnpRespData_SD,Invalid,OK,-,?\"",
+            "  compare: \"2,unexplained,none,\\r\\n\"",
+            "  program: \"2,unexplaindd,none,\\r\\n\"",
+        ] {
+            assert!(report.contains(&format!("{}\n", line)), "{}", report);
+        }
+    }
+
+    /// Any byte that is changed, missing or put in makes a difference.
+    #[test]
+    fn changed_outputs_are_found() {
+        let bytes = cases().case(0).made.sheet;
+        let own = sheet::answer(&bytes);
+        let differs = |output: Vec<u8>| difference(&bytes, &own, &wrote(output).unwrap()).is_some();
+        assert!(!differs(own.output.clone()));
+        for place in 0..own.output.len() {
+            let mut changed = own.output.clone();
+            changed[place] ^= 32;
+            assert!(differs(changed));
+            let mut missing = own.output.clone();
+            missing.remove(place);
+            assert!(differs(missing));
+            let mut more = own.output.clone();
+            more.insert(place, b'x');
+            assert!(differs(more));
+            assert!(differs(own.output[..place].to_vec()));
+        }
+        assert!(differs([&own.output[..], b"x"].concat()));
+        assert!(differs([&own.output[..], &own.output].concat()));
+    }
+
+    /// A complaint or a bad end is a difference, though the output be good.
+    #[test]
+    fn complaints_are_found() {
+        let own = sheet::answer(b"");
+        let mut ran = wrote(own.output.clone()).unwrap();
+        ran.complaint = b"no".to_vec();
+        let told = difference(b"", &own, &ran).unwrap();
+        assert_eq!(told, "  the program complained: \"no\"\n");
+        let mut ran = wrote(own.output.clone()).unwrap();
+        ran.status = ExitStatus::from_raw(256);
+        let told = difference(b"", &own, &ran).unwrap();
+        assert_eq!(told, "  the program ended with exit status: 1\n");
+    }
+
+    /// The first few differences are shown in order, and the others are counted.
+    #[test]
+    fn differences_are_counted() {
+        let cases = cases();
+        let outcome = compare(&cases, 10..40, |_, _| wrote(Vec::new()));
+        assert_eq!(outcome.all().differ, 30);
+        assert_eq!(outcome.runs_that_differ, outcome.all().runs);
+        assert_eq!(outcome.first.len(), SHOWN);
+        assert_eq!(outcome.first[0].number, 10);
+        let numbers: Vec<usize> = outcome.first.iter().map(|first| first.number).collect();
+        assert!(numbers.windows(2).all(|two| two[0] <= two[1]));
+        assert!(outcome.report(&cases).contains("program: \"\"\n"));
+    }
+
+    /// Where a run cannot be made no more are, and the reason is told.
+    #[test]
+    fn failures_end_the_comparison() {
+        let cases = cases();
+        let outcome = compare(&cases, 0..1_000, |_, _| Err("no run".to_string()));
+        assert!(outcome.all().sheets == 0 && outcome.failures.len() <= AT_A_TIME);
+        let report = outcome.report(&cases);
+        assert!(report.contains("failure: sheet 0 (the example), "));
+        assert!(report.contains("through a pipe: no run\n"));
+        assert!(report.ends_with("0 sheets with 0 lines, 0 runs, 0 differ\n"));
+        assert!(!outcome.all_agree(&cases));
+    }
+
+    /// Lines that are long are shown in part.
+    #[test]
+    fn long_lines_are_shown_in_part() {
+        assert_eq!(shown(b"a\0\r\n"), "\"a\\x00\\r\\n\"");
+        assert!(shown(&[b'x'; 171]).ends_with("xx\" and 1 bytes more"));
+        assert!(shown(&[b'x'; 170]).ends_with("xx\""));
+    }
+
+    /// A line of an output is found from any place in it.
+    #[test]
+    fn lines_of_an_output() {
+        let output = b"ab\r\ncd\r\n";
+        for place in 0..4 {
+            assert_eq!(line_from(output, start_of_line(output, place)), b"ab\r\n");
+        }
+        for place in 4..8 {
+            assert_eq!(line_from(output, start_of_line(output, place)), b"cd\r\n");
+        }
+        assert_eq!(line_from(output, start_of_line(output, 8)), b"");
+        assert_eq!(line_from(b"ab", 5), b"");
     }
 }

@@ -20,6 +20,7 @@ mod sheet_borders;
 mod sheet_cases;
 mod sheet_draws;
 mod sheet_lines;
+mod sheet_made;
 mod sheet_run;
 mod sheet_sweeps;
 mod trace;
@@ -36,7 +37,7 @@ use std::process::ExitCode;
 const USAGE: &str = "usage:
   compare event [--seed N] [--random N] -- PROGRAM ARGS..
   compare trace [--seed N] [--random N] -- PROGRAM ARGS..
-  compare sheet [--seed N] [--random N] -- PROGRAM ARGS..
+  compare sheet [--once] [--seed N] [--random N] -- PROGRAM ARGS..
   compare answer event
   compare answer trace
   compare answer sheet";
@@ -86,9 +87,10 @@ fn subcommand(words: &[OsString]) -> Result<bool, String> {
             let cases = trace_cases::Cases::new(asked.seed, asked.random);
             Ok(told(compare_trace::run(cases, asked.program)))
         }
-        (Some("sheet"), _) => {
-            let asked = comparison(&words[1..], RANDOM_SHEETS)?;
-            let cases = sheet_cases::Cases::new(asked.seed, asked.random as usize);
+        (Some("sheet"), first) => {
+            let once = first == Some("--once");
+            let asked = comparison(&words[1 + usize::from(once)..], RANDOM_SHEETS)?;
+            let cases = sheet_cases::Cases::new(asked.seed, asked.random as usize, once);
             Ok(told(compare_sheet::run(&cases, asked.program)))
         }
         (Some("answer"), Some("event")) if words.len() == 2 => {
@@ -209,7 +211,9 @@ mod tests {
             "trace",
             "trace --",
             "sheet",
-            "sheet --seed",
+            "sheet --once",
+            "sheet --seed 1 --once -- judge",
+            "trace --once -- judge",
         ] {
             assert!(subcommand(&words(line)).is_err(), "{}", line);
         }

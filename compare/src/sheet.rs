@@ -301,7 +301,8 @@ mod tests {
     /// The page's example, byte for byte.
     #[test]
     fn the_example() {
-        let sheet = "pair,request,RetToSrc,DoNotGoToSD,excl,tag,response,TagOp,RespErr,forward,final\r\n\
+        let sheet =
+            "pair,request,RetToSrc,DoNotGoToSD,excl,tag,response,TagOp,RespErr,forward,final\r\n\
                      0,SnpShared,0,0,0,Invalid,SnpRespData_SC_PD,Invalid,OK,-,?\r\n\
                      0,SnpShared,1,0,0,Invalid,SnpRespData_SC,Invalid,OK,-,?\r\n\
                      0,SnpClean,0,0,0,Invalid,SnpRespData_SD,Invalid,OK,-,?\r\n\
@@ -352,7 +353,7 @@ mod tests {
         answered(b"\n", refused);
         answered(b"\r\n\r\n", refused);
         answered(TO_HOME.as_bytes(), refused);
-        answered(&[b"x"; 161], refused);
+        answered(&[b'x'; 161], refused);
         for end in 0..no_crlf.len() {
             answered(&no_crlf[..end], refused);
             answered(&[&no_crlf[..end], CRLF].concat(), refused);
@@ -435,8 +436,14 @@ mod tests {
         for commas in 0..=160 {
             refused(&vec![b','; commas], 8);
         }
-        refused(b"0,SnpShared,0,0,0,Invalid,SnpRespData_SC_PD,Invalid,OK,-", 8);
-        refused(b"0,SnpShared,0,0,0,Invalid,SnpRespData_SC_PD,Invalid,OK,-,", 8);
+        refused(
+            b"0,SnpShared,0,0,0,Invalid,SnpRespData_SC_PD,Invalid,OK,-",
+            8,
+        );
+        refused(
+            b"0,SnpShared,0,0,0,Invalid,SnpRespData_SC_PD,Invalid,OK,-,",
+            8,
+        );
         refused(
             b"0,SnpShared,0,0,0,Invalid,SnpRespData_SC_PD,Invalid,OK,-,?,",
             8,
@@ -545,15 +552,17 @@ mod tests {
     #[test]
     fn pair_fields() {
         let line = |pair: &str| format!("{},SnpShared,0,0,0,?,SnpResp_I,Invalid,OK,-,?", pair);
-        for pair in ["0", "1", "9", "10", "99", "100", "999", "1000", "4094", "4095"] {
+        for pair in [
+            "0", "1", "9", "10", "99", "100", "999", "1000", "4094", "4095",
+        ] {
             after_header(line(pair).as_bytes(), "0,explained,none,I\r\n");
         }
         for pair in ["4096", "4097", "5000", "8192", "9999"] {
             refused(line(pair).as_bytes(), 3);
         }
         for pair in [
-            "", "00", "01", "007", "0000", "0001", "04095", "10000", "65535", "65536", "99999", "1a",
-            "a", "-1", "+1", " 1", "1 ", "1/", "1:", "/", ":", "?", "-",
+            "", "00", "01", "007", "0000", "0001", "04095", "10000", "65535", "65536", "99999",
+            "1a", "a", "-1", "+1", " 1", "1 ", "1/", "1:", "/", ":", "?", "-",
         ] {
             refused(line(pair).as_bytes(), 8);
         }
@@ -567,7 +576,11 @@ mod tests {
         refused(b"9999,SnpShared,0,2,0,?,SnpResp_I,Invalid,OK,-,?", 8);
         refused(b"10000,SnpShared,0,0,0,?,SnpResp_I,Invalid,OK,-,?", 8);
         refused(b"4096,SnpShared,0,0,0,?,SnpResp_I,Invalid,OK,-,?", 3);
-        let long = [b"4096,SnpShared,0,0,0,?,SnpResp_I,Invalid,OK,-,?", &[b' '; 114][..]].concat();
+        let long = [
+            b"4096,SnpShared,0,0,0,?,SnpResp_I,Invalid,OK,-,?",
+            &[b' '; 114][..],
+        ]
+        .concat();
         assert_eq!(long.len(), 161);
         refused(&long, 7);
         refused(&long[..160], 8);

@@ -12,8 +12,6 @@ use crate::trace_draws::explained_event;
 pub struct Shape {
     /// How many there are, the header apart.
     pub lines: usize,
-    /// How many pairs they are of.
-    pub pairs: usize,
     /// How many of a thousand lines are strays, which need not be explained.
     pub strays: u64,
     /// How many bytes each has, if all are to be equally long.
@@ -21,28 +19,38 @@ pub struct Shape {
 }
 
 /// Lines without damage, each of any of some pairs.
-pub fn good_lines(draw: &mut Draw, shape: &Shape) -> Vec<Vec<u8>> {
-    let pairs: Vec<usize> = (0..shape.pairs).map(|_| any_pair(draw)).collect();
+pub fn good_lines(draw: &mut Draw, shape: &Shape, pairs: &[usize]) -> Vec<Vec<u8>> {
     let mut order = Draw::new(draw.next(), 0);
-    lines_of_pairs(draw, shape, |_| order.one_of(&pairs))
+    lines_of_pairs(draw, shape, |_, table| {
+        let pair = order.one_of(pairs);
+        // Pairs that are lost or surely in I come less often.
+        match table[pair] {
+            0 | 1 if order.below(3) != 0 => order.one_of(pairs),
+            _ => pair,
+        }
+    })
 }
 
-/// A pair, of few digits as often as of many.
-fn any_pair(draw: &mut Draw) -> usize {
-    let below = draw.one_of(&[10, 100, 1_000, MOST_PAIRS]);
-    draw.place(below)
+/// Some pairs, of few digits as often as of many.
+fn some_pairs(draw: &mut Draw, count: usize) -> Vec<usize> {
+    let mut pairs = Vec::new();
+    for _ in 0..count {
+        let below = draw.one_of(&[10, 100, 1_000, MOST_PAIRS]);
+        pairs.push(draw.place(below));
+    }
+    pairs
 }
 
-/// Lines without damage, of pairs that come in an order.
+/// Lines without damage, of pairs that come in an order that may hang on the table of sets.
 pub fn lines_of_pairs(
     draw: &mut Draw,
     shape: &Shape,
-    mut order: impl FnMut(usize) -> usize,
+    mut order: impl FnMut(usize, &[u8]) -> usize,
 ) -> Vec<Vec<u8>> {
     let mut table = vec![ALL_STATES; MOST_PAIRS];
     let mut lines = Vec::with_capacity(shape.lines);
     while lines.len() < shape.lines {
-        let pair = order(lines.len());
+        let pair = order(lines.len(), &table);
         let line = any_line(draw, pair, table[pair], shape.strays);
         if shape.width.map_or(true, |width| width == line.len()) {
             let (_, event) = sheet::read_fields(&line).expect("a line without damage can be read");
@@ -55,7 +63,7 @@ pub fn lines_of_pairs(
 
 /// A line of a pair that is mostly explained from the pair's set, unless it is a stray.
 fn any_line(draw: &mut Draw, pair: usize, set: u8, strays: u64) -> Vec<u8> {
-    let keeping = draw.below(4) != 0;
+    let keeping = draw.below(2) == 0;
     let mut fields = event_fields(pair, &explained_event(draw, set, keeping));
     if draw.below(1_000) < strays {
         for _ in 0..draw.one_of(&[1, 1, 1, 3]) {
@@ -109,11 +117,11 @@ pub type Drawn = (String, Vec<u8>);
 pub fn good(draw: &mut Draw, lines: usize, pairs: usize) -> Drawn {
     let shape = Shape {
         lines,
-        pairs,
-        strays: draw.one_of(&[0, 50, 150, 400]),
+        strays: draw.one_of(&[0, 20, 100, 300]),
         width: None,
     };
-    let mut parts = Parts::new(good_lines(draw, &shape));
+    let some = some_pairs(draw, pairs);
+    let mut parts = Parts::new(good_lines(draw, &shape, &some));
     let mut how = format!("{} lines of {} pairs", lines, pairs);
     if draw.below(4) == 0 {
         parts.ends[lines].clear();
@@ -126,13 +134,14 @@ pub fn good(draw: &mut Draw, lines: usize, pairs: usize) -> Drawn {
 pub fn damaged(draw: &mut Draw) -> Drawn {
     let shape = Shape {
         lines: 1 + draw.place(8),
-        pairs: 1 + draw.place(3),
         strays: 50,
         width: None,
     };
-    let mut parts = Parts::new(good_lines(draw, &shape));
+    let pairs = some_pairs(draw, 3);
+    let mut parts = Parts::new(good_lines(draw, &shape, &pairs));
     let mut hows = Vec::new();
-    let (to_lines, to_bytes) = draw.one_of(&[(1, 0), (1, 0), (1, 0), (2, 0), (0, 1), (0, 2), (1, 1)]);
+    let (to_lines, to_bytes) =
+        draw.one_of(&[(1, 0), (1, 0), (1, 0), (2, 0), (0, 1), (0, 2), (1, 1)]);
     if draw.below(4) == 0 {
         parts.ends[shape.lines].clear();
         hows.push("no last CRLF".to_string());
@@ -193,7 +202,11 @@ fn damage_line(draw: &mut Draw, parts: &mut Parts) -> String {
         }
         6 => {
             let (lines, ends) = (&mut parts.lines, &mut parts.ends);
-            lines.insert(n, draw.one_of(&[&b""[..], b"", b"\r", b"\n", HEADER.as_bytes()]).to_vec());
+            lines.insert(
+                n,
+                draw.one_of(&[&b""[..], b"", b"\r", b"\n", HEADER.as_bytes()])
+                    .to_vec(),
+            );
             ends.insert(n, CRLF.to_vec());
             "a line put before it"
         }
@@ -209,7 +222,9 @@ fn damage_line(draw: &mut Draw, parts: &mut Parts) -> String {
 
 /// The fields of a line, were it one.
 fn fields_of(line: &[u8]) -> Vec<Vec<u8>> {
-    line.split(|byte| *byte == b',').map(<[u8]>::to_vec).collect()
+    line.split(|byte| *byte == b',')
+        .map(<[u8]>::to_vec)
+        .collect()
 }
 
 /// A field that a column probably doesn't know, often near the one that stood there.
@@ -228,7 +243,10 @@ fn strange_name(draw: &mut Draw, column: usize, field: &[u8]) -> Vec<u8> {
             name = draw.one_of(&names(other)).into();
         }
         _ => {
-            let mut other = draw.one_of(&names(column.min(FIELDS - 1))).as_bytes().to_vec();
+            let mut other = draw
+                .one_of(&names(column.min(FIELDS - 1)))
+                .as_bytes()
+                .to_vec();
             other.truncate(1 + draw.place(other.len()));
             name.extend(other);
         }
@@ -316,4 +334,84 @@ pub fn anything(draw: &mut Draw) -> Drawn {
         }
     }
     (format!("up to {} names and bytes", parts), bytes)
+}
+
+#[cfg(test)]
+mod tests {
+    use super::*;
+    use crate::sheet::answer;
+
+    /// Sheets without damage are accepted, and most of their lines are explained.
+    #[test]
+    fn good_sheets() {
+        let mut verdicts = [0; 3];
+        let mut duties = [0; 4];
+        let mut unended = 0;
+        for number in 0..300 {
+            let draw = &mut Draw::new(1, number);
+            let lines = draw.place(60);
+            let (_, sheet) = good(draw, lines, 9);
+            let own = answer(&sheet);
+            assert_eq!((own.lines, own.refusal), (1 + lines, None));
+            for (sum, count) in verdicts.iter_mut().zip(own.verdicts) {
+                *sum += count;
+            }
+            for (sum, count) in duties.iter_mut().zip(own.duties) {
+                *sum += count;
+            }
+            if !sheet.ends_with(CRLF) {
+                unended += 1;
+            }
+        }
+        assert!(verdicts[0] > 3_000 && verdicts[0] > 2 * verdicts[2]);
+        assert!(verdicts[1] > 300 && verdicts[2] > 300);
+        assert!(duties.iter().all(|count| *count > 100), "{:?}", duties);
+        assert!(unended > 40);
+    }
+
+    /// Lines that are to be equally long are.
+    #[test]
+    fn equally_long_lines() {
+        let shape = Shape {
+            lines: 100,
+            strays: 100,
+            width: Some(60),
+        };
+        let lines = good_lines(&mut Draw::new(1, 1), &shape, &[5, 77]);
+        assert_eq!(lines.len(), 100);
+        assert!(lines.iter().all(|line| line.len() == 60));
+    }
+
+    /// Sheets with damage are mostly refused, with each number that there is, often after some answers.
+    #[test]
+    fn damaged_sheets() {
+        let mut refused = [0; 9];
+        let mut later = 0;
+        for number in 0..2_000 {
+            let (how, sheet) = damaged(&mut Draw::new(2, number));
+            assert!(!how.is_empty());
+            let own = answer(&sheet);
+            refused[own.refusal.map_or(0, |refusal| usize::from(refusal.number))] += 1;
+            if own.refusal.map_or(false, |refusal| refusal.line > 2) {
+                later += 1;
+            }
+        }
+        assert_eq!(refused.iter().sum::<u64>(), 2_000);
+        assert!(refused[0] > 50 && refused[8] > 1_000 && later > 500);
+        assert!(refused[3] > 20 && refused[6] > 50 && refused[7] > 50);
+    }
+
+    /// Anything holds sheets of many kinds.
+    #[test]
+    fn any_sheets() {
+        let mut refused = [0; 9];
+        for number in 0..1_000 {
+            let (_, sheet) = anything(&mut Draw::new(3, number));
+            let refusal = answer(&sheet).refusal;
+            refused[refusal.map_or(0, |refusal| usize::from(refusal.number))] += 1;
+        }
+        for number in [0, 6, 7, 8] {
+            assert!(refused[number] > 10, "{}", number);
+        }
+    }
 }

@@ -29,9 +29,6 @@ pub const AFTER: &str = "1,SnpShared,0,0,0,?,SnpResp_SC,Invalid,OK,-,SC";
 /// How many bytes the shortest line of known names has.
 pub const SHORTEST: usize = 41;
 
-/// How many bytes the longest line of known names has.
-pub const LONGEST: usize = 100;
-
 /// The names that a column knows, or some pair numbers of each length.
 pub fn names(column: usize) -> Vec<&'static str> {
     match column {
@@ -54,7 +51,10 @@ pub fn column_name(column: usize) -> &'static str {
 
 /// The fields of a plain line.
 pub fn plain() -> Vec<Vec<u8>> {
-    PLAIN.iter().map(|field| field.as_bytes().to_vec()).collect()
+    PLAIN
+        .iter()
+        .map(|field| field.as_bytes().to_vec())
+        .collect()
 }
 
 /// The line of some fields.
@@ -69,12 +69,7 @@ pub fn plain_with(column: usize, field: &[u8]) -> Vec<u8> {
     line(&fields)
 }
 
-/// The line of a pair's event, whose answer to Home and forward have names.
-pub fn event_line(pair: usize, event: &Event) -> Vec<u8> {
-    line(&event_fields(pair, event))
-}
-
-/// The fields of that line.
+/// The fields of a line about a pair's event, whose answer to Home and forward have names.
 pub fn event_fields(pair: usize, event: &Event) -> Vec<Vec<u8>> {
     let bytes = event.bytes();
     let pair = pair.to_string();
@@ -91,7 +86,10 @@ pub fn event_fields(pair: usize, event: &Event) -> Vec<Vec<u8>> {
         forward_name(&bytes),
         names(10)[usize::from(event.after)],
     ];
-    fields.iter().map(|field| field.as_bytes().to_vec()).collect()
+    fields
+        .iter()
+        .map(|field| field.as_bytes().to_vec())
+        .collect()
 }
 
 /// A line of known names that has this length, which is from the shortest to the longest.
@@ -143,6 +141,9 @@ mod tests {
     use crate::cases;
     use crate::sheet::answer;
 
+    /// How many bytes the longest line of known names has.
+    const LONGEST: usize = 100;
+
     /// A line of each length from the shortest to the longest is good and has it.
     #[test]
     fn lines_of_a_length() {
@@ -166,7 +167,7 @@ mod tests {
         while number < cases::COMBINATIONS {
             let bytes = cases::combination(number);
             let event = Event::read(&bytes).unwrap();
-            let own = answer(&sheet(&[event_line(4_095, &event)]));
+            let own = answer(&sheet(&[line(&event_fields(4_095, &event))]));
             assert_eq!(own.refusal, None);
             let explained = crate::event::alone(&bytes).has_a_step();
             assert_eq!(own.verdicts, if explained { [1, 0, 0] } else { [0, 1, 0] });

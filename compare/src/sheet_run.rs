@@ -32,7 +32,7 @@ pub enum Arrival {
     Pipe,
     /// Out of a file.
     File,
-    /// So many bytes with each read.
+    /// So many bytes with each read, of which those are lost that the read has no room for.
     Pieces(usize),
     /// With each read as many bytes as are drawn from this seed, often up to a CR.
     AnyPieces(u64),
@@ -91,7 +91,8 @@ pub fn run(program: &[OsString], sheet: &Arc<Vec<u8>>, arrival: Arrival) -> Resu
             None
         }
         Arrival::File => {
-            let input = file_of(sheet).map_err(|error| format!("no file can be made: {}", error))?;
+            let input =
+                file_of(sheet).map_err(|error| format!("no file can be made: {}", error))?;
             command.stdin(input);
             None
         }
@@ -108,10 +109,14 @@ pub fn run(program: &[OsString], sheet: &Arc<Vec<u8>>, arrival: Arrival) -> Resu
     // The program alone holds its end now, so that sending fails once it has ended.
     drop(command);
 
-    let deadline = Instant::now() + PATIENCE + Duration::from_secs(sheet.len() as u64 / BYTES_A_SECOND);
+    let deadline =
+        Instant::now() + PATIENCE + Duration::from_secs(sheet.len() as u64 / BYTES_A_SECOND);
     let output = child.stdout.take().ok_or("the program has no output")?;
     let output = all_of(output);
-    let complaint = child.stderr.take().ok_or("the program has no way to complain")?;
+    let complaint = child
+        .stderr
+        .take()
+        .ok_or("the program has no way to complain")?;
     let complaint = all_of(complaint);
     let input = child.stdin.take();
     let sheet = Arc::clone(sheet);
@@ -161,7 +166,9 @@ fn finish(
                 })
             }
             Ok(None) if Instant::now() < deadline => thread::sleep(pause),
-            Ok(None) => return Err("the program did not end after its output and was stopped".to_string()),
+            Ok(None) => {
+                return Err("the program did not end after its output and was stopped".to_string())
+            }
             Err(error) => return Err(format!("the program's end is not known: {}", error)),
         }
         pause = (2 * pause).min(Duration::from_millis(5));
@@ -182,7 +189,11 @@ fn all_of(mut from: impl Read + Send + 'static) -> Receiver<io::Result<Vec<u8>>>
 
 /// A file that holds a sheet, and that is gone when nobody reads it any more.
 fn file_of(sheet: &[u8]) -> io::Result<Stdio> {
-    let name = format!("compare-sheet-{}-{:?}", process::id(), thread::current().id());
+    let name = format!(
+        "compare-sheet-{}-{:?}",
+        process::id(),
+        thread::current().id()
+    );
     let path = env::temp_dir().join(name);
     let mut file = OpenOptions::new()
         .read(true)
@@ -228,4 +239,112 @@ fn pieces(sheet: &[u8], arrival: Arrival) -> Vec<&[u8]> {
         rest = more;
     }
     pieces
+}
+
+#[cfg(test)]
+mod tests {
+    use super::*;
+
+    /// Every way in which a sheet can arrive.
+    const WAYS: [Arrival; 7] = [
+        Arrival::Pipe,
+        Arrival::File,
+        Arrival::Pieces(1),
+        Arrival::Pieces(7),
+        Arrival::Pieces(4_095),
+        Arrival::AnyPieces(1),
+        Arrival::AnyPieces(2),
+    ];
+
+    /// Runs a program of these words on some bytes.
+    fn ran(words: &[&str], bytes: Vec<u8>, arrival: Arrival) -> Ran {
+        let program: Vec<OsString> = words.iter().map(OsString::from).collect();
+        run(&program, &Arc::new(bytes), arrival).unwrap()
+    }
+
+    /// The pieces together are the sheet, none is empty, and all are as long as they have to be.
+    #[test]
+    fn pieces_are_the_sheet() {
+        let sheet = b"a\r\nbc\r\nd\r\r\n".repeat(900);
+        for bytes in [1, 7, 4_095, 20_000] {
+            let pieces = pieces(&sheet, Arrival::Pieces(bytes));
+            assert_eq!(pieces.concat(), sheet);
+            let last = pieces.len() - 1;
+            assert!(pieces[..last].iter().all(|piece| piece.len() == bytes));
+        }
+        let mut lengths = Vec::new();
+        let mut after_cr = 0;
+        for seed in 0..50 {
+            let pieces = pieces(&sheet, Arrival::AnyPieces(seed));
+            assert_eq!(pieces.concat(), sheet);
+            lengths.extend(pieces.iter().map(|piece| piece.len()));
+            after_cr += pieces.iter().filter(|piece| piece.ends_with(b"\r")).count();
+        }
+        assert!(lengths
+            .iter()
+            .all(|length| (1..=LONGEST_PIECE).contains(length)));
+        assert!(lengths.iter().any(|length| *length > 3_000));
+        assert!(after_cr > 10_000);
+        assert!(pieces(b"", Arrival::Pieces(1)).is_empty());
+        assert!(pieces(b"", Arrival::AnyPieces(1)).is_empty());
+    }
+
+    /// A program gets the whole sheet whichever way it arrives, be it empty or long.
+    #[test]
+    fn sheets_arrive() {
+        for arrival in WAYS {
+            for length in [0, 1, 100, 5_000] {
+                let bytes: Vec<u8> = (0..length).map(|n| (n % 251) as u8).collect();
+                let ran = ran(&["cat"], bytes.clone(), arrival);
+                assert_eq!(ran.output, bytes);
+                assert!(ran.complaint.is_empty() && ran.status.success());
+            }
+        }
+        let bytes = vec![b'x'; 1_000_000];
+        for arrival in [Arrival::Pipe, Arrival::File, Arrival::Pieces(4_095)] {
+            assert_eq!(ran(&["cat"], bytes.clone(), arrival).output, bytes);
+        }
+    }
+
+    /// A program that ends early is no trouble, whichever way the sheet arrives.
+    #[test]
+    fn early_ends() {
+        for arrival in WAYS {
+            let ran = ran(&["true"], vec![b'x'; 300_000], arrival);
+            assert!(ran.output.is_empty() && ran.status.success());
+        }
+    }
+
+    /// What a program complains of and how it ends is told.
+    #[test]
+    fn complaints_and_ends() {
+        for arrival in WAYS {
+            let script = "cat >/dev/null; echo out; echo no >&2; exit 3";
+            let ran = ran(&["sh", "-c", script], b"x".to_vec(), arrival);
+            assert_eq!(ran.output, b"out\n");
+            assert_eq!(ran.complaint, b"no\n");
+            assert_eq!(ran.status.code(), Some(3));
+        }
+    }
+
+    /// A program that is not there cannot be run.
+    #[test]
+    fn no_program() {
+        let sheet = Arc::new(Vec::new());
+        for words in [&[][..], &["/no/such/program".into()]] {
+            assert!(run(words, &sheet, Arrival::Pipe).is_err());
+        }
+    }
+
+    /// Each way has a name, and those counted apart have places of their own.
+    #[test]
+    fn ways_have_names() {
+        assert_eq!(Arrival::Pieces(7).name(), "7 bytes at a time");
+        assert_eq!(Arrival::Pieces(4_095).name(), "4095 bytes at a time");
+        for arrival in [Arrival::Pipe, Arrival::File, Arrival::AnyPieces(3)] {
+            assert_eq!(arrival.name(), Arrival::NAMES[arrival.place()]);
+        }
+        assert_eq!(Arrival::Pieces(1).place(), Arrival::Pieces(7).place());
+        assert_ne!(Arrival::Pieces(1).place(), Arrival::Pieces(4_095).place());
+    }
 }

@@ -6,9 +6,9 @@ use mathlib.Core.Bool.{Bool, true, false, cond, not, _&&_, true≢false, false�
 use mathlib.Core.List.{List, [], _∷_, map}
 use mathlib.Core.Logic.{_↔_, _⊎_, inl, inr}
 use Prim.Native.Nat.{ℕ, zero, suc, _+_, _*_, _-_, _^_, _<_, _≤_}
-use native.Mathlib.Nat.{pow-suc, lt-of-lt-of-le, mul-le-mul-right, mul-assoc, mul-comm, pow-le-pow-right}
+use native.Mathlib.Nat.{pow-suc, le-trans, lt-of-lt-of-le, mul-le-mul-right, mul-assoc, mul-comm, pow-le-pow-right}
 use native.Mathlib.Omega.{arith}
-use borrow.Author.Tests.{eqb-true, eqb-false, eq-eqb, ltb-true, leb-true, not-true}
+use borrow.Author.Tests.{eqb-true, eqb-false, eq-eqb, ltb-true, ltb-false, lt-ltb, leb-true, not-true}
 use lib.Dec.{eqb, ltb, leb}
 use lib.ListN.{length, getD, take}
 use Rattle.text.specs.Text.{bytes}
@@ -205,6 +205,22 @@ four-long f h =
     let c = b && leb (length f) 4 in
     leb-true (length f) 4 (and-right b (leb (length f) 4) (and-left c (not (leadingZero f)) h))
 
+some-digit : (f : List ℕ) → isPair f ≡ true → 0 < length f
+unfolding isPair
+some-digit f h =
+    let a = all isDigit f in
+    let b = a && ltb 0 (length f) in
+    let c = b && leb (length f) 4 in
+    ltb-true 0 (length f) (and-right a (ltb 0 (length f)) (and-left b (leb (length f) 4) (and-left c (not (leadingZero f)) h)))
+
+not-zero : (d : ℕ) (ds : List ℕ) → isPair (d ∷ ds) ≡ true → 1 < length (d ∷ ds) → d ≡ 48 → ⊥
+unfolding isPair
+not-zero d ds h l e =
+    let c = all isDigit (d ∷ ds) && ltb 0 (length (d ∷ ds)) && leb (length (d ∷ ds)) 4 in
+    true≢false
+    (sym (and-both (eq-eqb d 48 e) (lt-ltb 1 (length (d ∷ ds)) l))
+    ∙ not-true (leadingZero (d ∷ ds)) (and-right c (not (leadingZero (d ∷ ds))) h))
+
 -- what every entry passes, and what stands past the last, an entry looked up passes
 getD-all {ℓ} : {A : Type ℓ} (p : A → Bool) (l : List A) (d : A) → all p l ≡ true → p d ≡ true → (i : ℕ) → p (getD l i d) ≡ true
 getD-all p [] d h k i = k
@@ -216,16 +232,92 @@ entries : List (List ℕ)
 entries = map (λ (a : Answer). take 4 (wire a)) answers
 
 -- a pair's number has at most four digits
+few-digits : (f : List ℕ) → isPair f ≡ true → decimal 0 f < 10000
+few-digits f h =
+    let le : 10 ^ length f ≤ 10 ^ 4 = pow-le-pow-right (omega arith) (four-long f h) in
+    omega (arith, le, decimal-below 0 f (all-digits f h))
+
 pub pair-below : (f : List ℕ) → (pairOf f ≡ unknown) ⊎ (pairOf f < 10000)
 unfolding pairOf
 pair-below f = go (isPair f) refl
   where
-    few : length f ≤ 4 → decimal 0 f < (0 + 1) * 10 ^ length f → decimal 0 f < 10000
-    few h k = let le : 10 ^ length f ≤ 10 ^ 4 = pow-le-pow-right (omega arith) h in omega arith
-
     go : (b : Bool) → isPair f ≡ b → (cond b (decimal 0 f) unknown ≡ unknown) ⊎ (cond b (decimal 0 f) unknown < 10000)
     go false h = inl refl
-    go true h = inr (few (four-long f h) (decimal-below 0 f (all-digits f h)))
+    go true h = inr (few-digits f h)
+
+-- a digit's bounds
+low : (d : ℕ) → isDigit d ≡ true → 48 ≤ d
+low d h = leb-true 48 d (and-left (leb 48 d) (leb d 57) h)
+
+high : (d : ℕ) → isDigit d ≡ true → d ≤ 57
+high d h = leb-true d 57 (and-right (leb 48 d) (leb d 57) h)
+
+-- equally many digits that are one number are the same digits
+same-digits : (v w : ℕ) (f g : List ℕ) → length f ≡ length g → all isDigit f ≡ true → all isDigit g ≡ true → decimal v f ≡ decimal w g → (v ≡ w) × (f ≡ g)
+unfolding decimal
+same-digits v w [] [] l p q h = (h, refl)
+same-digits v w [] (e ∷ es) l p q h = absurd (omega (arith, l))
+same-digits v w (d ∷ ds) [] l p q h = absurd (omega (arith, l))
+same-digits v w (d ∷ ds) (e ∷ es) l p q h =
+    let dp = and-left (isDigit d) (all isDigit ds) p in
+    let ep = and-left (isDigit e) (all isDigit es) q in
+    let r = same-digits (v * 10 + (d - 48)) (w * 10 + (e - 48)) ds es (omega (arith, l)) (and-right (isDigit d) (all isDigit ds) p) (and-right (isDigit e) (all isDigit es) q) h in
+    let first : d ≡ e = omega (arith, r .0, low d dp, high d dp, low e ep, high e ep) in
+    let rest : ds ≡ es = r .1 in
+    (omega (arith, r .0, low d dp, high d dp, low e ep, high e ep), cc)
+
+-- digits read on from v make v times as much at least
+decimal-above : (v : ℕ) (f : List ℕ) → v * 10 ^ length f ≤ decimal v f
+unfolding decimal
+decimal-above v [] = omega arith
+decimal-above v (d ∷ ds) =
+    rw pow-suc
+    (le-trans
+    (subst (λ (n : ℕ). n ≤ (v * 10 + (d - 48)) * 10 ^ length ds) (mul-assoc v 10 (10 ^ length ds) ∙ ap (λ (n : ℕ). v * n) (mul-comm 10 (10 ^ length ds))) (mul-le-mul-right (10 ^ length ds) (omega arith)))
+    (decimal-above (v * 10 + (d - 48)) ds))
+
+-- no digits are fewer and the same number
+shorter : (f g : List ℕ) → isPair f ≡ true → isPair g ≡ true → length f < length g → decimal 0 f ≡ decimal 0 g → ⊥
+unfolding decimal
+shorter f [] p q l h = omega arith
+shorter f (e ∷ es) p q l h =
+    let digit = low e (and-left (isDigit e) (all isDigit es) (all-digits (e ∷ es) q)) in
+    let long = some-digit f p in
+    let more : 1 * 10 ^ length es ≤ (0 * 10 + (e - 48)) * 10 ^ length es = mul-le-mul-right (10 ^ length es) (omega (arith, digit, not-zero e es q (omega (arith, long, l)))) in
+    let above = decimal-above (0 * 10 + (e - 48)) es in
+    let below = decimal-below 0 f (all-digits f p) in
+    let wide : 10 ^ length f ≤ 10 ^ length es = pow-le-pow-right (omega arith) (omega (arith, l)) in
+    omega (arith, more, above, below, wide, h)
+
+-- good fields of one number are the same field
+one-field : (f g : List ℕ) → isPair f ≡ true → isPair g ≡ true → decimal 0 f ≡ decimal 0 g → f ≡ g
+one-field f g p q h = go (ltb (length f) (length g)) refl (ltb (length g) (length f)) refl
+  where
+    go : (a : Bool) → ltb (length f) (length g) ≡ a → (b : Bool) → ltb (length g) (length f) ≡ b → f ≡ g
+    go true k b l = absurd (shorter f g p q (ltb-true (length f) (length g) k) h)
+    go false k true l = absurd (shorter g f q p (ltb-true (length g) (length f) l) (sym h))
+    go false k false l =
+        same-digits 0 0 f g (omega (arith, ltb-false (length f) (length g) k, ltb-false (length g) (length f) l)) (all-digits f p) (all-digits g q) h .1
+
+-- a pair has one field: no two that are known are of one number
+pub pair-one-field : (f g : List ℕ) → pairOf f ≡ pairOf g → (pairOf f ≡ unknown → ⊥) → f ≡ g
+unfolding pairOf
+pair-one-field f g h k = go (isPair f) refl (isPair g) refl h k
+  where
+    go : (a : Bool) → isPair f ≡ a → (b : Bool) → isPair g ≡ b → cond a (decimal 0 f) unknown ≡ cond b (decimal 0 g) unknown
+        → (cond a (decimal 0 f) unknown ≡ unknown → ⊥) → f ≡ g
+    go true p true q l m = one-field f g p q l
+    go true p false q l m = absurd (m l)
+    go false p b q l m = absurd (m refl)
+
+-- the field is unknown exactly when it isn't 1 to 4 digits without a leading zero
+pub pair-unknown : (f : List ℕ) → (pairOf f ≡ unknown) ↔ (isPair f ≡ false)
+unfolding pairOf
+pair-unknown f = (to (isPair f) refl, λ h. ap (λ (b : Bool). cond b (decimal 0 f) unknown) h)
+  where
+    to : (b : Bool) → isPair f ≡ b → cond b (decimal 0 f) unknown ≡ unknown → b ≡ false
+    to false p h = refl
+    to true p h = absurd (omega (arith, h, few-digits f p))
 
 -- below which number the codes of each column lie
 abbrev pub limits : List ℕ

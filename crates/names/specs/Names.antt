@@ -16,6 +16,7 @@ pub record Named : Type 0 where
   pub name : List ℕ
   pub code : ℕ
 
+-- a name as it is written, with its code
 abbrev pub named : String → ℕ → Named
 named text code = record { name = bytes text; code = code }
 
@@ -29,6 +30,7 @@ codeOf [] field = unknown
 codeOf (n ∷ ns) field = cond (same field (n .name)) (n .code) (codeOf ns field)
 
 -- The columns' names, in the order of the sheet's header.
+-- the requests that are judged
 unfoldable pub requestNames : List Named
 requestNames =
     named "SnpShared" SnpShared ∷
@@ -44,6 +46,7 @@ requestNames =
 unfoldable pub flagNames : List Named
 flagNames = named "0" 0 ∷ named "1" 1 ∷ []
 
+-- the tag states, and ? for one that was not seen
 unfoldable pub tagNames : List Named
 tagNames = named "Invalid" tagInvalid ∷ named "Clean" tagClean ∷ named "Dirty" tagDirty ∷ named "?" tagNotSeen ∷ []
 
@@ -52,9 +55,11 @@ pub record Response : Type 0 where
   pub name : List ℕ
   pub answer : Answer
 
+-- a response as its name is written, with its answer
 abbrev pub response : String → Answer → Response
 response text answer = record { name = bytes text; answer = answer }
 
+-- the responses, without a forward first
 unfoldable pub responses : List Response
 responses =
     response "SnpResp_I" SnpResp-I ∷
@@ -86,6 +91,7 @@ abbrev pub numbered : ℕ → List Response → List Named
 numbered k [] = []
 numbered k (r ∷ rs) = record { name = r .name; code = k } ∷ numbered (suc k) rs
 
+-- the responses as names with codes
 unfoldable pub responseNames : List Named
 responseNames = numbered 0 responses
 
@@ -97,13 +103,15 @@ answers = map (λ (r : Response). r .answer) responses
 unfoldable pub answerBytes : ℕ → List ℕ
 answerBytes place = getD (map (λ (a : Answer). take 4 (wire a)) answers) place (0 ∷ 0 ∷ 0 ∷ 0 ∷ [])
 
+-- TagOp
 unfoldable pub tagOpNames : List Named
 tagOpNames = named "Invalid" opInvalid ∷ named "Transfer" opTransfer ∷ named "Update" opUpdate ∷ named "Match" opMatch ∷ []
 
+-- RespErr
 unfoldable pub respErrNames : List Named
 respErrNames = named "OK" OK ∷ named "EXOK" EXOK ∷ named "DERR" DERR ∷ named "NDERR" NDERR ∷ []
 
--- by FwdState, 0 for no forward
+-- the forwarded data by its FwdState, and - for no forward
 unfoldable pub forwardNames : List Named
 forwardNames =
     named "-" 0 ∷
@@ -113,6 +121,7 @@ forwardNames =
     named "CompData_SD_PD" Fwd-SD-PD ∷
     []
 
+-- the states after, and ? for one that was not seen
 unfoldable pub finalNames : List Named
 finalNames =
     named "I" I ∷
@@ -125,13 +134,16 @@ finalNames =
     named "?" stateNotSeen ∷
     []
 
--- The pair's field is a number, not a name. Digits are the bytes 48 to 57.
+-- The pair's field is a number, not a name.
+-- the first of the bytes that are digits
 abbrev pub zeroDigit : ℕ
 zeroDigit = 48
 
+-- the last of them
 abbrev pub nineDigit : ℕ
 nineDigit = 57
 
+-- the byte is a digit
 abbrev pub isDigit : ℕ → Bool
 isDigit b = leb zeroDigit b && leb b nineDigit
 

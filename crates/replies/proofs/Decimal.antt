@@ -1,14 +1,14 @@
 -- Laws of numbers in decimal, and of the loops that count and spell their digits.
 -- Assumes nothing.
-use mathlib.Core.Path.{_≡_, refl, sym, _∙_, ap, ap₂, subst}
+use mathlib.Core.Path.{_≡_, refl, sym, _∙_, ap, ap₂}
 use mathlib.Core.Bool.{Bool, true, false, cond}
 use mathlib.Core.List.{List, [], _∷_, _++_, append-assoc}
-use Prim.Native.Nat.{ℕ, zero, suc, _+_, _-_, _*_, _/_, _%_, _^_, _≤_, _<_}
+use Prim.Native.Nat.{ℕ, zero, suc, _+_, _-_, _/_, _%_, _^_, _≤_, _<_}
 use native.Mathlib.Nat.{mod-eq-of-lt, pow-succ'}
 use native.Mathlib.Omega.{arith}
-use borrow.Author.Tests.{lt-ltb, le-ltb, ltb-true, ltb-false}
+use borrow.Author.Tests.{lt-ltb, le-ltb}
 use lib.Dec.{ltb}
-use lib.ListN.{length, take, drop, set, length-append, length-set, take-append-drop}
+use lib.ListN.{length, take, drop, set, length-append, length-set}
 use lib.Seq.{take-set-le, drop-cons, drop-set-lt, getD-set-same, set-split, append-snoc}
 use Rattle.replies.specs.Replies.{digit, decimalIn, decimal}
 
@@ -57,7 +57,7 @@ short-in : (k f n : ℕ) → n < 10 ^ suc k → length (decimalIn f n) ≤ suc k
 short-in k zero n h = omega arith
 short-in zero (suc f) n h =
     let e : length (decimalIn (suc f) n) ≡ 1 =
-        ap (λ (b : Bool). length (cond b (digit n ∷ []) (decimalIn f (n / 10) ++ digit (n % 10) ∷ []))) (lt-ltb n 10 h) in
+    ap (λ (b : Bool). length (cond b (digit n ∷ []) (decimalIn f (n / 10) ++ digit (n % 10) ∷ []))) (lt-ltb n 10 h) in
     omega arith
 short-in (suc k) (suc f) n h =
     short-by (ltb n 10) (suc k) f n (short-in k f (n / 10) (omega (arith, pow-succ' 10 (suc k))))
@@ -81,7 +81,7 @@ counting-start n h = record { counted = refl; few = h; room = omega arith }
 pub counting-next : {n k rest : ℕ} → n < most → Counting n k rest → 9 < rest → Counting n (k + 1) (rest / 10)
 counting-next {n} {k} {rest} small c h =
     let e : length (decimal rest) ≡ length (decimal (rest / 10)) + 1 =
-        ap length (decimal-step rest h (c .few)) ∙ length-append (decimal (rest / 10)) (digit (rest % 10) ∷ []) in
+    ap length (decimal-step rest h (c .few)) ∙ length-append (decimal (rest / 10)) (digit (rest % 10) ∷ []) in
     let counted : k + 1 + length (decimal (rest / 10)) ≡ 1 + length (decimal n) = omega (arith, c .counted) in
     let few : rest / 10 < most = omega (arith, c .few) in
     record { counted = counted; few = few; room = omega (arith, decimal-one (rest / 10), decimal-short 19 n small) }
@@ -109,9 +109,9 @@ stored : (at j d : ℕ) (out s : List ℕ) → at + j < length out
 stored at j d out s h =
     let next : suc (at + j) ≡ at + (j + 1) = omega arith in
     let behind : drop (at + j) (set out (at + j) d) ≡ d ∷ drop (at + (j + 1)) out =
-        drop-cons (set out (at + j) d) (at + j) 0 (simp length-set (omega arith))
-        ∙ ap₂ (λ (a : ℕ) (b : List ℕ). a ∷ b) (getD-set-same out (at + j) d 0 h)
-            (drop-set-lt (suc (at + j)) out (at + j) d (omega arith) ∙ ap (λ (m : ℕ). drop m out) next) in
+    drop-cons (set out (at + j) d) (at + j) 0 (simp length-set (omega arith))
+    ∙ ap₂ (λ (a : ℕ) (b : List ℕ). a ∷ b) (getD-set-same out (at + j) d 0 h)
+    (drop-set-lt (suc (at + j)) out (at + j) d (omega arith) ∙ ap (λ (m : ℕ). drop m out) next) in
     ap₂ (λ (a b : List ℕ). a ++ s ++ b) (take-set-le at out (at + j) d (omega arith)) behind
     ∙ append-assoc (take at out) s (d ∷ drop (at + (j + 1)) out)
     ∙ ap (λ (b : List ℕ). take at out ++ b) (sym (append-assoc s (d ∷ []) (drop (at + (j + 1)) out)))
@@ -135,9 +135,9 @@ spelling-next {out₀} {out} {at} {k} {n} {i} {rest} c h =
       fits = omega (arith, decimal-one rest);
       long = kept ∙ c .long;
       so =
-        stored at j d out (decimal (rest / 10)) (omega (arith, decimal-one rest))
-        ∙ ap₂ (λ (s : List ℕ) (m : ℕ). take at out ++ s ++ drop (at + m) out) (sym step) back
-        ∙ c .so
+          stored at j d out (decimal (rest / 10)) (omega (arith, decimal-one rest))
+          ∙ ap₂ (λ (s : List ℕ) (m : ℕ). take at out ++ s ++ drop (at + m) out) (sym step) back
+          ∙ c .so;
     }
 
 -- the first digit is stored last

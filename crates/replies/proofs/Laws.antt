@@ -1,19 +1,20 @@
 -- The laws for whoever puts lines into a buffer: what laying does, that the parts of a line make the line, how long a line can be,
 -- and what a buffer with room holds after one. Assumes nothing.
-use mathlib.Core.Path.{_≡_, refl, sym, _∙_, ap, ap₂}
+use mathlib.Core.Path.{_≡_, refl, sym, _∙_, ap}
 use mathlib.Core.Bool.{Bool, true, false, cond}
 use mathlib.Core.List.{List, [], _∷_, _++_, append-assoc, append-nil}
 use Prim.Native.Nat.{ℕ, _+_, _%_, _^_, _≤_, _<_}
-use native.Mathlib.Nat.{le-trans}
+use native.Mathlib.Nat.{le-trans, le-of-eq, add-le-add}
 use native.Mathlib.Omega.{arith}
 use lib.Dec.{eqb}
 use lib.ListN.{length, take, drop, length-append}
+use Rattle.kinds.specs.Codes.{I, UC, UCE, UD, UDP, SC, SD}
 use Rattle.sets.specs.Sets.{bit}
 use Rattle.steps.specs.Steps.{noDuty, Home, Requester}
 use Rattle.verdicts.specs.Verdicts.{explained, unexplained}
 use Rattle.verdicts.specs.declared.Finding.{Finding}
 use Rattle.text.specs.Text.{bytes, comma, eol}
-use Rattle.replies.specs.Laid.{Laid, laid, lay, layAll, concat}
+use Rattle.replies.specs.Laid.{laid, lay, layAll, concat}
 use Rattle.replies.specs.Replies.{space, decimal, verdictText, dutyText, statesText, headerLine, answerLine, refusedLine, stateText, statesTexts, answerTexts, refusalTexts}
 pub use Rattle.replies.proofs.Laying.{lay-fits, lay-short, lay-nothing, lay-lay, lay-all, lay-all-append, length-in, length-lay, length-lay-all}
 pub use Rattle.replies.proofs.Decimal.{decimal-one, decimal-small, decimal-step, decimal-short}
@@ -33,8 +34,8 @@ pub concat-answer : (k : ℕ) (found : Finding) → concat (answerTexts k found)
 unfolding answerTexts answerLine
 concat-answer k found =
     ap (λ (r : List ℕ). decimal k ++ ((comma ∷ verdictText (found .verdict .0) ++ comma ∷ []) ++ ((dutyText (found .duty .0) ++ comma ∷ []) ++ r)))
-        (concat-append (statesTexts (found .after)) (eol ∷ [])
-        ∙ ap (λ (r : List ℕ). r ++ (eol ++ [])) (concat-states (found .after)))
+    (concat-append (statesTexts (found .after)) (eol ∷ [])
+    ∙ ap (λ (r : List ℕ). r ++ (eol ++ [])) (concat-states (found .after)))
     ∙ parts-of-five (comma ∷ []) (decimal k) (verdictText (found .verdict .0)) (dutyText (found .duty .0)) (statesText (found .after)) eol
 
 parts-of-three : (n l e : List ℕ) → bytes "refused," ++ (n ++ ((comma ∷ []) ++ (l ++ (e ++ [])))) ≡ bytes "refused" ++ comma ∷ n ++ comma ∷ l ++ e
@@ -69,48 +70,52 @@ state-short m n name =
     length-cond (bit m n) (cond (eqb (m % 2 ^ n) 0) name (space ∷ name)) [] (1 + length name)
     (length-cond (eqb (m % 2 ^ n) 0) name (space ∷ name) (1 + length name) (omega arith) (omega arith)) (omega arith)
 
-add-short : (s t : List ℕ) (n k : ℕ) → length s ≤ n → length t ≤ k → length (s ++ t) ≤ n + k
-add-short s t n k h l = omega (arith, length-append s t)
+length-seven : (a b c d e f g : List ℕ) → length (a ++ (b ++ (c ++ (d ++ (e ++ (f ++ (g ++ [])))))))
+    ≡ length a + length b + length c + length d + length e + length f + length g
+length-seven a b c d e f g = simp (append-nil, length-append) (omega arith)
 
 states-in-parts : (m : ℕ) → length (concat (statesTexts m)) ≤ 22
 unfolding statesTexts
 states-in-parts m =
-    add-short _ _ 2 20 (state-short m 0 (bytes "I"))
-    (add-short _ _ 3 17 (state-short m 1 (bytes "UC"))
-    (add-short _ _ 4 13 (state-short m 2 (bytes "UCE"))
-    (add-short _ _ 3 10 (state-short m 3 (bytes "UD"))
-    (add-short _ _ 4 6 (state-short m 4 (bytes "UDP"))
-    (add-short _ _ 3 3 (state-short m 5 (bytes "SC"))
-    (add-short _ _ 3 0 (state-short m 6 (bytes "SD")) (omega arith)))))))
+    let e : length (concat (statesTexts m)) ≡ length (stateText m I (bytes "I")) + length (stateText m UC (bytes "UC"))
+    + length (stateText m UCE (bytes "UCE")) + length (stateText m UD (bytes "UD")) + length (stateText m UDP (bytes "UDP"))
+    + length (stateText m SC (bytes "SC")) + length (stateText m SD (bytes "SD")) =
+    length-seven (stateText m I (bytes "I")) (stateText m UC (bytes "UC")) (stateText m UCE (bytes "UCE")) (stateText m UD (bytes "UD"))
+    (stateText m UDP (bytes "UDP")) (stateText m SC (bytes "SC")) (stateText m SD (bytes "SD")) in
+    le-trans (le-of-eq e)
+    (add-le-add (add-le-add (add-le-add (add-le-add (add-le-add (add-le-add
+    (state-short m I (bytes "I")) (state-short m UC (bytes "UC"))) (state-short m UCE (bytes "UCE"))) (state-short m UD (bytes "UD")))
+    (state-short m UDP (bytes "UDP"))) (state-short m SC (bytes "SC"))) (state-short m SD (bytes "SD")))
 
 states-short : (m : ℕ) → length (statesText m) ≤ 22
 states-short m = omega (arith, states-in-parts m, ap length (concat-states m))
+
+length-five : (n v d t e : List ℕ) → length (n ++ v ++ d ++ t ++ e) ≡ length n + length v + length d + length t + length e
+length-five n v d t e = simp length-append
 
 -- an answer to one of the first ten million events is at most 64 bytes long
 pub answer-short : (k : ℕ) (found : Finding) → k < 10 ^ 7 → length (answerLine k found) ≤ 64
 unfolding answerLine
 answer-short k found h =
+    let v : length (verdictText (found .verdict .0)) ≤ 11 = verdict-short (found .verdict .0) in
+    let d : length (dutyText (found .duty .0)) ≤ 9 = duty-short (found .duty .0) in
+    let t : length (statesText (found .after)) ≤ 22 = states-short (found .after) in
+    let n : length (decimal k) ≤ 7 = decimal-short 6 k h in
     le-trans
-    (add-short _ eol 52 2
-    (add-short _ (comma ∷ statesText (found .after)) 29 23
-    (add-short _ (comma ∷ dutyText (found .duty .0)) 19 10
-    (add-short (decimal k) (comma ∷ verdictText (found .verdict .0)) 7 12 (decimal-short 6 k h) (omega (arith, verdict-short (found .verdict .0))))
-    (omega (arith, duty-short (found .duty .0))))
-    (omega (arith, states-short (found .after))))
-    (omega arith))
+    (le-of-eq
+    (length-five (decimal k) (comma ∷ verdictText (found .verdict .0)) (comma ∷ dutyText (found .duty .0)) (comma ∷ statesText (found .after)) eol))
     (omega arith)
+
+length-four : (r n l e : List ℕ) → length (r ++ n ++ l ++ e) ≡ length r + length n + length l + length e
+length-four r n l e = simp length-append
 
 -- a refusal's line, of a refusal of one digit and one of the first ten million lines
 pub refusal-short : (number line : ℕ) → number < 10 → line < 10 ^ 7 → length (refusedLine number line) ≤ 64
 unfolding refusedLine
 refusal-short number line h k =
-    le-trans
-    (add-short _ eol 17 2
-    (add-short _ (comma ∷ decimal line) 9 8
-    (add-short (bytes "refused") (comma ∷ decimal number) 7 2 (omega arith) (omega (arith, decimal-short 0 number h)))
-    (omega (arith, decimal-short 6 line k)))
-    (omega arith))
-    (omega arith)
+    let n : length (decimal number) ≤ 1 = decimal-short 0 number h in
+    let l : length (decimal line) ≤ 7 = decimal-short 6 line k in
+    le-trans (le-of-eq (length-four (bytes "refused") (comma ∷ decimal number) (comma ∷ decimal line) eol)) (omega arith)
 
 -- What a buffer with room holds after a line.
 

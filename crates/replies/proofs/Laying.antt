@@ -3,7 +3,7 @@
 use mathlib.Core.Path.{_≡_, refl, sym, _∙_, ap, ap₂}
 use mathlib.Core.Bool.{Bool, true, false, cond}
 use mathlib.Core.List.{List, [], _∷_, _++_, append-assoc, append-nil}
-use Prim.Native.Nat.{ℕ, zero, suc, _+_, _-_, _≤_, _<_}
+use Prim.Native.Nat.{ℕ, _+_, _-_, _≤_, _<_}
 use native.Mathlib.Nat.{add-zero, le-antisymm}
 use native.Mathlib.Numerals.{add-one}
 use native.Mathlib.Omega.{arith}
@@ -71,21 +71,21 @@ second-in : (at : ℕ) (out s t : List ℕ) → at + length (s ++ t) ≤ length 
 second-in at out s t h =
     let e : length (s ++ t) ≡ length s + length t = length-append s t in
     let first : length (take at out ++ s) ≡ at + length s =
-        length-append (take at out) s ∙ ap (λ (k : ℕ). k + length s) (length-take-le at out (omega arith)) in
+    length-append (take at out) s ∙ ap (λ (k : ℕ). k + length s) (length-take-le at out (omega arith)) in
     let n : ℕ = at + length s in
     let rest : List ℕ = drop (at + length s) out in
     let long : length (take at out ++ s ++ rest) ≡ length out = length-in at out s (omega arith) in
     let behind : n + length t ≡ at + length (s ++ t) = omega arith in
     lay-fits (laid n (take at out ++ s ++ rest)) t (omega arith)
     ∙ ap₂ laid
-        behind
-        (ap₂ (λ (a b : List ℕ). a ++ t ++ b)
-            (take-at (take at out ++ s) rest n first)
-            (sym (drop-drop (length t) n (take at out ++ s ++ rest))
-            ∙ ap (drop (length t)) (drop-at (take at out ++ s) rest n first)
-            ∙ drop-drop (length t) n out
-            ∙ ap (λ (k : ℕ). drop k out) behind)
-        ∙ ap (λ (a : List ℕ). a ++ drop (at + length (s ++ t)) out) (append-assoc (take at out) s t))
+    behind
+    (ap₂ (λ (a b : List ℕ). a ++ t ++ b)
+    (take-at (take at out ++ s) rest n first)
+    (sym (drop-drop (length t) n (take at out ++ s ++ rest))
+    ∙ ap (drop (length t)) (drop-at (take at out ++ s) rest n first)
+    ∙ drop-drop (length t) n out
+    ∙ ap (λ (k : ℕ). drop k out) behind)
+    ∙ ap (λ (a : List ℕ). a ++ drop (at + length (s ++ t)) out) (append-assoc (take at out) s t))
     ∙ sym (lay-fits (laid at out) (s ++ t) h)
 
 -- two texts laid one after the other are laid as one
@@ -118,9 +118,9 @@ copying-next {out₀} {text} {out} {at} {i} room c h =
     record {
       within = omega arith;
       so =
-        ap (λ (o : List ℕ). set o (at + i) (getD text i 0)) (c .so)
-        ∙ paste-suc out₀ at text i 0 (omega arith) h
-        ∙ ap (paste out₀ at text) (sym (add-one i))
+          ap (λ (o : List ℕ). set o (at + i) (getD text i 0)) (c .so)
+          ∙ paste-suc out₀ at text i 0 (omega arith) h
+          ∙ ap (paste out₀ at text) (sym (add-one i));
     }
 
 pub copying-length : {out₀ text out : List ℕ} {at i : ℕ} → at + length text ≤ length out₀ → Copying out₀ at text out i → length out ≡ length out₀

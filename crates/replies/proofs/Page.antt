@@ -1,7 +1,7 @@
 -- The page's own answer, computed: its four lines, its header and a refusal come out of the definitions byte for byte.
 -- Assumes nothing.
 use mathlib.Core.Path.{_≡_, refl}
-use mathlib.Core.List.{List, [], _∷_, _++_}
+use mathlib.Core.List.{_++_}
 use Prim.Native.Nat.{ℕ, _+_}
 use Rattle.kinds.specs.Codes.{I, SC}
 use Rattle.sets.specs.Sets.{bit}
@@ -9,8 +9,7 @@ use Rattle.steps.specs.Steps.{noDuty, Home}
 use Rattle.verdicts.specs.Verdicts.{explained, unexplained, notJudged}
 use Rattle.verdicts.specs.declared.Finding.{Finding}
 use Rattle.text.specs.Text.{bytes, eol}
-use Rattle.replies.specs.Laid.{concat}
-use Rattle.replies.specs.Replies.{decimal, verdictText, dutyText, statesText, statesTexts, headerLine, answerLine, refusedLine, answerTexts, refusalTexts}
+use Rattle.replies.specs.Replies.{decimal, verdictText, dutyText, statesText, headerLine, answerLine, refusedLine}
 
 -- what was found of an event: verdict, duty and the set after
 abbrev pub found : ℕ → ℕ → ℕ → Finding

@@ -1,7 +1,7 @@
 -- Laws of the parts of a line: what each function that puts a part has put.
 -- Assumes nothing.
-use mathlib.Core.Path.{_≡_, refl, sym, _∙_, ap, ap₂, subst⁻¹}
-use mathlib.Core.Bool.{Bool, true, false, cond}
+use mathlib.Core.Path.{_≡_, sym, _∙_, ap, ap₂, subst⁻¹}
+use mathlib.Core.Bool.{Bool, cond}
 use mathlib.Core.List.{List, [], _∷_, _++_}
 use Prim.Native.Nat.{ℕ, _*_, _%_, _/_, _^_, _<_, _≤_, _-_}
 use native.Mathlib.Nat.{one-mul, mod-eq-of-lt, lt-of-lt-of-le, le-of-eq}
@@ -17,7 +17,7 @@ use Rattle.steps.specs.Steps.{noDuty, Home, Requester}
 use Rattle.verdicts.specs.Verdicts.{explained, unexplained}
 use Rattle.verdicts.specs.declared.Finding.{Finding}
 use Rattle.text.specs.Text.{bytes, comma, eol}
-use Rattle.replies.specs.Laid.{Laid, laid, lay, layAll}
+use Rattle.replies.specs.Laid.{Laid, lay, layAll}
 use Rattle.replies.specs.Replies.{space, decimal, verdictText, dutyText, stateText, statesTexts, headerLine, answerTexts, refusalTexts}
 use Rattle.replies.proofs.Laying.{lay-nothing, lay-all-append, length-lay-all}
 
@@ -83,7 +83,7 @@ unfolding bit
 first-in l m n spaced h z e =
     e ∙ ap (lay l) (take-all (length spaced - 1) (drop 1 spaced) (le-of-eq (length-drop 1 spaced)))
     ∙ ap₂ (λ (a b : Bool). lay l (cond a (cond b (drop 1 spaced) (space ∷ drop 1 spaced)) []))
-        (sym (eq-eqb (m / 2 ^ n % 2) 1 h)) (sym (eq-eqb (m % 2 ^ n) 0 z))
+    (sym (eq-eqb (m / 2 ^ n % 2) 1 h)) (sym (eq-eqb (m % 2 ^ n) 0 z))
 
 pub later-in : {r : Laid} (l : Laid) (m n : ℕ) (spaced : List ℕ) → m / 2 ^ n % 2 ≡ 1 → (m % 2 ^ n ≡ 0 → ⊥) → spaced ≡ space ∷ drop 1 spaced
     → r ≡ lay l spaced → r ≡ lay l (stateText m n (drop 1 spaced))
@@ -91,7 +91,7 @@ unfolding bit
 later-in l m n spaced h z s e =
     e ∙ ap (lay l) s
     ∙ ap₂ (λ (a b : Bool). lay l (cond a (cond b (drop 1 spaced) (space ∷ drop 1 spaced)) []))
-        (sym (eq-eqb (m / 2 ^ n % 2) 1 h)) (sym (ne-eqb (m % 2 ^ n) 0 z))
+    (sym (eq-eqb (m / 2 ^ n % 2) 1 h)) (sym (ne-eqb (m % 2 ^ n) 0 z))
 
 -- the weight of a state, as it is shifted into place
 pub weight : (s : ℕ) → s < 7 → 1 * 2 ^ s % 256 ≡ 2 ^ s

@@ -10,7 +10,11 @@ ghost use mathlib.Core.List.{[], _∷_, _++_};
 ghost use lib.ListN.{length, take, drop};
 ghost use Rattle.text.specs.Text.{comma};
 ghost use Rattle.replies.specs.Laid.{laid, lay, layAll};
-ghost use Rattle.replies.specs.Replies.{space, decimal, verdictText, dutyText, statesTexts, stateText, headerLine, answerTexts, refusalTexts};
+ghost use Rattle.replies.specs.Replies.{space, decimal, verdictText, dutyText, stateText, statesTexts};
+ghost use Rattle.replies.specs.Replies.{headerLine, answerTexts, refusalTexts};
+
+// The digit 0 as text; the others follow it.
+const ZERO: u8 = b'0';
 
 // Copies a text that fits into the buffer, from the place on.
 fn copy(out: &mut [u8], at: usize, text: &[u8])
@@ -63,10 +67,10 @@ fn spell(out: &mut [u8], at: usize, k: usize, n: u64)
     let mut rest = n;
     while rest > 9 {
         i -= 1;
-        out[at + i] = 48 + (rest % 10) as u8;
+        out[at + i] = ZERO + (rest % 10) as u8;
         rest /= 10;
     }
-    out[at] = 48 + (rest % 10) as u8;
+    out[at] = ZERO + (rest % 10) as u8;
 }
 
 // Puts a number in decimal.

@@ -2,23 +2,25 @@
 -- Assumes nothing.
 use mathlib.Core.Path.{_≡_, refl, sym, _∙_, ap, ap₂, subst}
 use mathlib.Core.Bool.{Bool, true, false, cond, _&&_, _||_, false≢true}
-use mathlib.Core.List.{List, [], _++_, append-nil}
+use mathlib.Core.List.{List, [], _∷_, _++_, append-nil}
 use Prim.Native.Nat.{ℕ, zero, suc, _+_, _-_, _≤_, _<_, _^_}
 use native.Mathlib.Nat.{add-zero, add-assoc}
 use native.Mathlib.Omega.{arith}
 use borrow.Author.Tests.{leb-true, leb-false, le-leb, lt-leb, lt-ltb, le-ltb, ltb-false, eq-eqb, ne-eqb, eqb-true}
 use lib.Dec.{eqb, leb, ltb}
-use lib.ListN.{length, take, drop, length-append, length-take, length-drop, take-append-drop}
-use lib.Seq.{drop-drop, drop-at, take-at}
+use lib.ListN.{length, getD, set, take, drop, drop-of-length-le, length-append, length-take, length-drop, length-set, take-append-drop}
+use lib.Seq.{drop-cons, drop-drop, drop-at, take-at}
 use Rattle.kinds.specs.Tests.{same}
 use Rattle.kinds.specs.Places.{setIn}
 use Rattle.verdicts.specs.Verdicts.{finding}
+use Rattle.verdicts.specs.declared.Finding.{Finding}
+use Rattle.text.specs.Text.{bytes, comma, eol}
 use Rattle.trace.specs.Events.{moved}
 use Rattle.entries.specs.Entries.{entryOf}
 use Rattle.entries.specs.declared.Entry.{Entry}
-use Rattle.replies.specs.Laid.{Laid, laid, lay}
-use Rattle.replies.specs.Replies.{answerLine}
-use Rattle.replies.proofs.Laws.{lay-fits}
+use Rattle.replies.specs.Laid.{Laid, laid, lay, layAll}
+use Rattle.replies.specs.Replies.{decimal, answerLine, refusedLine, answerTexts, refusalTexts}
+use Rattle.replies.proofs.Laws.{lay-fits, lay-all, decimal-short, concat-answer, concat-refusal, answer-short}
 use Rattle.lines.specs.Lines.{crlf}
 use Rattle.lines.specs.Seen.{tooLong, reach, lineEnd}
 use Rattle.lines.proofs.Parting.{reach-within}
@@ -28,8 +30,8 @@ use Rattle.sheet.specs.declared.Next.{Next}
 use Rattle.sheet.specs.Sheet.{Told, told, refuse, header, longest, mostLines, onHeader, onEntry, onLine}
 use Rattle.sheet.specs.Pieces.{Held, nextLine, taken, whole, sure, room, ready, afterLine, turn, eaten}
 use Rattle.sheet.specs.Eaten.{held, left, leftOf, ate}
-use Rattle.sheet.specs.Answered.{Answers, AnswersOn, nextIn}
-use Rattle.sheet.proofs.Turns.{eaten-turn, eaten-stuck, turn-ready, taken-within}
+use Rattle.sheet.specs.Answered.{Answers, AnswersOn, Roomy, nextIn}
+use Rattle.sheet.proofs.Turns.{is-ready, size, eaten-turn, eaten-stuck, turn-ready, turn-less, taken-within}
 
 -- a run in the middle of a piece: so many bytes taken, and so many put
 abbrev now-held : List ℕ → ℕ → ℕ → ℕ → Bool → List ℕ → List ℕ → Held
@@ -42,10 +44,11 @@ pub record Eating (ended : Bool) (piece out₀ : List ℕ) (h₀ : Held) (table 
   pub fits : put ≤ length out
   pub long : length out ≡ length out₀
   pub tail : drop put out ≡ drop put out₀
+  pub table-long : length table ≡ length (h₀ .table)
 
 pub eating-start : (ended : Bool) (piece table out : List ℕ) (lines : ℕ) (going : Bool)
     → Eating ended piece out (held piece lines table going) table out 0 0 lines going
-eating-start ended piece table out lines going = record { so = refl; inside = omega arith; fits = omega arith; long = refl; tail = refl }
+eating-start ended piece table out lines going = record { so = refl; inside = omega arith; fits = omega arith; long = refl; tail = refl; table-long = refl }
 
 length-front : (n : ℕ) (s : List ℕ) → n ≤ length s → length (take n s) ≡ n
 length-front n s h = length-take n s ∙ omega (arith, h)
@@ -108,51 +111,93 @@ held-same {rest} {rest′} {table} {table′} {text} {text′} {lines} {lines′
     ∙ ap (λ (x : List ℕ). record { rest = rest′; lines = lines′; table = table′; text = x; going = going }) d
     ∙ ap (λ (x : Bool). record { rest = rest′; lines = lines′; table = table′; text = text′; going = x }) e
 
--- one line more
-pub eating-next : {ended : Bool} {piece out₀ : List ℕ} {h₀ : Held} {table out : List ℕ} {taken₀ put lines : ℕ} {going : Bool}
-    (next : Next) (r : Answered) (table′ out′ : List ℕ) (lines′ : ℕ)
-    → Eating ended piece out₀ h₀ table out taken₀ put lines going
-    → ready ended (length out₀) (now-held piece taken₀ put lines going table out) ≡ true
-    → next ≡ nextIn ended lines piece taken₀
-    → AnswersOn (onLine lines table (take (next .end - taken₀) (drop taken₀ piece))) out put r out′ table′
-    → lines′ ≡ cond (r .goes) (lines + 1) lines
-    → Eating ended piece out₀ h₀ table′ out′ (next .next) (r .at) lines′ (r .goes)
-eating-next {ended} {piece} {out₀} {h₀} {table} {out} {taken₀} {put} {lines} {going} next r table′ out′ lines′ e f g a k = record {
-  so = e .so ∙ eaten-turn ended (length out₀) now ∙ ap (eaten ended (length out₀)) (turn-ready ended (length out₀) now f ∙ same);
-  inside = subst (λ n. n ≤ length piece) (sym (ap (λ (x : Next). x .next) g))
-      (omega (arith, e .inside, subst (λ n. taken rest ≤ n) (length-drop taken₀ piece) (taken-within rest)));
-  fits = subst (λ n. n ≤ length out′) (sym (b .at-so)) (subst (λ n. put + length (t .text) ≤ n) (sym long′) (b .fits-so));
-  long = long′ ∙ e .long;
-  tail = ap₂ drop (b .at-so) (b .out-so) ∙ put-tail put out (t .text) (e .fits)
-      ∙ further ∙ ap (λ n. drop n out₀) (sym (b .at-so));
-}
+-- the event of a line, judged
+abbrev entryTold : ℕ → List ℕ → Entry → Told
+entryTold k table e = told (answerLine (k - 1) (finding (e .event) (setIn table (e .pair .0)))) (moved table (record { pair = e .pair .0; bytes = e .event })) true
+
+-- a line's judgment keeps the table's length
+table-kept : (k : ℕ) (table line : List ℕ) → length (onLine k table line .table) ≡ length table
+unfolding onLine
+table-kept k table line = go (eqb k 0) (ltb mostLines (k + 1)) (ltb longest (length line))
   where
-    rest : List ℕ
-    rest = drop taken₀ piece
-    now : Held
-    now = now-held piece taken₀ put lines going table out
-    line : take (next .end - taken₀) rest ≡ nextLine rest
-    line = ap (λ n. take n rest) (ap (λ (x : Next). x .end - taken₀) g ∙ plus-minus taken₀ (reach tooLong rest))
-      where
-        plus-minus : (m n : ℕ) → m + n - m ≡ n
-        plus-minus m n = omega arith
-    t : Told
-    t = onLine lines table (nextLine rest)
-    on : AnswersOn t out put r out′ table′
-    on = subst (λ (l : List ℕ). AnswersOn (onLine lines table l) out put r out′ table′) line a
-    b : Answers t out put r out′
-    b = on .answers-so
-    long′ : length out′ ≡ length out
-    long′ = ap length (b .out-so) ∙ put-long put out (t .text) (b .fits-so)
-    further : drop (put + length (t .text)) out ≡ drop (put + length (t .text)) out₀
-    further = sym (drop-drop (length (t .text)) put out) ∙ ap (drop (length (t .text))) (e .tail) ∙ drop-drop (length (t .text)) put out₀
-    same : afterLine now t ≡ now-held piece (next .next) (r .at) lines′ (r .goes) table′ out′
-    same =
-        held-same (drop-drop (taken rest) taken₀ piece ∙ ap (λ n. drop n piece) (sym (ap (λ (x : Next). x .next) g)))
-        (sym (k ∙ ap (λ c. cond c (lines + 1) lines) (b .goes-so)))
-        (sym (on .table-so))
-        (sym (ap₂ take (b .at-so) (b .out-so) ∙ put-front put out (t .text) (e .fits)))
-        (sym (b .goes-so))
+    on-header : (b : Bool) → length (cond b (told [] table true) (refuse 6 0 table) .table) ≡ length table
+    on-header true = refl
+    on-header false = refl
+    on-entry : (e : Entry) (b : Bool) → length (cond b (entryTold k table e) (refuse (e .refusal .0) k table) .table) ≡ length table
+    on-entry e true = length-set table (e .pair .0) _
+    on-entry e false = refl
+    go : (a b c : Bool)
+        → length (cond a (onHeader table line) (cond b (refuse 7 k table) (cond c (refuse 7 k table) (onEntry k table (entryOf line)))) .table) ≡ length table
+    go true b c = on-header (same line header)
+    go false true c = refl
+    go false false true = refl
+    go false false false = on-entry (entryOf line) (eqb (entryOf line .refusal .0) 0)
+
+-- what one more line is made of
+pub record OneMore (ended : Bool) (piece out₀ table out : List ℕ) (taken₀ put lines : ℕ) (going : Bool) (next : Next) (r : Answered) (table′ out′ : List ℕ) (lines′ : ℕ) : Type 0 where
+  pub is-ready : ready ended (length out₀) (now-held piece taken₀ put lines going table out) ≡ true
+  pub is-next : next ≡ nextIn ended lines piece taken₀
+  pub answered : AnswersOn (onLine lines table (take (next .end - taken₀) (drop taken₀ piece))) out put r out′ table′
+  pub counted : lines′ ≡ cond (r .goes) (lines + 1) lines
+
+module _ {ended : Bool} {piece out₀ : List ℕ} {h₀ : Held} {table out : List ℕ} {taken₀ put lines : ℕ} {going : Bool} {next : Next} {r : Answered} {table′ out′ : List ℕ} {lines′ : ℕ}
+    (e : Eating ended piece out₀ h₀ table out taken₀ put lines going) (o : OneMore ended piece out₀ table out taken₀ put lines going next r table′ out′ lines′) where
+  rest : List ℕ
+  rest = drop taken₀ piece
+
+  before : Held
+  before = now-held piece taken₀ put lines going table out
+
+  line : take (next .end - taken₀) (drop taken₀ piece) ≡ nextLine (drop taken₀ piece)
+  line = ap (λ n. take n (drop taken₀ piece)) (ap (λ (x : Next). x .end - taken₀) (o .is-next) ∙ plus-minus taken₀ (reach tooLong (drop taken₀ piece)))
+    where
+      plus-minus : (m n : ℕ) → m + n - m ≡ n
+      plus-minus m n = omega arith
+
+  abbrev t : Told
+  t = onLine lines table (nextLine (drop taken₀ piece))
+
+  on : AnswersOn t out put r out′ table′
+  on = subst (λ (l : List ℕ). AnswersOn (onLine lines table l) out put r out′ table′) line (o .answered)
+
+  abbrev b : Answers t out put r out′
+  b = on .answers-so
+
+  long′ : length out′ ≡ length out
+  long′ = ap length (b .out-so) ∙ put-long put out (t .text) (b .fits-so)
+
+  further : drop (put + length (t .text)) out ≡ drop (put + length (t .text)) out₀
+  further = sym (drop-drop (length (t .text)) put out) ∙ ap (drop (length (t .text))) (e .tail) ∙ drop-drop (length (t .text)) put out₀
+
+  turned : turn ended (length out₀) (now-held piece taken₀ put lines going table out) ≡ now-held piece (next .next) (r .at) lines′ (r .goes) table′ out′
+  turned =
+      turn-ready ended (length out₀) (now-held piece taken₀ put lines going table out) (o .is-ready)
+      ∙ held-same (drop-drop (taken (drop taken₀ piece)) taken₀ piece ∙ ap (λ n. drop n piece) (sym (ap (λ (x : Next). x .next) (o .is-next))))
+      (sym (o .counted ∙ ap (λ c. cond c (lines + 1) lines) (b .goes-so)))
+      (sym (on .table-so))
+      (sym (ap₂ take (b .at-so) (b .out-so) ∙ put-front put out (t .text) (e .fits)))
+      (sym (b .goes-so))
+
+  -- one line more
+  pub eating-next : Eating ended piece out₀ h₀ table′ out′ (next .next) (r .at) lines′ (r .goes)
+  eating-next = record {
+    so = e .so ∙ eaten-turn ended (length out₀) (now-held piece taken₀ put lines going table out) ∙ ap (eaten ended (length out₀)) turned;
+    inside = subst (λ n. n ≤ length piece) (sym (ap (λ (x : Next). x .next) (o .is-next)))
+        (omega (arith, e .inside, subst (λ n. taken (drop taken₀ piece) ≤ n) (length-drop taken₀ piece) (taken-within (drop taken₀ piece))));
+    fits = subst (λ n. n ≤ length out′) (sym (b .at-so)) (subst (λ n. put + length (t .text) ≤ n) (sym long′) (b .fits-so));
+    long = long′ ∙ e .long;
+    tail = ap₂ drop (b .at-so) (b .out-so) ∙ put-tail put out (t .text) (e .fits) ∙ further ∙ ap (λ n. drop n out₀) (sym (b .at-so));
+    table-long = ap length (on .table-so) ∙ table-kept lines table (nextLine (drop taken₀ piece)) ∙ e .table-long;
+  }
+
+  -- it leaves less to do
+  pub eating-less : length piece - next .next + cond (r .goes) 1 0 < length piece - taken₀ + cond going 1 0
+  unfolding size
+  eating-less =
+      subst (λ n. n + cond (r .goes) 1 0 < length piece - taken₀ + cond going 1 0) (length-drop (next .next) piece)
+      (subst (λ n. length (drop (next .next) piece) + cond (r .goes) 1 0 < n + cond going 1 0) (length-drop taken₀ piece)
+      (subst (λ x. size x < size (now-held piece taken₀ put lines going table out)) turned
+      (turn-less ended (length out₀) (now-held piece taken₀ put lines going table out) (o .is-ready))))
 
 -- the line that starts at a place, by what is found of it
 pub next-seen : (ended : Bool) (lines : ℕ) (piece : List ℕ) (start end next : ℕ) (b : Bool)
@@ -248,10 +293,6 @@ line-read {out} {out′} {table′} {at} {r} k line table e f h l q a =
     ∙ ap (λ b. cond b (refuse 7 k table) (onEntry k table (entryOf line))) (le-ltb longest (length line) l)))
     a
 
--- the event of a line, judged
-abbrev entryTold : ℕ → List ℕ → Entry → Told
-entryTold k table e = told (answerLine (k - 1) (finding (e .event) (setIn table (e .pair .0)))) (moved table (record { pair = e .pair .0; bytes = e .event })) true
-
 -- what is read of a line, by its number
 pub entry-refused : {out out′ : List ℕ} {at : ℕ} {r : Answered} (k : ℕ) (table : List ℕ) (e : Entry) → (e .refusal .0 ≡ 0 → ⊥)
     → Answers (refuse (e .refusal .0) k []) out at r out′ → AnswersOn (onEntry k table e) out at r out′ table
@@ -276,3 +317,122 @@ goes-few k table line g = go (eqb k 0) refl (ltb mostLines (k + 1)) refl g
     go true e c f h = omega (arith, eqb-true k 0 e)
     go false e true f h = absurd (false≢true h)
     go false e false f h = omega (arith, ltb-false mostLines (k + 1) f)
+
+-- a refusal fits into the room for an answer
+refusal-fits : (number line : ℕ) → number < 256 → line < 10 ^ 10 → length (refusedLine number line) ≤ room
+unfolding refusedLine
+refusal-fits number line h k =
+    subst (λ n. n ≤ room) (sym (in-parts (decimal number) (decimal line)))
+    (omega (arith, decimal-short 2 number (omega (arith, h)), decimal-short 9 line k))
+  where
+    in-parts : (n l : List ℕ) → length (bytes "refused" ++ comma ∷ n ++ comma ∷ l ++ eol) ≡ length n + length l + 11
+    in-parts n l = simp length-append (omega arith)
+
+pub refuse-put : (number lines at n : ℕ) (out out′ : List ℕ) → number < 256 → lines < 2 ^ 32 → Roomy out at
+    → laid n out′ ≡ layAll (laid at out) (refusalTexts number (lines + 1))
+    → Answers (refuse number lines []) out at (record { at = n; goes = false }) out′
+refuse-put number lines at n out out′ h k roomy e =
+    put-answers (refuse number lines []) out out′ at n
+    (e ∙ lay-all (laid at out) (refusalTexts number (lines + 1)) (subst (λ (s : List ℕ). at + length s ≤ length out) (sym (concat-refusal number (lines + 1))) fits)
+    ∙ ap (lay (laid at out)) (concat-refusal number (lines + 1)))
+    fits
+  where
+    fits : at + length (refusedLine number (lines + 1)) ≤ length out
+    fits = omega (arith, roomy, refusal-fits number (lines + 1) h (omega (arith, k)))
+
+pub answer-put : (k at n : ℕ) (table out out′ table′ : List ℕ) (e : Entry) (found : Finding) (before : ℕ) → 0 < k → k < mostLines → Roomy out at → e .refusal .0 ≡ 0
+    → before ≡ setIn table (e .pair .0) → found ≡ finding (e .event) before → table′ ≡ set table (e .pair .0) (found .after)
+    → laid n out′ ≡ layAll (laid at out) (answerTexts (k - 1) found)
+    → AnswersOn (onEntry k table e) out at (record { at = n; goes = true }) out′ table′
+answer-put k at n table out out′ table′ e found before pos few roomy zero-is b f t l =
+    subst (λ (x : Told). AnswersOn x out at (record { at = n; goes = true }) out′ table′)
+    (sym (ap (λ c. cond c (entryTold k table e) (refuse (e .refusal .0) k table)) (eq-eqb (e .refusal .0) 0 zero-is)))
+    (record {
+      answers-so =
+          put-answers (entryTold k table e) out out′ at n
+          (l ∙ ap (λ (x : Finding). layAll (laid at out) (answerTexts (k - 1) x)) is-found
+          ∙ lay-all (laid at out) (answerTexts (k - 1) found′) (subst (λ (s : List ℕ). at + length s ≤ length out) (sym (concat-answer (k - 1) found′)) fits)
+          ∙ ap (lay (laid at out)) (concat-answer (k - 1) found′))
+          fits;
+      table-so = t ∙ ap (λ (x : Finding). set table (e .pair .0) (x .after)) is-found;
+    })
+  where
+    found′ : Finding
+    found′ = finding (e .event) (setIn table (e .pair .0))
+    is-found : found ≡ found′
+    is-found = f ∙ ap (finding (e .event)) b
+    fits : at + length (answerLine (k - 1) found′) ≤ length out
+    fits = omega (arith, roomy, answer-short (k - 1) found′ (omega (arith, few)))
+
+-- two texts compared from a place on
+pub record Comparing (a b : List ℕ) (i : ℕ) : Type 0 where
+  pub so : same a b ≡ same (drop i a) (drop i b)
+  pub below : i ≤ length a
+  pub long : length a ≡ length b
+
+pub other-length : (a b : List ℕ) → (length a ≡ length b → ⊥) → false ≡ same a b
+other-length [] [] f = absurd (f refl)
+other-length [] (y ∷ b) f = refl
+other-length (x ∷ a) [] f = refl
+other-length (x ∷ a) (y ∷ b) f = go (eqb x y) (other-length a b (λ e. f (ap suc e)))
+  where
+    go : (c : Bool) → false ≡ same a b → false ≡ c && same a b
+    go true e = e
+    go false e = refl
+
+pub comparing-start : (a b : List ℕ) → length a ≡ length b → Comparing a b 0
+comparing-start a b e = record { so = refl; below = omega arith; long = e }
+
+here-same : {a b : List ℕ} {i : ℕ} → Comparing a b i → i < length a
+    → same a b ≡ eqb (getD a i 0) (getD b i 0) && same (drop (suc i) a) (drop (suc i) b)
+here-same {a} {b} {i} c h = c .so ∙ ap₂ same (drop-cons a i 0 h) (drop-cons b i 0 (omega (arith, h, c .long)))
+
+pub comparing-next : {a b : List ℕ} {i : ℕ} → Comparing a b i → i < length a → getD a i 0 ≡ getD b i 0 → Comparing a b (i + 1)
+comparing-next {a} {b} {i} c h e = record {
+  so = here-same c h ∙ ap (λ x. x && same (drop (suc i) a) (drop (suc i) b)) (eq-eqb (getD a i 0) (getD b i 0) e)
+      ∙ ap (λ n. same (drop n a) (drop n b)) (next-place i);
+  below = omega (arith, h);
+  long = c .long;
+}
+  where
+    next-place : (n : ℕ) → suc n ≡ n + 1
+    next-place n = omega arith
+
+pub comparing-other : {a b : List ℕ} {i : ℕ} → Comparing a b i → i < length a → (getD a i 0 ≡ getD b i 0 → ⊥) → false ≡ same a b
+comparing-other {a} {b} {i} c h f = sym (here-same c h ∙ ap (λ x. x && same (drop (suc i) a) (drop (suc i) b)) (ne-eqb (getD a i 0) (getD b i 0) f))
+
+pub comparing-end : {a b : List ℕ} {i : ℕ} → Comparing a b i → length a ≤ i → true ≡ same a b
+comparing-end {a} {b} {i} c h = sym (c .so ∙ ap₂ same (drop-of-length-le a {i = i} h) (drop-of-length-le b {i = i} (omega (arith, h, c .long))))
+
+pub positive : (n : ℕ) → (n ≡ 0 → ⊥) → 0 < n
+positive zero f = absurd (f refl)
+positive (suc n) f = omega arith
+
+-- where the next line ends, it lies in the piece
+pub next-end : (ended : Bool) (lines start : ℕ) (piece : List ℕ) (next : Next) → start ≤ length piece → next ≡ nextIn ended lines piece start
+    → (start ≤ next .end) × (next .end ≤ length piece)
+next-end ended lines start piece next h e =
+    let f = ap (λ (x : Next). x .end) e in (
+      omega (arith, f),
+      omega (arith, f, h, subst (λ n. reach tooLong (drop start piece) ≤ n) (length-drop start piece) (reach-within tooLong (drop start piece))),
+    )
+
+-- where the run is ready, there is room
+pub roomy-here : {ended : Bool} {piece out₀ : List ℕ} {h₀ : Held} {table out : List ℕ} {taken put lines : ℕ} {going : Bool}
+    → Eating ended piece out₀ h₀ table out taken put lines going
+    → ready ended (length out₀) (now-held piece taken put lines going table out) ≡ true → Roomy out put
+roomy-here {ended} {piece} {out₀} {h₀} {table} {out} {taken} {put} {lines} {going} e f =
+    let m = leb-true (length (take put out) + room) (length out₀) (is-ready ended (length out₀) (now-held piece taken put lines going table out) f .has-room) in
+    omega (arith, m, length-front put out (e .fits), e .long)
+
+-- the piece eaten, as the contract says it
+pub eaten-all : {ended : Bool} {piece out₀ : List ℕ} {table₀ table out : List ℕ} {taken put lines₀ lines : ℕ} {going₀ going : Bool}
+    → Eating ended piece out₀ (held piece lines₀ table₀ going₀) table out taken put lines going
+    → ready ended (length out₀) (now-held piece taken put lines going table out) ≡ false
+    → left (record { taken = taken; put = put; lines = lines; going = going }) table out ≡ ate ended piece lines₀ going₀ table₀ out₀
+unfolding ate
+eaten-all e f = eating-stop e f
+
+-- only a line that is not too many lets the run go on
+pub counts-on : {at : ℕ} {out out′ table′ : List ℕ} {r : Answered} (k : ℕ) (table line : List ℕ) → AnswersOn (onLine k table line) out at r out′ table′ → r .goes ≡ true → k < mostLines
+counts-on k table line a g = goes-few k table line (sym (a .answers-so .goes-so) ∙ g)

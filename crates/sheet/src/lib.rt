@@ -3,7 +3,7 @@ use entries::Entry;
 use kinds::Refusal;
 ghost use Prim.Native.Nat.{_+_, _≤_, _<_, _^_};
 ghost use mathlib.Core.Path.{_≡_};
-ghost use mathlib.Core.Bool.{cond};
+ghost use mathlib.Core.Bool.{cond, true};
 ghost use mathlib.Core.List.{[]};
 ghost use lib.ListN.{length};
 ghost use Rattle.kinds.specs.Tests.{same};
@@ -153,6 +153,14 @@ fn next_line(piece: &[u8], start: usize, ended: bool, lines: u32) -> Next
     }
 }
 
+// How many lines were taken, one more where the run goes on.
+fn counted(lines: u32, goes: bool) -> u32
+    requires { ⌜ (goes ≡ true → lines < mostLines) ⌝ }
+    ensures { λ r. ⌜ r ≡ cond goes (lines + 1) lines ⌝ }
+{
+    if goes { lines + 1 } else { lines }
+}
+
 // A piece of a sheet judged line by line, as far as its lines are known and the buffer has room for their answers. So many lines were taken
 // before it, and `going` is false behind a refusal. Where `ended`, nothing follows the piece.
 pub fn eat(piece: &[u8], ended: bool, lines: u32, going: bool, table: &mut [u8], out: &mut [u8]) -> Eaten
@@ -161,24 +169,25 @@ pub fn eat(piece: &[u8], ended: bool, lines: u32, going: bool, table: &mut [u8],
 {
     let mut taken: usize = 0;
     let mut put: usize = 0;
-    let mut lines = lines;
-    let mut going = going;
+    let mut count = lines;
+    let mut goes_on = going;
     loop {
-        let next = next_line(piece, taken, ended, lines);
+        let next = next_line(piece, taken, ended, count);
         let sure = next.sure;
-        if !(going & ((ROOM <= out.len() - put) & sure)) {
+        if !(goes_on & ((ROOM <= out.len() - put) & sure)) {
             return Eaten {
                 taken,
                 put,
-                lines,
-                going,
+                lines: count,
+                going: goes_on,
             };
         }
         let end = next.end;
-        let answered = judge_line(lines, &piece[taken..end], table, out, put);
+        let answered = judge_line(count, &piece[taken..end], table, out, put);
+        let goes = answered.goes;
+        count = counted(count, goes);
         taken = next.next;
         put = answered.at;
-        going = answered.goes;
-        lines = lines + (going as u32);
+        goes_on = goes;
     }
 }

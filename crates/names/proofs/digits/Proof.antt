@@ -8,8 +8,6 @@ use lib.ListN.{length, getD}
 use Rattle.names.proofs.Laws.{Read, read-start, read-other, read-next, read-end, digit-low, digit-high, few-digits}
 use Rattle.names.proofs.digits.Statement.{statement}
 use Rattle.names.proofs.digits.Tie as tie
-use Rattle.names.proofs.digits.Reads as reads
-use Rattle.names.proofs.digits.Lts as lts
 
 abbrev Inv-loop : tie.InvT-loop
 Inv-loop field n v₀ i₀ v i = Read field n v i

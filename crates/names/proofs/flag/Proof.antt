@@ -23,7 +23,12 @@ known-requires-2 c κs = search needs
 
 returns : tie.Need-returns
 unfolding codeOf flagNames
-returns c = by-name _ (drop 1 flagNames) (now (c .before .before .before .before .before .args .field)) (c .known2 .ensures) (by-name _ (drop 2 flagNames) (now (c .before .before .before .before .before .args .field)) (c .before .before .known .ensures) (refl))
+returns c =
+    let at₁ = c .before .before in
+    let f = now (at₁ .before .before .before .args .field) in
+    by-name _ (drop 1 flagNames) f (c .known2 .ensures)
+    (by-name _ (drop 2 flagNames) f (at₁ .known .ensures)
+    refl)
 
 pub flag-spec : {M : Type 1} → statement M
 flag-spec = tie.close (tie.spec slice-aggregate-known known-requires slice-aggregate-known-2 known-requires-2 returns)

@@ -41,7 +41,18 @@ known-requires-5 c κs = search needs
 
 returns : tie.Need-returns
 unfolding codeOf forwardNames
-returns c = by-name _ (drop 1 forwardNames) (now (c .before .before .before .before .before .before .before .before .before .before .before .args .field)) (c .known5 .ensures) (by-name _ (drop 2 forwardNames) (now (c .before .before .before .before .before .before .before .before .before .before .before .args .field)) (c .before .before .known4 .ensures) (by-name _ (drop 3 forwardNames) (now (c .before .before .before .before .before .before .before .before .before .before .before .args .field)) (c .before .before .before .before .known3 .ensures) (by-name _ (drop 4 forwardNames) (now (c .before .before .before .before .before .before .before .before .before .before .before .args .field)) (c .before .before .before .before .before .before .known2 .ensures) (by-name _ (drop 5 forwardNames) (now (c .before .before .before .before .before .before .before .before .before .before .before .args .field)) (c .before .before .before .before .before .before .before .before .known .ensures) (refl)))))
+returns c =
+    let at₄ = c .before .before in
+    let at₃ = at₄ .before .before in
+    let at₂ = at₃ .before .before in
+    let at₁ = at₂ .before .before in
+    let f = now (at₁ .before .before .before .args .field) in
+    by-name _ (drop 1 forwardNames) f (c .known5 .ensures)
+    (by-name _ (drop 2 forwardNames) f (at₄ .known4 .ensures)
+    (by-name _ (drop 3 forwardNames) f (at₃ .known3 .ensures)
+    (by-name _ (drop 4 forwardNames) f (at₂ .known2 .ensures)
+    (by-name _ (drop 5 forwardNames) f (at₁ .known .ensures)
+    refl))))
 
 pub forward-spec : {M : Type 1} → statement M
 forward-spec = tie.close (tie.spec slice-aggregate-known known-requires slice-aggregate-known-2 known-requires-2 slice-aggregate-known-3 known-requires-3 slice-aggregate-known-4 known-requires-4 slice-aggregate-known-5 known-requires-5 returns)

@@ -53,7 +53,22 @@ known-requires-7 c κs = search needs
 
 returns : tie.Need-returns
 unfolding codeOf requestNames
-returns c = by-name _ (drop 1 requestNames) (now (c .before .before .before .before .before .before .before .before .before .before .before .before .before .before .before .args .field)) (c .known7 .ensures) (by-name _ (drop 2 requestNames) (now (c .before .before .before .before .before .before .before .before .before .before .before .before .before .before .before .args .field)) (c .before .before .known6 .ensures) (by-name _ (drop 3 requestNames) (now (c .before .before .before .before .before .before .before .before .before .before .before .before .before .before .before .args .field)) (c .before .before .before .before .known5 .ensures) (by-name _ (drop 4 requestNames) (now (c .before .before .before .before .before .before .before .before .before .before .before .before .before .before .before .args .field)) (c .before .before .before .before .before .before .known4 .ensures) (by-name _ (drop 5 requestNames) (now (c .before .before .before .before .before .before .before .before .before .before .before .before .before .before .before .args .field)) (c .before .before .before .before .before .before .before .before .known3 .ensures) (by-name _ (drop 6 requestNames) (now (c .before .before .before .before .before .before .before .before .before .before .before .before .before .before .before .args .field)) (c .before .before .before .before .before .before .before .before .before .before .known2 .ensures) (by-name _ (drop 7 requestNames) (now (c .before .before .before .before .before .before .before .before .before .before .before .before .before .before .before .args .field)) (c .before .before .before .before .before .before .before .before .before .before .before .before .known .ensures) (refl)))))))
+returns c =
+    let at₆ = c .before .before in
+    let at₅ = at₆ .before .before in
+    let at₄ = at₅ .before .before in
+    let at₃ = at₄ .before .before in
+    let at₂ = at₃ .before .before in
+    let at₁ = at₂ .before .before in
+    let f = now (at₁ .before .before .before .args .field) in
+    by-name _ (drop 1 requestNames) f (c .known7 .ensures)
+    (by-name _ (drop 2 requestNames) f (at₆ .known6 .ensures)
+    (by-name _ (drop 3 requestNames) f (at₅ .known5 .ensures)
+    (by-name _ (drop 4 requestNames) f (at₄ .known4 .ensures)
+    (by-name _ (drop 5 requestNames) f (at₃ .known3 .ensures)
+    (by-name _ (drop 6 requestNames) f (at₂ .known2 .ensures)
+    (by-name _ (drop 7 requestNames) f (at₁ .known .ensures)
+    refl))))))
 
 pub request-spec : {M : Type 1} → statement M
 request-spec = tie.close (tie.spec slice-aggregate-known known-requires slice-aggregate-known-2 known-requires-2 slice-aggregate-known-3 known-requires-3 slice-aggregate-known-4 known-requires-4 slice-aggregate-known-5 known-requires-5 slice-aggregate-known-6 known-requires-6 slice-aggregate-known-7 known-requires-7 returns)

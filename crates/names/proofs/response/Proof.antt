@@ -143,7 +143,52 @@ known-requires-22 c κs = search needs
 
 returns : tie.Need-returns
 unfolding codeOf responses responseNames
-returns c = by-name _ (drop 1 responseNames) (now (c .before .before .before .before .before .before .before .before .before .before .before .before .before .before .before .before .before .before .before .before .before .before .before .before .before .before .before .before .before .before .before .before .before .before .before .before .before .before .before .before .before .before .before .before .before .args .field)) (c .known22 .ensures) (by-name _ (drop 2 responseNames) (now (c .before .before .before .before .before .before .before .before .before .before .before .before .before .before .before .before .before .before .before .before .before .before .before .before .before .before .before .before .before .before .before .before .before .before .before .before .before .before .before .before .before .before .before .before .before .args .field)) (c .before .before .known21 .ensures) (by-name _ (drop 3 responseNames) (now (c .before .before .before .before .before .before .before .before .before .before .before .before .before .before .before .before .before .before .before .before .before .before .before .before .before .before .before .before .before .before .before .before .before .before .before .before .before .before .before .before .before .before .before .before .before .args .field)) (c .before .before .before .before .known20 .ensures) (by-name _ (drop 4 responseNames) (now (c .before .before .before .before .before .before .before .before .before .before .before .before .before .before .before .before .before .before .before .before .before .before .before .before .before .before .before .before .before .before .before .before .before .before .before .before .before .before .before .before .before .before .before .before .before .args .field)) (c .before .before .before .before .before .before .known19 .ensures) (by-name _ (drop 5 responseNames) (now (c .before .before .before .before .before .before .before .before .before .before .before .before .before .before .before .before .before .before .before .before .before .before .before .before .before .before .before .before .before .before .before .before .before .before .before .before .before .before .before .before .before .before .before .before .before .args .field)) (c .before .before .before .before .before .before .before .before .known18 .ensures) (by-name _ (drop 6 responseNames) (now (c .before .before .before .before .before .before .before .before .before .before .before .before .before .before .before .before .before .before .before .before .before .before .before .before .before .before .before .before .before .before .before .before .before .before .before .before .before .before .before .before .before .before .before .before .before .args .field)) (c .before .before .before .before .before .before .before .before .before .before .known17 .ensures) (by-name _ (drop 7 responseNames) (now (c .before .before .before .before .before .before .before .before .before .before .before .before .before .before .before .before .before .before .before .before .before .before .before .before .before .before .before .before .before .before .before .before .before .before .before .before .before .before .before .before .before .before .before .before .before .args .field)) (c .before .before .before .before .before .before .before .before .before .before .before .before .known16 .ensures) (by-name _ (drop 8 responseNames) (now (c .before .before .before .before .before .before .before .before .before .before .before .before .before .before .before .before .before .before .before .before .before .before .before .before .before .before .before .before .before .before .before .before .before .before .before .before .before .before .before .before .before .before .before .before .before .args .field)) (c .before .before .before .before .before .before .before .before .before .before .before .before .before .before .known15 .ensures) (by-name _ (drop 9 responseNames) (now (c .before .before .before .before .before .before .before .before .before .before .before .before .before .before .before .before .before .before .before .before .before .before .before .before .before .before .before .before .before .before .before .before .before .before .before .before .before .before .before .before .before .before .before .before .before .args .field)) (c .before .before .before .before .before .before .before .before .before .before .before .before .before .before .before .before .known14 .ensures) (by-name _ (drop 10 responseNames) (now (c .before .before .before .before .before .before .before .before .before .before .before .before .before .before .before .before .before .before .before .before .before .before .before .before .before .before .before .before .before .before .before .before .before .before .before .before .before .before .before .before .before .before .before .before .before .args .field)) (c .before .before .before .before .before .before .before .before .before .before .before .before .before .before .before .before .before .before .known13 .ensures) (by-name _ (drop 11 responseNames) (now (c .before .before .before .before .before .before .before .before .before .before .before .before .before .before .before .before .before .before .before .before .before .before .before .before .before .before .before .before .before .before .before .before .before .before .before .before .before .before .before .before .before .before .before .before .before .args .field)) (c .before .before .before .before .before .before .before .before .before .before .before .before .before .before .before .before .before .before .before .before .known12 .ensures) (by-name _ (drop 12 responseNames) (now (c .before .before .before .before .before .before .before .before .before .before .before .before .before .before .before .before .before .before .before .before .before .before .before .before .before .before .before .before .before .before .before .before .before .before .before .before .before .before .before .before .before .before .before .before .before .args .field)) (c .before .before .before .before .before .before .before .before .before .before .before .before .before .before .before .before .before .before .before .before .before .before .known11 .ensures) (by-name _ (drop 13 responseNames) (now (c .before .before .before .before .before .before .before .before .before .before .before .before .before .before .before .before .before .before .before .before .before .before .before .before .before .before .before .before .before .before .before .before .before .before .before .before .before .before .before .before .before .before .before .before .before .args .field)) (c .before .before .before .before .before .before .before .before .before .before .before .before .before .before .before .before .before .before .before .before .before .before .before .before .known10 .ensures) (by-name _ (drop 14 responseNames) (now (c .before .before .before .before .before .before .before .before .before .before .before .before .before .before .before .before .before .before .before .before .before .before .before .before .before .before .before .before .before .before .before .before .before .before .before .before .before .before .before .before .before .before .before .before .before .args .field)) (c .before .before .before .before .before .before .before .before .before .before .before .before .before .before .before .before .before .before .before .before .before .before .before .before .before .before .known9 .ensures) (by-name _ (drop 15 responseNames) (now (c .before .before .before .before .before .before .before .before .before .before .before .before .before .before .before .before .before .before .before .before .before .before .before .before .before .before .before .before .before .before .before .before .before .before .before .before .before .before .before .before .before .before .before .before .before .args .field)) (c .before .before .before .before .before .before .before .before .before .before .before .before .before .before .before .before .before .before .before .before .before .before .before .before .before .before .before .before .known8 .ensures) (by-name _ (drop 16 responseNames) (now (c .before .before .before .before .before .before .before .before .before .before .before .before .before .before .before .before .before .before .before .before .before .before .before .before .before .before .before .before .before .before .before .before .before .before .before .before .before .before .before .before .before .before .before .before .before .args .field)) (c .before .before .before .before .before .before .before .before .before .before .before .before .before .before .before .before .before .before .before .before .before .before .before .before .before .before .before .before .before .before .known7 .ensures) (by-name _ (drop 17 responseNames) (now (c .before .before .before .before .before .before .before .before .before .before .before .before .before .before .before .before .before .before .before .before .before .before .before .before .before .before .before .before .before .before .before .before .before .before .before .before .before .before .before .before .before .before .before .before .before .args .field)) (c .before .before .before .before .before .before .before .before .before .before .before .before .before .before .before .before .before .before .before .before .before .before .before .before .before .before .before .before .before .before .before .before .known6 .ensures) (by-name _ (drop 18 responseNames) (now (c .before .before .before .before .before .before .before .before .before .before .before .before .before .before .before .before .before .before .before .before .before .before .before .before .before .before .before .before .before .before .before .before .before .before .before .before .before .before .before .before .before .before .before .before .before .args .field)) (c .before .before .before .before .before .before .before .before .before .before .before .before .before .before .before .before .before .before .before .before .before .before .before .before .before .before .before .before .before .before .before .before .before .before .known5 .ensures) (by-name _ (drop 19 responseNames) (now (c .before .before .before .before .before .before .before .before .before .before .before .before .before .before .before .before .before .before .before .before .before .before .before .before .before .before .before .before .before .before .before .before .before .before .before .before .before .before .before .before .before .before .before .before .before .args .field)) (c .before .before .before .before .before .before .before .before .before .before .before .before .before .before .before .before .before .before .before .before .before .before .before .before .before .before .before .before .before .before .before .before .before .before .before .before .known4 .ensures) (by-name _ (drop 20 responseNames) (now (c .before .before .before .before .before .before .before .before .before .before .before .before .before .before .before .before .before .before .before .before .before .before .before .before .before .before .before .before .before .before .before .before .before .before .before .before .before .before .before .before .before .before .before .before .before .args .field)) (c .before .before .before .before .before .before .before .before .before .before .before .before .before .before .before .before .before .before .before .before .before .before .before .before .before .before .before .before .before .before .before .before .before .before .before .before .before .before .known3 .ensures) (by-name _ (drop 21 responseNames) (now (c .before .before .before .before .before .before .before .before .before .before .before .before .before .before .before .before .before .before .before .before .before .before .before .before .before .before .before .before .before .before .before .before .before .before .before .before .before .before .before .before .before .before .before .before .before .args .field)) (c .before .before .before .before .before .before .before .before .before .before .before .before .before .before .before .before .before .before .before .before .before .before .before .before .before .before .before .before .before .before .before .before .before .before .before .before .before .before .before .before .known2 .ensures) (by-name _ (drop 22 responseNames) (now (c .before .before .before .before .before .before .before .before .before .before .before .before .before .before .before .before .before .before .before .before .before .before .before .before .before .before .before .before .before .before .before .before .before .before .before .before .before .before .before .before .before .before .before .before .before .args .field)) (c .before .before .before .before .before .before .before .before .before .before .before .before .before .before .before .before .before .before .before .before .before .before .before .before .before .before .before .before .before .before .before .before .before .before .before .before .before .before .before .before .before .before .known .ensures) (refl))))))))))))))))))))))
+returns c =
+    let at₂₁ = c .before .before in
+    let at₂₀ = at₂₁ .before .before in
+    let at₁₉ = at₂₀ .before .before in
+    let at₁₈ = at₁₉ .before .before in
+    let at₁₇ = at₁₈ .before .before in
+    let at₁₆ = at₁₇ .before .before in
+    let at₁₅ = at₁₆ .before .before in
+    let at₁₄ = at₁₅ .before .before in
+    let at₁₃ = at₁₄ .before .before in
+    let at₁₂ = at₁₃ .before .before in
+    let at₁₁ = at₁₂ .before .before in
+    let at₁₀ = at₁₁ .before .before in
+    let at₉ = at₁₀ .before .before in
+    let at₈ = at₉ .before .before in
+    let at₇ = at₈ .before .before in
+    let at₆ = at₇ .before .before in
+    let at₅ = at₆ .before .before in
+    let at₄ = at₅ .before .before in
+    let at₃ = at₄ .before .before in
+    let at₂ = at₃ .before .before in
+    let at₁ = at₂ .before .before in
+    let f = now (at₁ .before .before .before .args .field) in
+    by-name _ (drop 1 responseNames) f (c .known22 .ensures)
+    (by-name _ (drop 2 responseNames) f (at₂₁ .known21 .ensures)
+    (by-name _ (drop 3 responseNames) f (at₂₀ .known20 .ensures)
+    (by-name _ (drop 4 responseNames) f (at₁₉ .known19 .ensures)
+    (by-name _ (drop 5 responseNames) f (at₁₈ .known18 .ensures)
+    (by-name _ (drop 6 responseNames) f (at₁₇ .known17 .ensures)
+    (by-name _ (drop 7 responseNames) f (at₁₆ .known16 .ensures)
+    (by-name _ (drop 8 responseNames) f (at₁₅ .known15 .ensures)
+    (by-name _ (drop 9 responseNames) f (at₁₄ .known14 .ensures)
+    (by-name _ (drop 10 responseNames) f (at₁₃ .known13 .ensures)
+    (by-name _ (drop 11 responseNames) f (at₁₂ .known12 .ensures)
+    (by-name _ (drop 12 responseNames) f (at₁₁ .known11 .ensures)
+    (by-name _ (drop 13 responseNames) f (at₁₀ .known10 .ensures)
+    (by-name _ (drop 14 responseNames) f (at₉ .known9 .ensures)
+    (by-name _ (drop 15 responseNames) f (at₈ .known8 .ensures)
+    (by-name _ (drop 16 responseNames) f (at₇ .known7 .ensures)
+    (by-name _ (drop 17 responseNames) f (at₆ .known6 .ensures)
+    (by-name _ (drop 18 responseNames) f (at₅ .known5 .ensures)
+    (by-name _ (drop 19 responseNames) f (at₄ .known4 .ensures)
+    (by-name _ (drop 20 responseNames) f (at₃ .known3 .ensures)
+    (by-name _ (drop 21 responseNames) f (at₂ .known2 .ensures)
+    (by-name _ (drop 22 responseNames) f (at₁ .known .ensures)
+    refl)))))))))))))))))))))
 
 pub response-spec : {M : Type 1} → statement M
 response-spec = tie.close (tie.spec slice-aggregate-known known-requires slice-aggregate-known-2 known-requires-2 slice-aggregate-known-3 known-requires-3 slice-aggregate-known-4 known-requires-4 slice-aggregate-known-5 known-requires-5 slice-aggregate-known-6 known-requires-6 slice-aggregate-known-7 known-requires-7 slice-aggregate-known-8 known-requires-8 slice-aggregate-known-9 known-requires-9 slice-aggregate-known-10 known-requires-10 slice-aggregate-known-11 known-requires-11 slice-aggregate-known-12 known-requires-12 slice-aggregate-known-13 known-requires-13 slice-aggregate-known-14 known-requires-14 slice-aggregate-known-15 known-requires-15 slice-aggregate-known-16 known-requires-16 slice-aggregate-known-17 known-requires-17 slice-aggregate-known-18 known-requires-18 slice-aggregate-known-19 known-requires-19 slice-aggregate-known-20 known-requires-20 slice-aggregate-known-21 known-requires-21 slice-aggregate-known-22 known-requires-22 returns)

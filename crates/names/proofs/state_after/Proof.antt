@@ -59,7 +59,24 @@ known-requires-8 c κs = search needs
 
 returns : tie.Need-returns
 unfolding codeOf finalNames
-returns c = by-name _ (drop 1 finalNames) (now (c .before .before .before .before .before .before .before .before .before .before .before .before .before .before .before .before .before .args .field)) (c .known8 .ensures) (by-name _ (drop 2 finalNames) (now (c .before .before .before .before .before .before .before .before .before .before .before .before .before .before .before .before .before .args .field)) (c .before .before .known7 .ensures) (by-name _ (drop 3 finalNames) (now (c .before .before .before .before .before .before .before .before .before .before .before .before .before .before .before .before .before .args .field)) (c .before .before .before .before .known6 .ensures) (by-name _ (drop 4 finalNames) (now (c .before .before .before .before .before .before .before .before .before .before .before .before .before .before .before .before .before .args .field)) (c .before .before .before .before .before .before .known5 .ensures) (by-name _ (drop 5 finalNames) (now (c .before .before .before .before .before .before .before .before .before .before .before .before .before .before .before .before .before .args .field)) (c .before .before .before .before .before .before .before .before .known4 .ensures) (by-name _ (drop 6 finalNames) (now (c .before .before .before .before .before .before .before .before .before .before .before .before .before .before .before .before .before .args .field)) (c .before .before .before .before .before .before .before .before .before .before .known3 .ensures) (by-name _ (drop 7 finalNames) (now (c .before .before .before .before .before .before .before .before .before .before .before .before .before .before .before .before .before .args .field)) (c .before .before .before .before .before .before .before .before .before .before .before .before .known2 .ensures) (by-name _ (drop 8 finalNames) (now (c .before .before .before .before .before .before .before .before .before .before .before .before .before .before .before .before .before .args .field)) (c .before .before .before .before .before .before .before .before .before .before .before .before .before .before .known .ensures) (refl))))))))
+returns c =
+    let at₇ = c .before .before in
+    let at₆ = at₇ .before .before in
+    let at₅ = at₆ .before .before in
+    let at₄ = at₅ .before .before in
+    let at₃ = at₄ .before .before in
+    let at₂ = at₃ .before .before in
+    let at₁ = at₂ .before .before in
+    let f = now (at₁ .before .before .before .args .field) in
+    by-name _ (drop 1 finalNames) f (c .known8 .ensures)
+    (by-name _ (drop 2 finalNames) f (at₇ .known7 .ensures)
+    (by-name _ (drop 3 finalNames) f (at₆ .known6 .ensures)
+    (by-name _ (drop 4 finalNames) f (at₅ .known5 .ensures)
+    (by-name _ (drop 5 finalNames) f (at₄ .known4 .ensures)
+    (by-name _ (drop 6 finalNames) f (at₃ .known3 .ensures)
+    (by-name _ (drop 7 finalNames) f (at₂ .known2 .ensures)
+    (by-name _ (drop 8 finalNames) f (at₁ .known .ensures)
+    refl)))))))
 
 pub state-after-spec : {M : Type 1} → statement M
 state-after-spec = tie.close (tie.spec slice-aggregate-known known-requires slice-aggregate-known-2 known-requires-2 slice-aggregate-known-3 known-requires-3 slice-aggregate-known-4 known-requires-4 slice-aggregate-known-5 known-requires-5 slice-aggregate-known-6 known-requires-6 slice-aggregate-known-7 known-requires-7 slice-aggregate-known-8 known-requires-8 returns)

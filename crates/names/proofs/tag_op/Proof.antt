@@ -35,7 +35,16 @@ known-requires-4 c κs = search needs
 
 returns : tie.Need-returns
 unfolding codeOf tagOpNames
-returns c = by-name _ (drop 1 tagOpNames) (now (c .before .before .before .before .before .before .before .before .before .args .field)) (c .known4 .ensures) (by-name _ (drop 2 tagOpNames) (now (c .before .before .before .before .before .before .before .before .before .args .field)) (c .before .before .known3 .ensures) (by-name _ (drop 3 tagOpNames) (now (c .before .before .before .before .before .before .before .before .before .args .field)) (c .before .before .before .before .known2 .ensures) (by-name _ (drop 4 tagOpNames) (now (c .before .before .before .before .before .before .before .before .before .args .field)) (c .before .before .before .before .before .before .known .ensures) (refl))))
+returns c =
+    let at₃ = c .before .before in
+    let at₂ = at₃ .before .before in
+    let at₁ = at₂ .before .before in
+    let f = now (at₁ .before .before .before .args .field) in
+    by-name _ (drop 1 tagOpNames) f (c .known4 .ensures)
+    (by-name _ (drop 2 tagOpNames) f (at₃ .known3 .ensures)
+    (by-name _ (drop 3 tagOpNames) f (at₂ .known2 .ensures)
+    (by-name _ (drop 4 tagOpNames) f (at₁ .known .ensures)
+    refl)))
 
 pub tag-op-spec : {M : Type 1} → statement M
 tag-op-spec = tie.close (tie.spec slice-aggregate-known known-requires slice-aggregate-known-2 known-requires-2 slice-aggregate-known-3 known-requires-3 slice-aggregate-known-4 known-requires-4 returns)

@@ -1,6 +1,5 @@
 -- `replies::put_decimal` meets its contract: the digits are spelled where there is room for them.
 -- Assumes nothing.
-use denote.Ref.{now}
 use borrow.Author.Needs.{needs}
 use native.Mathlib.Omega.{arith}
 use Rattle.replies.proofs.Laying.{put-short, put-fits}

@@ -2,7 +2,6 @@
 -- Assumes nothing.
 use denote.Ref.{now}
 use borrow.Author.Needs.{needs}
-use native.Mathlib.Omega.{arith}
 use lib.ListN.{drop}
 use Rattle.replies.proofs.Parts.{not-in, first-in, later-in, weight-pos, none-before, some-before, not-empty}
 use Rattle.replies.proofs.put_state.Statement.{statement}

@@ -1,0 +1,78 @@
+-- `sheet::eat` meets its contract: what is left to eat is what was to be eaten. The measure is the bytes that are held, and the end of the run.
+-- Assumes nothing.
+use mathlib.Core.Path.{sym, _∙_, ap}
+use mathlib.Core.Bool.{cond}
+use Prim.Native.Nat.{_+_, _-_}
+use borrow.Author.Tests.{not-true, not-false}
+use denote.Ref.{now}
+use lib.ListN.{length}
+use Rattle.sheet.specs.declared.Next.{Next}
+use Rattle.sheet.specs.Eaten.{held}
+use Rattle.sheet.proofs.Laws.{Eating, eating-start, ready-test, next-end, roomy-here, counts-on, eaten-all, eating-less, eating-next}
+use Rattle.sheet.proofs.eat.Statement.{statement}
+use Rattle.sheet.proofs.eat.Tie as tie
+
+abbrev Inv-loop : tie.InvT-loop
+Inv-loop piece ended lines going table₀ out₀ taken₀ put₀ count₀ goes-on₀ table out taken put count goes-on = Eating ended piece out₀ (held piece lines table₀ going) table out taken put count goes-on
+
+abbrev μ-loop : tie.MeasureT-loop
+μ-loop piece ended lines going table₀ out₀ taken₀ put₀ count₀ goes-on₀ table out taken put count goes-on = length piece - taken + cond goes-on 1 0
+
+loop-holds : tie.Need-loop-holds Inv-loop μ-loop
+loop-holds c = eating-start (c .before .before .before .args .ended) (now (c .before .before .before .args .piece)) (now (c .before .before .before .args .table)) (now (c .before .before .before .args .out)) (c .before .before .before .args .lines) (c .before .before .before .args .going)
+
+next-line-requires : tie.Need-next-line-requires Inv-loop μ-loop
+next-line-requires c κs = c .loop .inv .inside
+
+sub-if1 : tie.Need-sub-if1 Inv-loop μ-loop
+sub-if1 c = c .before .loop .inv .fits
+
+same-length : tie.Need-same-length Inv-loop μ-loop
+same-length c = c .before .before .loop .inv .table-long
+
+same-length-2 : tie.Need-same-length-2 Inv-loop μ-loop
+same-length-2 c = c .before .before .loop .inv .long
+
+returns : tie.Need-returns Inv-loop μ-loop
+returns c = eaten-all (c .before .before .loop .inv) (sym (ready-test (c .before .next-line .result .sure) (c .before .before .loop .inv) (ap (λ (x : Next). x .sure) (c .before .next-line .ensures))) ∙ not-true _ (c .if1 .taken))
+
+sub-judge-line : tie.Need-sub-judge-line Inv-loop μ-loop
+sub-judge-line c = next-end (c .before .before .before .before .before .before .args .ended) (c .before .before .loop .count) (c .before .before .loop .taken) (now (c .before .before .before .before .before .before .args .piece)) (c .before .next-line .result) (c .before .before .loop .inv .inside) (c .before .next-line .ensures) .0
+
+part-judge-line-start : tie.Need-part-judge-line-start Inv-loop μ-loop
+part-judge-line-start c = next-end (c .before .before .before .before .before .before .args .ended) (c .before .before .loop .count) (c .before .before .loop .taken) (now (c .before .before .before .before .before .before .args .piece)) (c .before .next-line .result) (c .before .before .loop .inv .inside) (c .before .next-line .ensures) .0
+
+part-judge-line-end : tie.Need-part-judge-line-end Inv-loop μ-loop
+part-judge-line-end c = next-end (c .before .before .before .before .before .before .args .ended) (c .before .before .loop .count) (c .before .before .loop .taken) (now (c .before .before .before .before .before .before .args .piece)) (c .before .next-line .result) (c .before .before .loop .inv .inside) (c .before .next-line .ensures) .1
+
+judge-line-requires : tie.Need-judge-line-requires Inv-loop μ-loop
+judge-line-requires c κs = roomy-here (c .before .before .before .before .before .loop .inv) (sym (ready-test (c .before .before .before .before .next-line .result .sure) (c .before .before .before .before .before .loop .inv) (ap (λ (x : Next). x .sure) (c .before .before .before .before .next-line .ensures))) ∙ not-false _ (c .before .before .before .if1 .left))
+
+counted-requires : tie.Need-counted-requires Inv-loop μ-loop
+counted-requires c κs = λ g. counts-on (c .before .before .before .before .before .before .before .before .before .before .loop .count) (c .before .before .before .before .before .before .before .before .before .before .loop .table) _ (c .before .before .before .before .judge-line .ensures) g
+
+loop-less : tie.Need-loop-less Inv-loop μ-loop
+loop-less c = eating-less (c .before .before .before .before .before .before .before .before .before .before .before .loop .inv) (record { is-ready = sym (ready-test (c .before .before .before .before .before .before .before .before .before .before .next-line .result .sure) (c .before .before .before .before .before .before .before .before .before .before .before .loop .inv) (ap (λ (x : Next). x .sure) (c .before .before .before .before .before .before .before .before .before .before .next-line .ensures))) ∙ not-false _ (c .before .before .before .before .before .before .before .before .before .if1 .left); is-next = c .before .before .before .before .before .before .before .before .before .before .next-line .ensures; answered = c .before .before .before .before .before .judge-line .ensures; counted = c .counted .ensures })
+
+loop-again : tie.Need-loop-again Inv-loop μ-loop
+loop-again c = eating-next (c .before .before .before .before .before .before .before .before .before .before .before .loop .inv) (record { is-ready = sym (ready-test (c .before .before .before .before .before .before .before .before .before .before .next-line .result .sure) (c .before .before .before .before .before .before .before .before .before .before .before .loop .inv) (ap (λ (x : Next). x .sure) (c .before .before .before .before .before .before .before .before .before .before .next-line .ensures))) ∙ not-false _ (c .before .before .before .before .before .before .before .before .before .if1 .left); is-next = c .before .before .before .before .before .before .before .before .before .before .next-line .ensures; answered = c .before .before .before .before .before .judge-line .ensures; counted = c .counted .ensures })
+
+pub eat-spec : {M : Type 1} → statement M
+eat-spec =
+    tie.close
+    (tie.spec
+    Inv-loop
+    μ-loop
+    loop-holds
+    next-line-requires
+    sub-if1
+    same-length
+    same-length-2
+    returns
+    sub-judge-line
+    part-judge-line-start
+    part-judge-line-end
+    judge-line-requires
+    counted-requires
+    loop-less
+    loop-again)
