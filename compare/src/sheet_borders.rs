@@ -123,7 +123,7 @@ fn of_bytes(lines: &[Vec<u8>], bytes: usize) -> Vec<u8> {
     let shortest = SHORTEST + CRLF.len();
     let count = (bytes - header - shortest) / WIDTH;
     let odd = bytes - header - count * WIDTH - CRLF.len();
-    let all = [&[of_length(odd)], &lines[..count]].concat();
+    let all = [&[of_length(odd)][..], &lines[..count]].concat();
     sheet(&all)
 }
 

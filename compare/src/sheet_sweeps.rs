@@ -365,7 +365,7 @@ fn add_line_ends(sheets: &mut Sheets) {
             }
         }
     }
-    let all = [&[HEADER.as_bytes().to_vec()], &lines[..]].concat();
+    let all = [&[HEADER.as_bytes().to_vec()][..], &lines].concat();
     let changed: [&[usize]; 6] = [&[1], &[2], &[3], &[4], &[2, 3, 4], &[1, 2, 3, 4]];
     for end in OTHER_ENDS {
         for numbers in changed {

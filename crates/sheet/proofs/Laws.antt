@@ -4,12 +4,12 @@ use mathlib.Core.Path.{_≡_, refl, sym, _∙_, ap, ap₂, subst}
 use mathlib.Core.Bool.{Bool, true, false, cond, _&&_, _||_, false≢true}
 use mathlib.Core.List.{List, [], _∷_, _++_, append-nil}
 use Prim.Native.Nat.{ℕ, zero, suc, _+_, _-_, _≤_, _<_, _^_}
-use native.Mathlib.Nat.{add-zero, add-assoc}
+use native.Mathlib.Nat.{add-zero, zero-add, add-assoc, add-comm}
 use native.Mathlib.Omega.{arith}
 use borrow.Author.Tests.{leb-true, leb-false, le-leb, lt-leb, lt-ltb, le-ltb, ltb-false, eq-eqb, ne-eqb, eqb-true}
 use lib.Dec.{eqb, leb, ltb}
 use lib.ListN.{length, getD, set, take, drop, drop-of-length-le, length-append, length-take, length-drop, length-set, take-append-drop}
-use lib.Seq.{drop-cons, drop-drop, drop-at, take-at}
+use lib.Seq.{drop-cons, drop-drop, drop-at, take-at, getD-drop, paste, paste-suc}
 use Rattle.kinds.specs.Tests.{same}
 use Rattle.kinds.specs.Places.{setIn}
 use Rattle.verdicts.specs.Verdicts.{finding}
@@ -29,7 +29,7 @@ use Rattle.sheet.specs.declared.Eaten.{Eaten}
 use Rattle.sheet.specs.declared.Next.{Next}
 use Rattle.sheet.specs.Sheet.{Told, told, refuse, header, longest, mostLines, onHeader, onEntry, onLine}
 use Rattle.sheet.specs.Pieces.{Held, nextLine, taken, whole, sure, room, ready, afterLine, turn, eaten}
-use Rattle.sheet.specs.Eaten.{held, left, leftOf, ate}
+use Rattle.sheet.specs.Eaten.{held, Left, left, leftOf, ate, movedDown, kept}
 use Rattle.sheet.specs.Answered.{Answers, AnswersOn, Roomy, nextIn}
 use Rattle.sheet.proofs.Turns.{is-ready, size, eaten-turn, eaten-stuck, turn-ready, turn-less, taken-within}
 
@@ -436,3 +436,78 @@ eaten-all e f = eating-stop e f
 -- only a line that is not too many lets the run go on
 pub counts-on : {at : ℕ} {out out′ table′ : List ℕ} {r : Answered} (k : ℕ) (table line : List ℕ) → AnswersOn (onLine k table line) out at r out′ table′ → r .goes ≡ true → k < mostLines
 counts-on k table line a g = goes-few k table line (sym (a .answers-so .goes-so) ∙ g)
+
+-- no more is taken than the piece has, and no more is put than the buffer has
+pub ate-within : {table′ out′ : List ℕ} (ended : Bool) (piece : List ℕ) (lines : ℕ) (going : Bool) (table out : List ℕ) (r : Eaten)
+    → left r table′ out′ ≡ ate ended piece lines going table out → length out′ ≡ length out → (r .taken ≤ length piece) × (r .put ≤ length out′)
+unfolding ate
+ate-within {table′} {out′} ended piece lines going table out r e long = (
+  subst (λ n. n ≤ length piece) (sym (ap (λ (x : Left). x .answer .taken) e)) (omega arith),
+  subst (λ n. n ≤ length out′) (sym (ap (λ (x : Left). x .answer .put) e)) (omega (arith, long, whole-length)),
+)
+  where
+    text : List ℕ
+    text = eaten ended (length out) (held piece lines table going) .text
+    whole-length : length out′ ≡ length text + (length out - length text)
+    whole-length = ap (λ (x : Left). length (x .out)) e ∙ length-append text (drop (length text) out) ∙ ap (λ n. length text + n) (length-drop (length text) out)
+
+-- bytes that are being moved down: those so far stand at the front
+pub record Moving (piece₀ : List ℕ) (start count : ℕ) (piece : List ℕ) (at : ℕ) : Type 0 where
+  pub so : piece ≡ movedDown piece₀ start at
+  pub below : at ≤ count
+
+pub moving-start : (piece : List ℕ) (start count : ℕ) → Moving piece start count piece 0
+moving-start piece start count = record { so = refl; below = omega arith }
+
+front-long : (piece : List ℕ) (start at : ℕ) → start + at ≤ length piece → length (take at (drop start piece)) ≡ at
+front-long piece start at h = length-front at (drop start piece) (subst (λ n. at ≤ n) (sym (length-drop start piece)) (omega (arith, h)))
+
+pub moving-long : {piece₀ piece : List ℕ} {start count at : ℕ} → start + count ≤ length piece₀ → Moving piece₀ start count piece at → length piece ≡ length piece₀
+moving-long {piece₀} {piece} {start} {count} {at} h m =
+    ap length (m .so) ∙ length-append (take at (drop start piece₀)) (drop at piece₀)
+    ∙ ap₂ (λ (a b : ℕ). a + b) (front-long piece₀ start at (omega (arith, h, m .below))) (length-drop at piece₀) ∙ omega (arith, h, m .below)
+
+-- a byte that is not moved yet stands where it stood
+still : (piece : List ℕ) (start at : ℕ) → start + at ≤ length piece → getD (movedDown piece start at) (start + at) 0 ≡ getD (drop start piece) at 0
+still piece start at h =
+    ap (λ n. getD (movedDown piece start at) n 0) (add-comm start at)
+    ∙ sym (getD-drop at (movedDown piece start at) start 0)
+    ∙ ap (λ (s : List ℕ). getD s start 0) (drop-at (take at (drop start piece)) (drop at piece) at (front-long piece start at h))
+    ∙ getD-drop at piece start 0 ∙ ap (λ n. getD piece n 0) (add-comm at start) ∙ sym (getD-drop start piece at 0)
+
+pasted : (piece : List ℕ) (start at : ℕ) → movedDown piece start at ≡ paste piece 0 (drop start piece) at
+pasted piece start at = ap (λ n. take at (drop start piece) ++ drop n piece) (sym (zero-add at))
+
+pub moving-next : {piece₀ piece : List ℕ} {start count at : ℕ} (x : ℕ) → start + count ≤ length piece₀ → Moving piece₀ start count piece at → at < count
+    → x ≡ getD piece (start + at) 0 → Moving piece₀ start count (set piece at x) (at + 1)
+moving-next {piece₀} {piece} {start} {count} {at} x h m k e = record {
+  so = ap₂ (λ (s : List ℕ) (y : ℕ). set s at y) (m .so) (e ∙ ap (λ (s : List ℕ). getD s (start + at) 0) (m .so) ∙ still piece₀ start at (omega (arith, h, k)))
+      ∙ ap₂ (λ (s : List ℕ) (n : ℕ). set s n (getD (drop start piece₀) at 0)) (pasted piece₀ start at) (sym (zero-add at))
+      ∙ paste-suc piece₀ 0 (drop start piece₀) at 0 (omega (arith, h, k)) (subst (λ n. at < n) (sym (length-drop start piece₀)) (omega (arith, h, k)))
+      ∙ sym (pasted piece₀ start (suc at)) ∙ ap (movedDown piece₀ start) (next-one at);
+  below = omega (arith, k);
+}
+  where
+    next-one : (n : ℕ) → suc n ≡ n + 1
+    next-one n = omega arith
+
+pub moving-end : {piece₀ piece : List ℕ} {start count at : ℕ} → Moving piece₀ start count piece at → count ≤ at → piece ≡ movedDown piece₀ start count
+moving-end {piece₀} {piece} {start} {count} {at} m h = m .so ∙ ap (movedDown piece₀ start) (same-place at count (m .below) h)
+  where
+    same-place : (a b : ℕ) → a ≤ b → b ≤ a → a ≡ b
+    same-place a b p q = omega (arith, p, q)
+
+-- where there is nothing to keep, all stays
+pub kept-none : (piece : List ℕ) (taken end : ℕ) → end < taken → piece ≡ kept piece taken end
+unfolding kept
+kept-none piece taken end h = sym (ap (λ b. cond (b && leb end (length piece)) (movedDown piece taken (end - taken)) piece) (lt-leb taken end h))
+
+pub kept-past : (piece : List ℕ) (taken end : ℕ) → taken ≤ end → length piece < end → piece ≡ kept piece taken end
+unfolding kept
+kept-past piece taken end h k =
+    sym (ap₂ (λ (b c : Bool). cond (b && c) (movedDown piece taken (end - taken)) piece) (le-leb taken end h) (lt-leb end (length piece) k))
+
+pub kept-part : (piece : List ℕ) (taken end : ℕ) → taken ≤ end → end ≤ length piece → movedDown piece taken (end - taken) ≡ kept piece taken end
+unfolding kept
+kept-part piece taken end h k =
+    sym (ap₂ (λ (b c : Bool). cond (b && c) (movedDown piece taken (end - taken)) piece) (le-leb taken end h) (le-leb end (length piece) k))

@@ -1,8 +1,9 @@
 -- The whole answer to a piece of a sheet: what is taken of it, what is put, and every byte afterwards.
 use Prim.Native.Nat.{ℕ, _-_}
-use mathlib.Core.Bool.{Bool}
+use mathlib.Core.Bool.{Bool, cond, _&&_}
 use mathlib.Core.List.{List, [], _++_}
-use lib.ListN.{length, drop}
+use lib.Dec.{leb}
+use lib.ListN.{length, take, drop}
 use Rattle.sheet.specs.declared.Eaten.{Eaten}
 use Rattle.sheet.specs.Pieces.{Held, eaten}
 
@@ -28,3 +29,11 @@ leftOf piece out h =
 -- THE WHOLE ANSWER to a piece, for whatever is lent
 unfoldable pub ate : Bool → List ℕ → ℕ → Bool → List ℕ → List ℕ → Left
 ate ended piece lines going table out = leftOf piece out (eaten ended (length out) (held piece lines table going))
+
+-- so many bytes from a place on stand at the front, and behind them what stood there
+abbrev pub movedDown : List ℕ → ℕ → ℕ → List ℕ
+movedDown piece start count = take count (drop start piece) ++ drop count piece
+
+-- what is held, from where it was taken up to its end, kept at the front; where there is no such part, all stays
+unfoldable pub kept : List ℕ → ℕ → ℕ → List ℕ
+kept piece taken end = cond (leb taken end && leb end (length piece)) (movedDown piece taken (end - taken)) piece

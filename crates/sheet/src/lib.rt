@@ -8,7 +8,7 @@ ghost use mathlib.Core.List.{[]};
 ghost use lib.ListN.{length};
 ghost use Rattle.kinds.specs.Tests.{same};
 ghost use Rattle.sheet.specs.Sheet.{refuse, onHeader, onEntry, onLine, mostLines};
-ghost use Rattle.sheet.specs.Eaten.{left, ate};
+ghost use Rattle.sheet.specs.Eaten.{left, ate, movedDown, kept};
 ghost use Rattle.sheet.specs.Answered.{Answers, AnswersOn, Roomy, nextIn};
 
 // A line has at most this many bytes before its CR LF.
@@ -190,4 +190,30 @@ pub fn eat(piece: &[u8], ended: bool, lines: u32, going: bool, table: &mut [u8],
         put = answered.at;
         goes_on = goes;
     }
+}
+
+// The bytes from a place up to an end, moved down to the front.
+fn move_down(piece: &mut [u8], from: usize, count: usize)
+    requires { ⌜ from + count ≤ length (now piece) ⌝ }
+    ensures { λ _. ⌜ now (piece .exit) ≡ movedDown (now (piece .entry)) from count ⌝ }
+{
+    let mut at: usize = 0;
+    while at < count {
+        piece[at] = piece[from + at];
+        at += 1;
+    }
+}
+
+// What is held of a piece, from the place up to which it was taken to the end of what was read, kept for the next: moved to the front. Nothing
+// moves where there is no such part.
+pub fn keep(piece: &mut [u8], taken: usize, held: usize)
+    ensures { λ _. ⌜ now (piece .exit) ≡ kept (now (piece .entry)) taken held ⌝ }
+{
+    if held < taken {
+        return;
+    }
+    if piece.len() < held {
+        return;
+    }
+    move_down(piece, taken, held - taken);
 }
