@@ -66,18 +66,6 @@ fn filled(run: Run, piece: &mut [u8]) -> Run
     read_more(run, piece)
 }
 
-// The bytes from a place up to an end, moved to the front.
-fn keep(piece: &mut [u8], from: usize, end: usize)
-    requires { ⌜ from ≤ end ⌝ }
-    requires { ⌜ end ≤ length (now piece) ⌝ }
-{
-    let mut at: usize = 0;
-    while at < end - from {
-        piece[at] = piece[from + at];
-        at += 1;
-    }
-}
-
 // Writes the front of the buffer. A failure is told.
 fn write_out(out: &[u8], put: usize) -> bool
     requires { ⌜ put ≤ length (now out) ⌝ }
@@ -109,7 +97,7 @@ fn turn(run: Run, piece: &mut [u8], table: &mut [u8], out: &mut [u8]) -> Run
     if !write_out(out, ate.put) {
         return stopped(now);
     }
-    keep(piece, taken, held);
+    sheet::keep(piece, taken, held);
     Run {
         held: held - taken,
         lines: ate.lines,

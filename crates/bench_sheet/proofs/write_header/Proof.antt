@@ -1,24 +1,20 @@
+-- `bench_sheet::write_header` is safe: the header fits.
+-- Assumes nothing.
+use denote.Ref.{now}
+use Rattle.bench_sheet.proofs.Laws.{header-within}
 use borrow.Author.Needs.{needs}
 use Rattle.bench_sheet.proofs.write_header.Statement.{statement}
 use Rattle.bench_sheet.proofs.write_header.Tie as tie
-use Rattle.bench_sheet.proofs.write_header.Reads as reads
-use Rattle.bench_sheet.proofs.write_header.Lts as lts
-use Rattle.bench_sheet.proofs.write_out.Reads as write-out-reads
-use Rattle.replies.proofs.put_header.Reads as put-header-reads
 
--- src/main.rt:96:9
 put-header-requires : tie.Need-put-header-requires
 put-header-requires c κs = search needs
 
--- src/main.rt:97:5
 write-out-requires : tie.Need-write-out-requires
-write-out-requires c κs = ?
+write-out-requires c κs = header-within (c .before .before .before .put-header .result) (now (c .before .before .before .before .before .before .args .out)) _ (c .before .before .before .before .before .before .pre) (c .before .before .before .put-header .ensures)
 
--- src/main.rt:93:1
 same-length : tie.Need-same-length
 same-length c = search needs
 
--- src/main.rt:93:1
 returns : tie.Need-returns
 returns c = search needs
 
