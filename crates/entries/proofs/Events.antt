@@ -50,10 +50,12 @@ code-below line w i h = go (each-code (λ (j x : ℕ). (x ≡ unknown) ⊎ (x < 
   where
     inside : i < length columns
     inside = subst (λ n. i < n) (sym columns-count) h
+
     is-known : known (getD (lineCodes line) i 0) ≡ true
     is-known =
         known-at (lineCodes line) i (subst (λ n. i < n) (sym (length-codes columns (fieldsOf line))) inside)
         (and-right (eqb (length (fieldsOf line)) (length columns)) (all known (lineCodes line)) w)
+
     go : (getD (lineCodes line) i 0 ≡ unknown) ⊎ (getD (lineCodes line) i 0 < getD limits i 0) → getD (lineCodes line) i 0 < getD limits i 0
     go (inl e) = absurd (false≢true (sym (ap not (eq-eqb (getD (lineCodes line) i 0) unknown e)) ∙ is-known))
     go (inr b) = b
@@ -79,8 +81,10 @@ event-whole line w =
   where
     c : ℕ → ℕ
     c i = getD (lineCodes line) i 0
+
     wires : List ℕ → List ℕ
     wires s = getD (answerBytes (c 6)) 0 0 ∷ getD (answerBytes (c 6)) 1 0 ∷ getD (answerBytes (c 6)) 2 0 ∷ getD (answerBytes (c 6)) 3 0 ∷ s
+
     cut : (i : ℕ) → c i < 256 → c i % 256 ≡ c i
     cut i h = mod-eq-of-lt h
 

@@ -80,6 +80,7 @@ fewer-blank codes number h e =
   where
     next-place : (n : ℕ) → suc n ≡ n + 1
     next-place n = omega arith
+
     gap : (n : ℕ) → n < width → width - n ≡ suc (width - suc n)
     gap n k = omega (arith, k)
 
@@ -105,8 +106,10 @@ reading-next {line} {codes} {good} {at} {number} end code r h k e f = record {
   where
     next-place : (n : ℕ) → suc n ≡ n + 1
     next-place n = omega arith
+
     step : fieldsFrom line at ≡ take (end - at) (drop at line) ∷ fieldsFrom line (end + 1)
     step = fields-step line at k ∙ ap (λ n. take (n - at) (drop at line) ∷ fieldsFrom line (n + 1)) (sym e)
+
     put : take (suc number) (set codes number code) ≡ take number codes ++ code ∷ []
     put = take-suc-set codes number code (subst (λ n. number < n) (sym (r .long)) h)
 
@@ -121,8 +124,10 @@ reading-short {line} {codes} {good} {at} {number} r h k = ap₂ (λ (cs : List �
         r .so ∙ ap (λ (fs : List (List ℕ)). take number codes ++ codesOf (drop number columns) fs) (fields-none line at k)
         ∙ ap (λ (s : List ℕ). take number codes ++ s) (none-left (drop number columns) ∙ ap (λ n. replicate n unknown) (length-drop-columns number) ∙ sym (r .blank))
         ∙ take-append-drop number codes
+
     counted : length (fieldsOf line) ≡ number
     counted = r .count ∙ ap (λ (fs : List (List ℕ)). number + length fs) (fields-none line at k) ∙ add-zero number
+
     short : wellFormed line ≡ false
     short = ap (λ b. b && all known (lineCodes line)) (ne-eqb (length (fieldsOf line)) (length columns) (λ e. omega (arith, h, e, counted, eleven)))
 
@@ -134,14 +139,18 @@ reading-end {line} {codes} {good} {at} {number} r h = ap₂ (λ (cs : List ℕ) 
   where
     is-width : number ≡ width
     is-width = omega (arith, h, r .few)
+
     all-taken : take number codes ≡ codes
     all-taken = take-all number codes (omega (arith, h, r .long))
+
     no-columns : drop number columns ≡ []
     no-columns = drop-of-length-le columns {i = number} (omega (arith, h, eleven))
+
     all-codes : lineCodes line ≡ codes
     all-codes =
         r .so ∙ ap (λ (cs : List (List ℕ → ℕ)). take number codes ++ codesOf cs (fieldsFrom line at)) no-columns
         ∙ append-nil (take number codes) ∙ all-taken
+
     full : (b : Bool) → ltb (length line) at ≡ b → eqb (length (fieldsOf line)) (length columns) ≡ b
     full true e =
         eq-eqb (length (fieldsOf line)) (length columns)
@@ -149,6 +158,7 @@ reading-end {line} {codes} {good} {at} {number} r h = ap₂ (λ (cs : List ℕ) 
     full false e =
         ne-eqb (length (fieldsOf line)) (length columns)
         (λ q. omega (arith, q, eleven, is-width, r .count, ap length (fields-step line at (ltb-false (length line) at e))))
+
     swap : good && ltb (length line) at ≡ ltb (length line) at && good
     swap = go good (ltb (length line) at)
       where
@@ -177,23 +187,33 @@ event-bytes {a} {b} {c} {d} {e} {f} {g} {h} {i} {j} codes answer w p q r s t u v
   where
     wires : List ℕ → List ℕ → List ℕ
     wires l more = getD l 0 0 ∷ getD l 1 0 ∷ getD l 2 0 ∷ getD l 3 0 ∷ more
+
     W : List ℕ
     W = answerBytes (getD codes 6 0)
+
     A : ℕ
     A = getD codes 1 0 % 256
+
     B : ℕ
     B = getD codes 2 0 % 256
+
     C : ℕ
     C = getD codes 3 0 % 256
+
     D : ℕ
     D = getD codes 4 0 % 256
+
     E : ℕ
     E = getD codes 5 0 % 256
+
     F : ℕ
     F = getD codes 7 0 % 256
+
     G : ℕ
     G = getD codes 8 0 % 256
+
     H : ℕ
     H = present (getD codes 9 0)
+
     I : ℕ
     I = getD codes 9 0 % 256

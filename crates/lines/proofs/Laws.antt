@@ -89,6 +89,7 @@ looked-here {s} {start} {last} {at} l h t = sym (l .so ∙ ap (λ n. at + reach 
   where
     gap : last - at ≡ suc (last - (at + 1))
     gap = omega (arith, h)
+
     here : reach (suc (last - (at + 1))) (drop at s) ≡ 0
     here =
         ap (reach (suc (last - (at + 1)))) (drop-cons s at 0 (omega (arith, h, l .inside)))

@@ -23,6 +23,7 @@ whole-line (suc n) (x ∷ y ∷ s) more h = go (crlf (x ∷ y ∷ s)) refl h (wh
   where
     r : ℕ
     r = reach n (y ∷ s)
+
     go : (b : Bool) → crlf (x ∷ y ∷ s) ≡ b → crlf (drop (cond b 0 (suc r)) (x ∷ y ∷ s)) ≡ true
         → (crlf (drop r (y ∷ s)) ≡ true → linesOf (y ∷ s ++ more) ≡ take r (y ∷ s) ∷ linesOf (drop (r + 2) (y ∷ s) ++ more))
         → cond b ([] ∷ linesOf (s ++ more)) (onFirst x (linesOf (y ∷ s ++ more)))
@@ -50,6 +51,7 @@ some-line x (y ∷ s) = go (crlf (x ∷ y ∷ s))
     first : (ls : List (List ℕ)) → Long 0 (onFirst x ls)
     first [] = record { line = x ∷ []; others = []; are = refl; long = omega arith }
     first (l ∷ ls) = record { line = x ∷ l; others = ls; are = refl; long = omega arith }
+
     go : (b : Bool) → Long 0 (cond b ([] ∷ linesOf s) (onFirst x (linesOf (y ∷ s))))
     go true = record { line = []; others = linesOf s; are = refl; long = omega arith }
     go false = first (linesOf (y ∷ s))

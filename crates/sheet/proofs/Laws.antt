@@ -123,9 +123,11 @@ table-kept k table line = go (eqb k 0) (ltb mostLines (k + 1)) (ltb longest (len
     on-header : (b : Bool) → length (cond b (told [] table true) (refuse 6 0 table) .table) ≡ length table
     on-header true = refl
     on-header false = refl
+
     on-entry : (e : Entry) (b : Bool) → length (cond b (entryTold k table e) (refuse (e .refusal .0) k table) .table) ≡ length table
     on-entry e true = length-set table (e .pair .0) _
     on-entry e false = refl
+
     go : (a b c : Bool)
         → length (cond a (onHeader table line) (cond b (refuse 7 k table) (cond c (refuse 7 k table) (onEntry k table (entryOf line)))) .table) ≡ length table
     go true b c = on-header (same line header)
@@ -359,8 +361,10 @@ answer-put k at n table out out′ table′ e found before pos few roomy zero-is
   where
     found′ : Finding
     found′ = finding (e .event) (setIn table (e .pair .0))
+
     is-found : found ≡ found′
     is-found = f ∙ ap (finding (e .event)) b
+
     fits : at + length (answerLine (k - 1) found′) ≤ length out
     fits = omega (arith, roomy, answer-short (k - 1) found′ (omega (arith, few)))
 
@@ -448,6 +452,7 @@ ate-within {table′} {out′} ended piece lines going table out r e long = (
   where
     text : List ℕ
     text = eaten ended (length out) (held piece lines table going) .text
+
     whole-length : length out′ ≡ length text + (length out - length text)
     whole-length = ap (λ (x : Left). length (x .out)) e ∙ length-append text (drop (length text) out) ∙ ap (λ n. length text + n) (length-drop (length text) out)
 

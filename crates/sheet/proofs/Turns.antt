@@ -43,6 +43,7 @@ long-told k table line h = go (eqb k 0) (ltb mostLines (k + 1))
   where
     other : same line header ≡ false
     other = same-long line header (omega (arith, h, header-short))
+
     go : (b c : Bool)
         → cond b (onHeader table line) (cond c (refuse 7 k table) (cond (ltb longest (length line)) (refuse 7 k table) (onEntry k table (entryOf line))))
         ≡ cond b (refuse 6 0 table) (refuse 7 k table)
@@ -122,8 +123,10 @@ line-seen ended k table rest more h f = go (whole rest) refl (ltb tooLong (lengt
   where
     Seen : Bool → Type 0
     Seen b = answers k table (linesOf (rest ++ more)) ≡ andThen k (onLine k table (nextLine rest)) (linesOf (drop (reach tooLong rest + cond b 2 0) rest ++ more))
+
     all-of : more ≡ [] → rest ++ more ≡ rest
     all-of e = ap (λ (s : List ℕ). rest ++ s) e ∙ append-nil rest
+
     go : (b : Bool) → whole rest ≡ b → (c : Bool) → ltb tooLong (length rest) ≡ c → (d : Bool) → ended ≡ d
         → b || (c || (d && (ltb 0 (length rest) || eqb k 0))) ≡ true → Seen b
     go true e c e₂ d e₃ g = ap (answers k table) (whole-line tooLong rest more e)
@@ -238,6 +241,7 @@ goes-takes ended k table rest h g = subst (λ n. n < length rest) (sym (length-d
   where
     r : ℕ
     r = reach tooLong rest
+
     go : (b : Bool) → whole rest ≡ b → (c : Bool) → ltb tooLong (length rest) ≡ c → (d : Bool)
         → b || (c || (d && (ltb 0 (length rest) || eqb k 0))) ≡ true → length rest - (reach tooLong rest + cond b 2 0) < length rest
     go true e c e₂ d f = omega (arith, subst (λ n. 2 ≤ n) (length-drop (reach tooLong rest) rest) (two-bytes (drop (reach tooLong rest) rest) e))
@@ -262,6 +266,7 @@ turn-less ended space h e =
   where
     r : Ready ended space h
     r = is-ready ended space h e
+
     go : (b : Bool) → nextTold h .goes ≡ b → length (drop (taken (h .rest)) (h .rest)) + cond b 1 0 < length (h .rest) + 1
     go true g = omega (arith, goes-takes ended (h .lines) (h .table) (h .rest) (r .is-sure) g)
     go false g = omega (arith, rest-within h)
@@ -297,6 +302,7 @@ eaten-turn ended space h = go (ready ended space h) refl
   where
     h′ : Held
     h′ = turn ended space h
+
     go : (b : Bool) → ready ended space h ≡ b
         → times (suc (length (h .rest))) (turn ended space) h ≡ times (suc (length (turn ended space h .rest))) (turn ended space) (turn ended space h)
     go true e =

@@ -163,7 +163,14 @@ fn counted(lines: u32, goes: bool) -> u32
 
 // A piece of a sheet judged line by line, as far as its lines are known and the buffer has room for their answers. So many lines were taken
 // before it, and `going` is false behind a refusal. Where `ended`, nothing follows the piece.
-pub fn eat(piece: &[u8], ended: bool, lines: u32, going: bool, table: &mut [u8], out: &mut [u8]) -> Eaten
+pub fn eat(
+    piece: &[u8],
+    ended: bool,
+    lines: u32,
+    going: bool,
+    table: &mut [u8],
+    out: &mut [u8],
+) -> Eaten
     ensures { λ r. ⌜ left r (now (table .exit)) (now (out .exit))
         ≡ ate ended (now (piece .entry)) lines going (now (table .entry)) (now (out .entry)) ⌝ }
 {
