@@ -1,7 +1,7 @@
 -- Laws of the event that a line names: every code of a well formed line is below the limit of its column, so none is cut.
 -- Assumes nothing.
 use mathlib.Core.Path.{_≡_, refl, sym, _∙_, ap, ap₂, subst}
-use mathlib.Core.Bool.{Bool, true, false, cond, not, _&&_, false≢true}
+use mathlib.Core.Bool.{true, false, cond, not, false≢true}
 use mathlib.Core.List.{List, [], _∷_, _++_}
 use mathlib.Core.Logic.{_⊎_, inl, inr}
 use Prim.Native.Nat.{ℕ, zero, suc, _%_, _≤_, _<_}
@@ -16,7 +16,6 @@ use Rattle.fields.specs.Fields.{fieldsOf}
 use Rattle.names.specs.Names.{unknown, columns, inColumn, answerBytes}
 use Rattle.names.proofs.Names.{limits, column-below, answer-length}
 use Rattle.entries.specs.declared.Codes.{Codes}
-use Rattle.entries.specs.declared.Entry.{Entry}
 use Rattle.entries.specs.Entries.{codesOf, lineCodes, known, wellFormed, present, eventOf, highestPair, entry, refusedEntry, entryOf}
 use Rattle.entries.specs.Read.{codesIn, eventBytes}
 

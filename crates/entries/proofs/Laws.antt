@@ -1,9 +1,9 @@
 -- Laws of a line that is read field by field.
 -- Assumes nothing.
 use mathlib.Core.Path.{_≡_, refl, sym, _∙_, ap, ap₂, subst}
-use mathlib.Core.Bool.{Bool, true, false, cond, not, _&&_}
+use mathlib.Core.Bool.{Bool, true, false, _&&_}
 use mathlib.Core.List.{List, [], _∷_, _++_, append-nil, append-assoc}
-use Prim.Native.Nat.{ℕ, zero, suc, _+_, _-_, _%_, _≤_, _<_}
+use Prim.Native.Nat.{ℕ, suc, _+_, _-_, _%_, _≤_, _<_}
 use native.Mathlib.Nat.{add-zero}
 use native.Mathlib.Omega.{arith}
 use borrow.Author.Tests.{ltb-true, ltb-false, eq-eqb, ne-eqb}
@@ -14,7 +14,6 @@ use Rattle.kinds.specs.Tests.{all}
 use Rattle.fields.specs.Fields.{fieldsOf, fieldsFrom, fieldEnd}
 use Rattle.fields.proofs.Laws.{end-from, end-within, fields-start, fields-none, fields-step}
 use Rattle.names.specs.Names.{unknown, columns, inColumn, answerBytes}
-use Rattle.entries.specs.declared.Codes.{Codes}
 use Rattle.entries.specs.Entries.{codesOf, lineCodes, known, wellFormed, present}
 use Rattle.entries.specs.Read.{codesIn, eventBytes}
 

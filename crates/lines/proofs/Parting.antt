@@ -1,6 +1,6 @@
 -- What the bytes at hand show of the lines of a text, whatever follows them.
 -- Assumes nothing.
-use mathlib.Core.Path.{_≡_, refl, sym, _∙_, ap, subst}
+use mathlib.Core.Path.{_≡_, refl, sym, _∙_, ap}
 use mathlib.Core.Bool.{Bool, true, false, cond, false≢true}
 use mathlib.Core.List.{List, [], _∷_, _++_}
 use Prim.Native.Nat.{ℕ, zero, suc, _+_, _≤_, _<_, min}
@@ -91,16 +91,7 @@ reach-all (suc n) (x ∷ s) h = go (crlf (x ∷ s)) refl h (reach-all n s)
     go true e k f = absurd (false≢true (sym k ∙ e))
     go false e k f = ap suc (f k) ∙ sym (suc-min-suc n (length s))
 
--- no more is reached than may be looked at
-pub reach-below : (n : ℕ) (s : List ℕ) → reach n s ≤ n
-reach-below zero s = omega arith
-reach-below (suc n) [] = omega arith
-reach-below (suc n) (x ∷ s) = go (crlf (x ∷ s)) (reach-below n s)
-  where
-    go : (b : Bool) → reach n s ≤ n → cond b 0 (suc (reach n s)) ≤ suc n
-    go true h = omega arith
-    go false h = omega (arith, h)
-
+-- no more is reached than there is
 pub reach-within : (n : ℕ) (s : List ℕ) → reach n s ≤ length s
 reach-within zero s = omega arith
 reach-within (suc n) [] = omega arith

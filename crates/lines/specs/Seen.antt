@@ -1,9 +1,8 @@
 -- What of the next line can be seen in the bytes at hand.
 use Prim.Native.Nat.{ℕ, zero, suc, _+_}
-use mathlib.Core.Bool.{Bool, cond, _&&_, _||_}
+use mathlib.Core.Bool.{cond}
 use mathlib.Core.List.{List, [], _∷_}
-use lib.Dec.{ltb}
-use lib.ListN.{length, take, drop}
+use lib.ListN.{drop}
 use Rattle.lines.specs.Lines.{crlf}
 
 -- a line that has this many bytes before its CR LF is too long, whatever follows

@@ -8,8 +8,8 @@ use native.Mathlib.Nat.{add-zero, zero-add, add-assoc, add-comm}
 use native.Mathlib.Omega.{arith}
 use borrow.Author.Tests.{leb-true, leb-false, le-leb, lt-leb, lt-ltb, le-ltb, ltb-false, eq-eqb, ne-eqb, eqb-true}
 use lib.Dec.{eqb, leb, ltb}
-use lib.ListN.{length, getD, set, take, drop, drop-of-length-le, length-append, length-take, length-drop, length-set, take-append-drop}
-use lib.Seq.{drop-cons, drop-drop, drop-at, take-at, getD-drop, paste, paste-suc}
+use lib.ListN.{length, getD, set, take, drop, length-append, length-take, length-drop, length-set, take-append-drop}
+use lib.Seq.{drop-drop, drop-at, take-at, getD-drop, paste, paste-suc}
 use Rattle.kinds.specs.Tests.{same}
 use Rattle.kinds.specs.Places.{setIn}
 use Rattle.verdicts.specs.Verdicts.{finding}
@@ -28,7 +28,7 @@ use Rattle.sheet.specs.declared.Answered.{Answered}
 use Rattle.sheet.specs.declared.Eaten.{Eaten}
 use Rattle.sheet.specs.declared.Next.{Next}
 use Rattle.sheet.specs.Sheet.{Told, told, refuse, header, longest, mostLines, onHeader, onEntry, onLine}
-use Rattle.sheet.specs.Pieces.{Held, nextLine, taken, whole, sure, room, ready, afterLine, turn, eaten}
+use Rattle.sheet.specs.Pieces.{Held, nextLine, taken, whole, sure, room, ready, turn, eaten}
 use Rattle.sheet.specs.Eaten.{held, Left, left, leftOf, ate, movedDown, kept}
 use Rattle.sheet.specs.Answered.{Answers, AnswersOn, Roomy, nextIn}
 use Rattle.sheet.proofs.Turns.{is-ready, size, eaten-turn, eaten-stuck, turn-ready, turn-less, taken-within}
@@ -144,12 +144,6 @@ pub record OneMore (ended : Bool) (piece out₀ table out : List ℕ) (taken₀ 
 
 module _ {ended : Bool} {piece out₀ : List ℕ} {h₀ : Held} {table out : List ℕ} {taken₀ put lines : ℕ} {going : Bool} {next : Next} {r : Answered} {table′ out′ : List ℕ} {lines′ : ℕ}
     (e : Eating ended piece out₀ h₀ table out taken₀ put lines going) (o : OneMore ended piece out₀ table out taken₀ put lines going next r table′ out′ lines′) where
-  rest : List ℕ
-  rest = drop taken₀ piece
-
-  before : Held
-  before = now-held piece taken₀ put lines going table out
-
   line : take (next .end - taken₀) (drop taken₀ piece) ≡ nextLine (drop taken₀ piece)
   line = ap (λ n. take n (drop taken₀ piece)) (ap (λ (x : Next). x .end - taken₀) (o .is-next) ∙ plus-minus taken₀ (reach tooLong (drop taken₀ piece)))
     where
@@ -367,46 +361,6 @@ answer-put k at n table out out′ table′ e found before pos few roomy zero-is
 
     fits : at + length (answerLine (k - 1) found′) ≤ length out
     fits = omega (arith, roomy, answer-short (k - 1) found′ (omega (arith, few)))
-
--- two texts compared from a place on
-pub record Comparing (a b : List ℕ) (i : ℕ) : Type 0 where
-  pub so : same a b ≡ same (drop i a) (drop i b)
-  pub below : i ≤ length a
-  pub long : length a ≡ length b
-
-pub other-length : (a b : List ℕ) → (length a ≡ length b → ⊥) → false ≡ same a b
-other-length [] [] f = absurd (f refl)
-other-length [] (y ∷ b) f = refl
-other-length (x ∷ a) [] f = refl
-other-length (x ∷ a) (y ∷ b) f = go (eqb x y) (other-length a b (λ e. f (ap suc e)))
-  where
-    go : (c : Bool) → false ≡ same a b → false ≡ c && same a b
-    go true e = e
-    go false e = refl
-
-pub comparing-start : (a b : List ℕ) → length a ≡ length b → Comparing a b 0
-comparing-start a b e = record { so = refl; below = omega arith; long = e }
-
-here-same : {a b : List ℕ} {i : ℕ} → Comparing a b i → i < length a
-    → same a b ≡ eqb (getD a i 0) (getD b i 0) && same (drop (suc i) a) (drop (suc i) b)
-here-same {a} {b} {i} c h = c .so ∙ ap₂ same (drop-cons a i 0 h) (drop-cons b i 0 (omega (arith, h, c .long)))
-
-pub comparing-next : {a b : List ℕ} {i : ℕ} → Comparing a b i → i < length a → getD a i 0 ≡ getD b i 0 → Comparing a b (i + 1)
-comparing-next {a} {b} {i} c h e = record {
-  so = here-same c h ∙ ap (λ x. x && same (drop (suc i) a) (drop (suc i) b)) (eq-eqb (getD a i 0) (getD b i 0) e)
-      ∙ ap (λ n. same (drop n a) (drop n b)) (next-place i);
-  below = omega (arith, h);
-  long = c .long;
-}
-  where
-    next-place : (n : ℕ) → suc n ≡ n + 1
-    next-place n = omega arith
-
-pub comparing-other : {a b : List ℕ} {i : ℕ} → Comparing a b i → i < length a → (getD a i 0 ≡ getD b i 0 → ⊥) → false ≡ same a b
-comparing-other {a} {b} {i} c h f = sym (here-same c h ∙ ap (λ x. x && same (drop (suc i) a) (drop (suc i) b)) (ne-eqb (getD a i 0) (getD b i 0) f))
-
-pub comparing-end : {a b : List ℕ} {i : ℕ} → Comparing a b i → length a ≤ i → true ≡ same a b
-comparing-end {a} {b} {i} c h = sym (c .so ∙ ap₂ same (drop-of-length-le a {i = i} h) (drop-of-length-le b {i = i} (omega (arith, h, c .long))))
 
 pub positive : (n : ℕ) → (n ≡ 0 → ⊥) → 0 < n
 positive zero f = absurd (f refl)

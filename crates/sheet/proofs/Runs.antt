@@ -11,7 +11,7 @@ use lib.ListN.{length}
 use Rattle.lines.specs.Lines.{linesOf}
 use Rattle.lines.specs.Seen.{tooLong}
 use Rattle.replies.specs.Replies.{headerLine, refusedLine}
-use Rattle.sheet.specs.Sheet.{answers, startTable, sheetOut}
+use Rattle.sheet.specs.Sheet.{answers, sheetOut}
 use Rattle.sheet.specs.Pieces.{Held, whole, sure, room, ready, eaten, toCome, total}
 use Rattle.sheet.specs.Runs.{emptied, withPiece, Run, reads, eats, ends, refused, done, start}
 use Rattle.sheet.proofs.Turns.{eaten-keeps, nothing, size, eaten-less}

@@ -3,17 +3,17 @@
 use mathlib.Core.Path.{_≡_, refl, sym, _∙_, ap, ap₂, subst}
 use mathlib.Core.Bool.{Bool, true, false, cond, _&&_, _||_, false≢true}
 use mathlib.Core.List.{List, [], _∷_, _++_, append-nil, append-assoc}
-use Prim.Native.Nat.{ℕ, zero, suc, _+_, _-_, _≤_, _<_, min}
+use Prim.Native.Nat.{ℕ, zero, suc, _+_, _-_, _≤_, _<_}
 use native.Mathlib.Nat.{add-zero}
 use native.Mathlib.Omega.{arith}
-use borrow.Author.Tests.{ltb-true, ltb-false, lt-ltb, le-ltb, eqb-true, eq-eqb, ne-eqb}
+use borrow.Author.Tests.{ltb-true, ltb-false, lt-ltb, eqb-true}
 use lib.Dec.{eqb, leb, ltb}
 use lib.ListN.{length, take, drop, length-take, length-drop}
 use lib.Seq.{take-length, drop-length}
 use Rattle.kinds.specs.Tests.{same}
 use Rattle.lines.specs.Lines.{crlf, linesOf}
 use Rattle.lines.specs.Seen.{tooLong, reach}
-use Rattle.lines.proofs.Parting.{Long, whole-line, long-line, last-line, reach-all, reach-below, reach-within}
+use Rattle.lines.proofs.Parting.{Long, whole-line, long-line, last-line, reach-all, reach-within}
 use Rattle.entries.specs.Entries.{entryOf}
 use Rattle.replies.specs.Replies.{refusedLine}
 use Rattle.sheet.specs.Sheet.{Told, told, refuse, header, longest, mostLines, onHeader, onEntry, onLine, answers}

@@ -1,7 +1,7 @@
 -- A run of the program: pieces are read, what is held is eaten into a buffer and written out, in whatever order and sizes this comes about.
 use Prim.Native.Nat.{ℕ, _<_}
 use mathlib.Core.Path.{_≡_}
-use mathlib.Core.Bool.{Bool, true, false}
+use mathlib.Core.Bool.{true, false}
 use mathlib.Core.List.{List, [], _++_}
 use Rattle.sheet.specs.Sheet.{startTable}
 use Rattle.sheet.specs.Pieces.{Held, eaten}

@@ -6,7 +6,6 @@ ghost use mathlib.Core.Path.{_≡_};
 ghost use mathlib.Core.Bool.{cond, true};
 ghost use mathlib.Core.List.{[]};
 ghost use lib.ListN.{length};
-ghost use Rattle.kinds.specs.Tests.{same};
 ghost use Rattle.sheet.specs.Sheet.{refuse, onHeader, onEntry, onLine, mostLines};
 ghost use Rattle.sheet.specs.Eaten.{left, ate, movedDown, kept};
 ghost use Rattle.sheet.specs.Answered.{Answers, AnswersOn, Roomy, nextIn};
@@ -23,7 +22,8 @@ const MOST_LINES: u64 = 1_000_001;
 // Every answer fits into this many bytes.
 const ROOM: usize = 64;
 
-// What was done with a piece: how many bytes of it were taken, how many were put, how many lines were taken so far, and whether the run goes on.
+// What was done with a piece: how many of its bytes were taken, how many were put, how many lines were taken so far, and whether the run
+// goes on.
 pub struct Eaten {
     pub taken: usize,
     pub put: usize,
@@ -44,23 +44,6 @@ struct Next {
     next: usize,
 }
 
-// Whether two texts are the same.
-fn same_bytes(a: &[u8], b: &[u8]) -> bool
-    ensures { λ r. ⌜ r ≡ same (now (a .entry)) (now (b .entry)) ⌝ }
-{
-    if a.len() != b.len() {
-        return false;
-    }
-    let mut i: usize = 0;
-    while i < a.len() {
-        if a[i] != b[i] {
-            return false;
-        }
-        i += 1;
-    }
-    true
-}
-
 // A refusal put: the run ends.
 fn refuse_line(refusal: Refusal, lines: u32, out: &mut [u8], at: usize) -> Answered
     requires { ⌜ Roomy (now out) at ⌝ }
@@ -79,7 +62,7 @@ fn judge_header(line: &[u8], out: &mut [u8], at: usize) -> Answered
     requires { ⌜ Roomy (now out) at ⌝ }
     ensures { λ r. ⌜ Answers (onHeader [] (now (line .entry))) (now (out .entry)) at r (now (out .exit)) ⌝ }
 {
-    if same_bytes(
+    if names::is(
         line,
         b"pair,request,RetToSrc,DoNotGoToSD,excl,tag,response,TagOp,RespErr,forward,final",
     ) {
@@ -211,8 +194,8 @@ fn move_down(piece: &mut [u8], from: usize, count: usize)
     }
 }
 
-// What is held of a piece, from the place up to which it was taken to the end of what was read, kept for the next: moved to the front. Nothing
-// moves where there is no such part.
+// What is held of a piece, from the place up to which it was taken to the end of what was read, kept for the next: moved to the front.
+// Nothing moves where there is no such part.
 pub fn keep(piece: &mut [u8], taken: usize, held: usize)
     ensures { λ _. ⌜ now (piece .exit) ≡ kept (now (piece .entry)) taken held ⌝ }
 {

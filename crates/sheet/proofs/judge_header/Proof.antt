@@ -9,15 +9,15 @@ use borrow.Author.Needs.{needs}
 use Rattle.sheet.proofs.judge_header.Statement.{statement}
 use Rattle.sheet.proofs.judge_header.Tie as tie
 
-slice-aggregate-same-bytes : tie.Need-slice-aggregate-same-bytes
-slice-aggregate-same-bytes c = search needs
+slice-aggregate-is : tie.Need-slice-aggregate-is
+slice-aggregate-is c = search needs
 
-same-bytes-requires : tie.Need-same-bytes-requires
-same-bytes-requires c κs = search needs
+is-requires : tie.Need-is-requires
+is-requires c κs = search needs
 
 returns : tie.Need-returns
 unfolding header
-returns c = header-good (now (c .before .before .before .before .before .args .line)) (now (c .before .before .before .before .before .args .out)) (c .before .before .before .before .before .args .at) (sym (c .before .same-bytes .ensures) ∙ c .if1 .taken) (omega (arith, c .before .before .before .before .before .pre))
+returns c = header-good (now (c .before .before .before .before .before .args .line)) (now (c .before .before .before .before .before .args .out)) (c .before .before .before .before .before .args .at) (sym (c .before .is .ensures) ∙ c .if1 .taken) (omega (arith, c .before .before .before .before .before .pre))
 
 refuse-line-requires : tie.Need-refuse-line-requires
 refuse-line-requires c κs = search needs
@@ -27,14 +27,14 @@ same-length c = search needs
 
 returns-2 : tie.Need-returns-2
 unfolding header
-returns-2 c = header-bad (now (c .before .before .before .before .before .before .before .before .before .args .line)) (sym (c .before .before .before .before .before .same-bytes .ensures) ∙ c .before .before .before .before .if1 .left) (c .before .before .refuse-line .ensures)
+returns-2 c = header-bad (now (c .before .before .before .before .before .before .before .before .before .args .line)) (sym (c .before .before .before .before .before .is .ensures) ∙ c .before .before .before .before .if1 .left) (c .before .before .refuse-line .ensures)
 
 pub judge-header-spec : {M : Type 1} → statement M
 judge-header-spec =
     tie.close
     (tie.spec
-    slice-aggregate-same-bytes
-    same-bytes-requires
+    slice-aggregate-is
+    is-requires
     returns
     refuse-line-requires
     same-length
