@@ -1,0 +1,141 @@
+-- The theorems about the bench sheet. Whoever believes the checker reads this file, the definitions that it names, and the `ensures` of
+-- `sheet::eat`, which says that whatever is lent, the answer and the buffers afterwards are `ate` of it. `sheetOut input` is the whole output.
+-- Assumes nothing.
+use mathlib.Core.Path.{_≡_, refl, sym, _∙_, ap, subst}
+use mathlib.Core.Logic.{_↔_}
+use mathlib.Core.Bool.{Bool, true, false}
+use mathlib.Core.List.{List, [], _∷_, _++_, append-cancel-left}
+use Prim.Native.Nat.{ℕ, _+_, _-_, _<_}
+use lib.ListN.{length}
+-- the definitions that the theorems name
+use Rattle.kinds.specs.Tests.{all}
+use Rattle.kinds.specs.Places.{setIn}
+use Rattle.sets.specs.Sets.{setOf, bit}
+use Rattle.rows.specs.Rows.{rows}
+use Rattle.rows.specs.Permitted.{asked, answered, tagged, permitted}
+use Rattle.steps.specs.Steps.{steps, duty, noDuty}
+use Rattle.event.specs.Refusals.{issueE, fault}
+use Rattle.verdicts.specs.Verdicts.{after, verdict, dutyByte, explained}
+use Rattle.trace.specs.Events.{run}
+use Rattle.lines.specs.Lines.{linesOf}
+use Rattle.names.specs.Names.{codeOf, requestNames, flagNames, tagNames, responses, responseNames, answers as namedAnswers, answerBytes, tagOpNames, respErrNames, forwardNames, finalNames, isPair, decimal as readDecimal, pairOf, columns}
+use Rattle.entries.specs.Entries.{lineCodes, wellFormed, eventOf, entryOf}
+use Rattle.replies.specs.Replies.{decimal, verdictText, dutyText, statesText, headerLine, answerLine, refusedLine}
+use Rattle.sheet.specs.Sheet.{refuse, header, mostLines, onLine, answers, startTable, sheetOut}
+use Rattle.sheet.specs.Pieces.{Held, ready, eaten, total}
+use Rattle.sheet.specs.Runs.{Run, start}
+use Rattle.sheets.specs.Pages.{exampleIn, exampleOut, cases, asSaid}
+use Rattle.sheets.specs.Good.{eventOn, eventsOf, good, AllGood, foundBehind, answerLines}
+use Rattle.sheets.specs.Refused.{RefusedWith, LineIs, SheetSays}
+use Rattle.sheets.specs.Histories.{HistoryOn, pairOn, ReachesIn, PassesTo, VerdictOn, DutyOn}
+-- their proofs
+use Rattle.sheet.proofs.Turns.{eaten-keeps, eaten-stops}
+use Rattle.sheet.proofs.Runs.{SomeRun, run-is-sheet, runs-agree, run-exists}
+use Rattle.sheets.proofs.Good.{no-fault, entry-no-fault}
+use Rattle.sheets.proofs.Answers.{good-accepted, good-then-more, good-alone, answer-behind}
+use Rattle.sheets.proofs.Reached.{pair-inside, set-exact, shown-exact, verdict-given, gives-verdict, duty-given, duty-none}
+use Rattle.sheets.proofs.Refused.{refused-told, line-is, one-number, header-passes, said-answers, some-said}
+
+-- THE PAGE'S EXAMPLE: the whole input gives the whole output, byte for byte.
+pub page-example : sheetOut exampleIn ≡ exampleOut
+unfolding setOf bit rows asked answered tagged permitted steps duty after verdict dutyByte codeOf requestNames flagNames tagNames responses responseNames namedAnswers answerBytes tagOpNames respErrNames forwardNames finalNames isPair readDecimal pairOf columns wellFormed eventOf entryOf decimal verdictText dutyText statesText headerLine answerLine refusedLine header onLine startTable
+page-example = refl
+
+-- THE REFUSALS BY EXAMPLES: each input gives exactly the output that is said of it.
+pub refusal-cases : all asSaid cases ≡ true
+unfolding setOf bit rows asked answered tagged permitted steps duty after verdict dutyByte codeOf requestNames flagNames tagNames responses responseNames namedAnswers answerBytes tagOpNames respErrNames forwardNames finalNames isPair readDecimal pairOf columns wellFormed eventOf entryOf decimal verdictText dutyText statesText headerLine answerLine refusedLine header onLine startTable
+refusal-cases = refl
+
+-- THE REFUSAL TABLE OF THE SHEET: a line that a row gives a number for ends the run with that number and the line's own.
+pub line-refused : (k : ℕ) (table line : List ℕ) (number : ℕ) → RefusedWith k line number → onLine k table line ≡ refuse number k table
+line-refused k table line number r = refused-told table r
+
+-- Every line is the header, good, or refused; and no two rows give two numbers.
+pub every-line : (k : ℕ) (line : List ℕ) → LineIs k line
+every-line = line-is
+
+pub one-number-a-line : (k : ℕ) (line : List ℕ) (n n′ : ℕ) → RefusedWith k line n → RefusedWith k line n′ → n ≡ n′
+one-number-a-line k line n n′ r r′ = one-number r r′
+
+-- THE WHOLE OUTPUT BY CASES: what stands behind the header's line is a text exactly when one of the four cases says it.
+pub sheet-exact : (input out : List ℕ) → sheetOut input ≡ headerLine ++ out ↔ SheetSays (linesOf input) out
+sheet-exact input out = (
+  λ e. let s = some-said (linesOf input) in
+      subst (SheetSays (linesOf input)) (sym (said-answers (s .says)) ∙ append-cancel-left headerLine (answers 0 startTable (linesOf input)) out e) (s .says),
+  λ s. ap (λ (t : List ℕ). headerLine ++ t) (said-answers s),
+)
+
+-- THE PIECES: however the input is cut, and whatever the buffer's size, a run writes the sheet; any two write the same; and there is one.
+pub however-cut : {input out : List ℕ} → Run start input out → headerLine ++ out ≡ sheetOut input
+however-cut = run-is-sheet
+
+pub cuts-agree : {input out out′ : List ℕ} → Run start input out → Run start input out′ → out ≡ out′
+cuts-agree = runs-agree
+
+pub some-cut : (input : List ℕ) → SomeRun start input
+some-cut = run-exists
+
+-- A piece that is eaten changes nothing of what is written in all, whatever is still to come.
+pub piece-tied : (ended : Bool) (space : ℕ) (h : Held) (more : List ℕ) → (ended ≡ true → more ≡ []) → total (eaten ended space h) more ≡ total h more
+piece-tied = eaten-keeps
+
+-- It is eaten as far as it can be: then the run has ended, the buffer is short of room, or too little is known of the next line.
+pub piece-progress : (ended : Bool) (space : ℕ) (h : Held) → ready ended space (eaten ended space h) ≡ false
+piece-progress = eaten-stops
+
+-- ONE OUTCOME: every public function of the sheet and of what it stands on claims that its outcome is the value of one definition, so any
+-- two outcomes that a claim allows are equal.
+pub one-value {ℓ} : {A : Type ℓ} {claimed r r′ : A} → r ≡ claimed → r′ ≡ claimed → r ≡ r′
+one-value p q = p ∙ sym q
+
+-- A GOOD LINE IS AN EVENT WITHOUT FAULT: every byte is in its range and the request is one of the seven.
+pub well-formed-no-fault : (line : List ℕ) → wellFormed line ≡ true → fault issueE (eventOf (lineCodes line)) ≡ 0
+well-formed-no-fault = no-fault
+
+-- So what the sheet answers, the trace call accepts: no fault, and a pair of the table of 4,096.
+pub good-no-fault : (line : List ℕ) → good line ≡ true → fault issueE (eventOn line .bytes) ≡ 0
+good-no-fault line g = entry-no-fault line (good-accepted line g)
+
+pub good-pair : (line : List ℕ) → good line ≡ true → pairOn line < 4096
+good-pair line g = pair-inside [] line g
+
+-- GOOD LINES ARE A TRACE: their answers are those to its events, one after another, and lines behind them start from the table that it leaves.
+pub good-answers : (k : ℕ) (table : List ℕ) (lines : List (List ℕ)) → AllGood k lines → answers k table lines ≡ answerLines (k - 1) table (eventsOf lines)
+good-answers = good-alone
+
+pub table-carried : (k : ℕ) (table : List ℕ) (lines more : List (List ℕ)) → AllGood k lines
+    → answers k table (lines ++ more) ≡ answerLines (k - 1) table (eventsOf lines) ++ answers (k + length lines) (run table (eventsOf lines)) more
+table-carried = good-then-more
+
+-- A LINE'S OWN ANSWER: behind the answers to the lines before it stands its number and what it is found to be.
+pub own-answer : (input : List ℕ) (before : List (List ℕ)) (line : List ℕ) (more : List (List ℕ)) → linesOf input ≡ header ∷ (before ++ (line ∷ more))
+    → AllGood 1 before → good line ≡ true → length before + 1 < mostLines
+    → sheetOut input
+    ≡ headerLine
+    ++ (answerLines 0 startTable (eventsOf before)
+    ++ (answerLine (length before) (foundBehind before line) ++ answers (length before + 2) (run startTable (eventsOf (before ++ (line ∷ [])))) more))
+own-answer input before line more e g h q =
+    ap (λ (s : List ℕ). headerLine ++ s)
+    (ap (answers 0 startTable) e ∙ header-passes (before ++ (line ∷ more)) ∙ answer-behind startTable before line more g h q)
+
+module _ (before : List (List ℕ)) (line : List ℕ) (g : good line ≡ true) where
+  -- DEMAND 3 ON THE SHEET: the states that a line's answer shows are exactly those in which some history ends, of the line's pair, from one of
+  -- the seven states, through that pair's events on the lines before it and on the line itself.
+  pub sheet-states-exact : (s : ℕ) → bit (foundBehind before line .after) s ≡ true ↔ PassesTo before line s
+  sheet-states-exact = shown-exact before line g
+
+  -- The set that it is judged on holds exactly the states in which some history reaches it.
+  pub sheet-reached-exact : (s : ℕ) → bit (setIn (run startTable (eventsOf before)) (pairOn line)) s ≡ true ↔ ReachesIn before line s
+  sheet-reached-exact = set-exact before (pairOn line) (pair-inside before line g)
+
+  -- THE VERDICT: explained exactly when some history passes the line, unexplained exactly when histories reach it and none passes it, not judged
+  -- exactly when none reaches it.
+  pub sheet-verdict-exact : (v : ℕ) → foundBehind before line .verdict .0 ≡ v ↔ VerdictOn before line v
+  sheet-verdict-exact v = (λ q. subst (VerdictOn before line) q (verdict-given before line g), λ x. gives-verdict before line g x)
+
+  -- DUTY: that of an explained line is the page's, asked of the states in which histories reach it, and that of any other is none.
+  pub sheet-duty-said : foundBehind before line .verdict .0 ≡ explained → DutyOn before line (foundBehind before line .duty .0)
+  sheet-duty-said = duty-given before line g
+
+  pub sheet-duty-none : (foundBehind before line .verdict .0 ≡ explained → ⊥) → foundBehind before line .duty .0 ≡ noDuty
+  sheet-duty-none = duty-none before line g

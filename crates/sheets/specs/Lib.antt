@@ -1,0 +1,4 @@
+pub mod Pages
+pub mod Good
+pub mod Histories
+pub mod Refused

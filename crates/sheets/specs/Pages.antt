@@ -1,0 +1,131 @@
+-- Sheets as text: the page's example, and cases of each refusal with the whole output for each.
+use Prim.Native.Nat.{ℕ}
+use Prim.Native.String.{String}
+use mathlib.Core.Bool.{Bool}
+use mathlib.Core.List.{List, [], _∷_, _++_}
+use lib.ListN.{replicate}
+use Rattle.kinds.specs.Tests.{same}
+use Rattle.text.specs.Text.{bytes, CR, LF, eol}
+use Rattle.sheet.specs.Sheet.{sheetOut}
+
+-- lines of text, each with its CR LF
+abbrev pub page : List String → List ℕ
+page [] = []
+page (line ∷ lines) = bytes line ++ (eol ++ page lines)
+
+-- the page's example: the whole input
+abbrev pub exampleIn : List ℕ
+exampleIn =
+    page
+    ("pair,request,RetToSrc,DoNotGoToSD,excl,tag,response,TagOp,RespErr,forward,final" ∷
+    "0,SnpShared,0,0,0,Invalid,SnpRespData_SC_PD,Invalid,OK,-,?" ∷
+    "0,SnpShared,1,0,0,Invalid,SnpRespData_SC,Invalid,OK,-,?" ∷
+    "0,SnpClean,0,0,0,Invalid,SnpRespData_SD,Invalid,OK,-,?" ∷
+    "0,SnpClean,0,0,0,Invalid,SnpResp_I,Invalid,OK,-,I" ∷
+    [])
+
+-- and the whole output
+abbrev pub exampleOut : List ℕ
+exampleOut =
+    page
+    ("event,verdict,duty,states" ∷
+    "0,explained,Home,I SC" ∷
+    "1,explained,none,I SC" ∷
+    "2,unexplained,none," ∷
+    "3,not judged,none," ∷
+    [])
+
+-- an input, and the output that is said of it
+pub record Case : Type 0 where
+  pub input : List ℕ
+  pub output : List ℕ
+
+-- an input as bytes, with the lines that answer it behind the output's header
+abbrev given : List ℕ → List String → Case
+given input answers = record { input = input; output = page ("event,verdict,duty,states" ∷ answers) }
+
+-- the header as the page has it
+abbrev headerText : String
+headerText = "pair,request,RetToSrc,DoNotGoToSD,excl,tag,response,TagOp,RespErr,forward,final"
+
+-- a line with nothing amiss, and its answer as event 0
+abbrev goodText : String
+goodText = "0,SnpShared,0,0,0,Invalid,SnpRespData_SC_PD,Invalid,OK,-,?"
+
+abbrev goodAnswer : String
+goodAnswer = "0,explained,Home,I SC"
+
+-- one line behind the header
+abbrev second : String → String → Case
+second line answer = given (page (headerText ∷ line ∷ [])) (answer ∷ [])
+
+-- the same, with the line's bytes one by one
+abbrev secondBytes : List ℕ → String → Case
+secondBytes line answer = given (page (headerText ∷ []) ++ (line ++ eol)) (answer ∷ [])
+
+abbrev pub cases : List Case
+cases =
+    -- 6, on line 1 alone: no input, an empty line, a header without its last letter, with a letter too many, in other letters, with a CR too many
+    given [] ("refused,6,1" ∷ []) ∷
+    given (page ("" ∷ [])) ("refused,6,1" ∷ []) ∷
+    given (page ("pair,request,RetToSrc,DoNotGoToSD,excl,tag,response,TagOp,RespErr,forward,fina" ∷ goodText ∷ [])) ("refused,6,1" ∷ []) ∷
+    given (page ("pair,request,RetToSrc,DoNotGoToSD,excl,tag,response,TagOp,RespErr,forward,finals" ∷ goodText ∷ [])) ("refused,6,1" ∷ []) ∷
+    given (page ("Pair,request,RetToSrc,DoNotGoToSD,excl,tag,response,TagOp,RespErr,forward,final" ∷ goodText ∷ [])) ("refused,6,1" ∷ []) ∷
+    given (bytes headerText ++ (CR ∷ eol)) ("refused,6,1" ∷ []) ∷
+    -- 6 and neither 7 nor 8: a first line too long, a good line where the header is missing
+    given (replicate 161 120) ("refused,6,1" ∷ []) ∷
+    given (page (goodText ∷ [])) ("refused,6,1" ∷ []) ∷
+    -- the header alone, without its CR LF and with it: no answers
+    given (bytes headerText) [] ∷
+    given (page (headerText ∷ [])) [] ∷
+    -- 8: an empty line, ten fields, twelve fields
+    second "" "refused,8,2" ∷
+    second "0,SnpShared,0,0,0,Invalid,SnpRespData_SC_PD,Invalid,OK,-" "refused,8,2" ∷
+    second "0,SnpShared,0,0,0,Invalid,SnpRespData_SC_PD,Invalid,OK,-,?,?" "refused,8,2" ∷
+    -- 8: an unknown name of a request, a tag, a response, a TagOp, a RespErr, a forward, a state; a name in other letters, a space behind one
+    second "0,SnpUnique,0,0,0,Invalid,SnpRespData_SC_PD,Invalid,OK,-,?" "refused,8,2" ∷
+    second "0,SnpShared,0,0,0,Update,SnpRespData_SC_PD,Invalid,OK,-,?" "refused,8,2" ∷
+    second "0,SnpShared,0,0,0,Invalid,SnpRespData_UC,Invalid,OK,-,?" "refused,8,2" ∷
+    second "0,SnpShared,0,0,0,Invalid,SnpRespData_SC_PD,?,OK,-,?" "refused,8,2" ∷
+    second "0,SnpShared,0,0,0,Invalid,SnpRespData_SC_PD,Invalid,,-,?" "refused,8,2" ∷
+    second "0,SnpShared,0,0,0,Invalid,SnpRespData_SC_PD,Invalid,OK,CompData_I,?" "refused,8,2" ∷
+    second "0,SnpShared,0,0,0,Invalid,SnpRespData_SC_PD,Invalid,OK,-,-" "refused,8,2" ∷
+    second "0,snpShared,0,0,0,Invalid,SnpRespData_SC_PD,Invalid,OK,-,?" "refused,8,2" ∷
+    second "0,SnpShared ,0,0,0,Invalid,SnpRespData_SC_PD,Invalid,OK,-,?" "refused,8,2" ∷
+    -- 8: each flag in its turn 2
+    second "0,SnpShared,2,0,0,Invalid,SnpRespData_SC_PD,Invalid,OK,-,?" "refused,8,2" ∷
+    second "0,SnpShared,0,2,0,Invalid,SnpRespData_SC_PD,Invalid,OK,-,?" "refused,8,2" ∷
+    second "0,SnpShared,0,0,2,Invalid,SnpRespData_SC_PD,Invalid,OK,-,?" "refused,8,2" ∷
+    -- 8: a pair of no digits, with a leading zero, of five digits, with a sign
+    second ",SnpShared,0,0,0,Invalid,SnpRespData_SC_PD,Invalid,OK,-,?" "refused,8,2" ∷
+    second "00,SnpShared,0,0,0,Invalid,SnpRespData_SC_PD,Invalid,OK,-,?" "refused,8,2" ∷
+    second "01,SnpShared,0,0,0,Invalid,SnpRespData_SC_PD,Invalid,OK,-,?" "refused,8,2" ∷
+    second "10000,SnpShared,0,0,0,Invalid,SnpRespData_SC_PD,Invalid,OK,-,?" "refused,8,2" ∷
+    second "-1,SnpShared,0,0,0,Invalid,SnpRespData_SC_PD,Invalid,OK,-,?" "refused,8,2" ∷
+    -- 3: a pair above 4,095; the last below is answered; 8 before 3
+    second "4096,SnpShared,0,0,0,Invalid,SnpRespData_SC_PD,Invalid,OK,-,?" "refused,3,2" ∷
+    second "9999,SnpShared,0,0,0,Invalid,SnpRespData_SC_PD,Invalid,OK,-,?" "refused,3,2" ∷
+    second "4095,SnpShared,0,0,0,Invalid,SnpRespData_SC_PD,Invalid,OK,-,?" goodAnswer ∷
+    second "4096,SnpUnique,0,0,0,Invalid,SnpRespData_SC_PD,Invalid,OK,-,?" "refused,8,2" ∷
+    -- 7 before 8: a line of 161 bytes, with its CR LF and without; one of 160 is only unknown
+    secondBytes (replicate 161 120) "refused,7,2" ∷
+    given (page (headerText ∷ []) ++ replicate 161 120) ("refused,7,2" ∷ []) ∷
+    secondBytes (replicate 160 120) "refused,8,2" ∷
+    -- a CR alone and a LF alone are bytes of a field, and part no lines
+    secondBytes (bytes "0,SnpShared" ++ (CR ∷ bytes ",0,0,0,Invalid,SnpRespData_SC_PD,Invalid,OK,-,?")) "refused,8,2" ∷
+    secondBytes (bytes "0,SnpShared" ++ (LF ∷ bytes ",0,0,0,Invalid,SnpRespData_SC_PD,Invalid,OK,-,?")) "refused,8,2" ∷
+    secondBytes (bytes goodText ++ (CR ∷ bytes goodText)) "refused,8,2" ∷
+    secondBytes (bytes goodText ++ (LF ∷ bytes goodText)) "refused,8,2" ∷
+    secondBytes (bytes goodText ++ (LF ∷ CR ∷ bytes goodText)) "refused,8,2" ∷
+    -- a bad line behind a good one: the good one's answer stands, and nothing follows
+    given (page (headerText ∷ goodText ∷ "" ∷ goodText ∷ [])) (goodAnswer ∷ "refused,8,3" ∷ []) ∷
+    -- two pairs: the second starts from all seven states too
+    given (page (headerText ∷ "0,SnpClean,0,0,0,?,SnpResp_SC,Invalid,DERR,-,?" ∷ "1,SnpShared,0,0,0,Invalid,SnpRespData_SC_PD,Invalid,OK,-,?" ∷ []))
+    ("0,unexplained,none," ∷ "1,explained,Home,I SC" ∷ []) ∷
+    -- the last CR LF absent: the line is answered
+    given (page (headerText ∷ []) ++ bytes goodText) (goodAnswer ∷ []) ∷
+    []
+
+-- the output is the one that is said
+abbrev pub asSaid : Case → Bool
+asSaid c = same (sheetOut (c .input)) (c .output)
