@@ -1,3 +1,4 @@
 pub mod Laws
 pub mod Walk
 pub mod Stepping
+pub mod Passing

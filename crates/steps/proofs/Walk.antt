@@ -4,7 +4,7 @@ use mathlib.Core.Path.{_≡_, refl, sym, _∙_, ap, ap₂, subst, fun-ext}
 use mathlib.Core.Bool.{Bool, true, false, cond, _&&_, _||_}
 use mathlib.Core.List.{List, [], _∷_, _++_, map}
 use mathlib.Core.Logic.{_≢_}
-use Prim.Native.Nat.{ℕ, zero, suc, _+_, _<_, _≤_}
+use Prim.Native.Nat.{ℕ, zero, suc, _+_, _<_, _≤_, _/_, _^_}
 use native.Mathlib.Nat.{not-suc-le-zero, le-of-suc-le-suc}
 use native.Mathlib.Numerals.{add-one}
 use borrow.Author.Tests.{eqb-true, eqb-false, eq-eqb, ne-eqb, ltb-true}
@@ -21,11 +21,11 @@ use Rattle.steps.specs.declared.Row as code
 use Rattle.rows.specs.Event.{tagOf, afterOf, seen}
 use Rattle.rows.specs.Rows.{Row, row, rows}
 use Rattle.rows.specs.declared.Table.the-variants.{B46}
-use Rattle.kinds.specs.Answers.{SnpResp-I}
+use Rattle.kinds.specs.Answers.{SnpResp-I, wire}
 use Rattle.rows.specs.Permitted.{asked, answered, tagged, permitted, someTag}
 use Rattle.steps.specs.Steps.{steps, setAfter, setsAfter}
 use Rattle.rows.proofs.ByRows.{Permits, permitted-row, row-permitted}
-use Rattle.steps.specs.Code.{codeOf, rowAt, eventBytes, rowFits, withRow}
+use Rattle.steps.specs.Code.{codeOf, rowAt, eventBytes, rowFits, withRow, wireKey}
 
 -- the row leads from s to s′, under some tag state and with a state after that was seen
 by : List ℕ → ℕ → ℕ → Row → Bool
@@ -194,9 +194,14 @@ no-word : codeOf no-row ≡ rowAt 0
 unfolding no-row rowAt setOf
 no-word = refl
 
--- the code's table is the printed one
+-- above the other columns of a word stands its answer's number
+unfoldable pub keyed : ℕ → Bool
+keyed w = eqb (w / 2 ^ 20) (wireKey (wire (rowAt w .answer)))
+
+-- the code's table is the printed one, and each word shows its answer
 pub record Printed (ws : List ℕ) : Type 0 where
   pub same : map rowAt ws ≡ map codeOf rows
+  pub keys : all keyed ws ≡ true
 
 -- word i stands for row i
 word-row : {ws : List ℕ} (i : ℕ) → Printed ws → rowAt (getD ws i 0) ≡ codeOf (getD rows i no-row)

@@ -1,11 +1,12 @@
 -- What the code's own parts compute, in the words of the rows. Nobody has to believe this file: the claims above it don't name it.
-use Prim.Native.Nat.{ℕ, _/_, _%_, _^_}
+use Prim.Native.Nat.{ℕ, _+_, _*_, _/_, _%_, _^_}
 use mathlib.Core.Bool.{Bool, cond, _&&_}
 use mathlib.Core.List.{List, [], _∷_}
 use lib.ListN.{getD, set}
 use lib.Bits.{bitAnd, bitOr}
 use lib.Dec.{eqb}
 use Rattle.kinds.specs.Tests.{_∈?_}
+use Rattle.kinds.specs.Codes.{RSP, op-SnpRespDataPtl}
 use Rattle.kinds.specs.declared.Answer.{Answer}
 use Rattle.kinds.specs.declared.Answer.the-variants.{SnpResp, SnpRespData, SnpRespDataPtl}
 use Rattle.kinds.specs.declared.Forward.{Forward}
@@ -73,3 +74,15 @@ rowFits e r = answered e (r .table) (r .answer) && asked e (r .table) (r .ret) (
 -- the seven sets with what the row adds
 unfoldable pub withRow : List ℕ → ℕ → code.Row → List ℕ → List ℕ
 withRow e among r sets = set sets (r .before .0) (bitOr (getD sets (r .before .0) 0) (cond (rowFits e r) (bitAnd (r .after) among) 0))
+
+-- the column of a message, by its channel and opcode
+abbrev pub messageOf : ℕ → ℕ → ℕ
+messageOf channel opcode = cond (eqb channel RSP) 0 (cond (eqb opcode op-SnpRespDataPtl) 2 1)
+
+-- the number that an answer has in a word, above the other columns
+unfoldable pub answerKey : ℕ → ℕ → ℕ → ℕ → ℕ
+answerKey channel opcode resp forward = resp + 16 * forward + 256 * messageOf channel opcode
+
+-- the same of an answer on the bus
+abbrev pub wireKey : List ℕ → ℕ
+wireKey w = answerKey (byte w 0) (byte w 1) (byte w 2) (byte w 3)

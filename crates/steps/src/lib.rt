@@ -1,10 +1,12 @@
 // What one event can do to a line: the walk along the rows to the states after, and the duty.
 use kinds::Answer;
+use kinds::Channel;
 use kinds::Duty;
 use kinds::EVENT_BYTES;
 use kinds::Forward;
 use kinds::FwdState;
 use kinds::LineState;
+use kinds::Opcode;
 use kinds::Resp;
 use kinds::RespErr;
 use rows::Table;
@@ -15,7 +17,7 @@ ghost use Rattle.kinds.specs.Codes.{stateNotSeen};
 ghost use Rattle.sets.specs.Sets.{setOf};
 ghost use Rattle.rows.specs.Event.{seen};
 ghost use Rattle.steps.specs.Steps.{setsAfter, duty};
-ghost use Rattle.steps.specs.Code.{columnAt, tableAt, forwardAt, answerAt, rowAt, eventBytes, rowFits, withRow};
+ghost use Rattle.steps.specs.Code.{columnAt, tableAt, forwardAt, answerAt, rowAt, eventBytes, rowFits, withRow, answerKey};
 
 mod printed;
 
@@ -150,17 +152,39 @@ fn event_bytes(event: &[u8]) -> [u8; EVENT_BYTES]
     ]
 }
 
+// The number that an answer has in the words of the rows, so that a row with another answer is passed over unread.
+fn answer_key(channel: u8, opcode: u8, resp: u8, forward: u8) -> u32
+    ensures { λ r. ⌜ r ≡ answerKey channel opcode resp forward ⌝ }
+{
+    let data = sets::choose(opcode == Opcode::SNP_RESP_DATA_PTL.0, 2, 1);
+    let message = sets::choose(channel == Channel::RSP.0, 0, data);
+    resp as u32
+        + printed::FWD_WEIGHT * forward as u32
+        + printed::MESSAGE_WEIGHT * message as u32
+}
+
 // For each of the seven states before, the set of states after.
 pub fn sets_after(event: &[u8]) -> [u8; 7]
     ensures { λ r. ⌜ r ≡ setsAfter (now (event .entry)) ⌝ }
 {
     let e = event_bytes(event);
     let among = seen_states(LineState(e[place::AFTER]));
+    let key = answer_key(
+        e[place::CHANNEL],
+        e[place::OPCODE],
+        e[place::RESP],
+        e[place::FWD_STATE],
+    );
     let rows = printed::ROWS;
     let mut sets = [0u8; 7];
     let mut i: usize = 0;
     while i < printed::ROW_COUNT {
-        let row = row_of(rows[i]);
+        let word = rows[i];
+        if word >> printed::RESP_AT != key {
+            i += 1;
+            continue;
+        }
+        let row = row_of(word);
         let next = with_row(&e, among, row, sets);
         sets = next;
         i += 1;
