@@ -20,7 +20,8 @@ use Rattle.sets.proofs.Laws.{or-setOf, and-setOf, cond-setOf, setOf-ext}
 use Rattle.steps.specs.declared.Row as code
 use Rattle.rows.specs.Event.{tagOf, afterOf, seen}
 use Rattle.rows.specs.Rows.{Row, row, rows}
-use Rattle.rows.specs.declared.Table.the-variants.{B46}
+use Rattle.rows.specs.declared.Table.{Table}
+use Rattle.rows.specs.declared.Table.the-variants.{B46, B57, B59, B60, NdErr}
 use Rattle.kinds.specs.Answers.{SnpResp-I, wire}
 use Rattle.rows.specs.Permitted.{asked, answered, tagged, permitted, someTag}
 use Rattle.steps.specs.Steps.{steps, setAfter, setsAfter}
@@ -194,11 +195,19 @@ no-word : codeOf no-row ≡ rowAt 0
 unfolding no-row rowAt setOf
 no-word = refl
 
--- above the other columns of a word stands its answer's number
-unfoldable pub keyed : ℕ → Bool
-keyed w = eqb (w / 2 ^ 20) (wireKey (wire (rowAt w .answer)))
+-- the column of a table, halved
+unfoldable pub half : Table → ℕ
+half B46 = 0
+half B57 = 0
+half B59 = 1
+half B60 = 1
+half NdErr = 2
 
--- the code's table is the printed one, and each word shows its answer
+-- the upper columns of a word are its table's and its answer's
+unfoldable pub keyed : ℕ → Bool
+keyed w = eqb (w / 2 ^ 17) (wireKey (half (rowAt w .table)) (wire (rowAt w .answer)))
+
+-- the code's table is the printed one, and the upper columns of each word are as they should be
 pub record Printed (ws : List ℕ) : Type 0 where
   pub same : map rowAt ws ≡ map codeOf rows
   pub keys : all keyed ws ≡ true

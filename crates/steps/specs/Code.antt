@@ -6,7 +6,7 @@ use lib.ListN.{getD, set}
 use lib.Bits.{bitAnd, bitOr}
 use lib.Dec.{eqb}
 use Rattle.kinds.specs.Tests.{_∈?_}
-use Rattle.kinds.specs.Codes.{RSP, op-SnpRespDataPtl}
+use Rattle.kinds.specs.Codes.{RSP, op-SnpRespDataPtl, NDERR, SnpPreferUniqueFwd}
 use Rattle.kinds.specs.declared.Answer.{Answer}
 use Rattle.kinds.specs.declared.Answer.the-variants.{SnpResp, SnpRespData, SnpRespDataPtl}
 use Rattle.kinds.specs.declared.Forward.{Forward}
@@ -15,7 +15,7 @@ use Rattle.sets.specs.Sets.{setOf}
 use Rattle.rows.specs.declared.Table.{Table}
 use Rattle.rows.specs.declared.Table.the-variants.{B46, B57, B59, B60, NdErr}
 use Rattle.steps.specs.declared.Row as code
-use Rattle.rows.specs.Event.{byte}
+use Rattle.rows.specs.Event.{byte, requestOf, answerOf, respErrOf}
 use Rattle.rows.specs.Rows.{Row}
 use Rattle.rows.specs.Permitted.{asked, answered, someTag}
 
@@ -71,18 +71,30 @@ rowAt w =
 unfoldable pub rowFits : List ℕ → code.Row → Bool
 rowFits e r = answered e (r .table) (r .answer) && asked e (r .table) (r .ret) (r .marked) && someTag e (r .table) (r .before .0) (r .answer)
 
+-- what the row adds to the set of its state before
+abbrev pub rowAdds : List ℕ → ℕ → code.Row → ℕ
+rowAdds e among r = cond (rowFits e r) (bitAnd (r .after) among) 0
+
 -- the seven sets with what the row adds
 unfoldable pub withRow : List ℕ → ℕ → code.Row → List ℕ → List ℕ
-withRow e among r sets = set sets (r .before .0) (bitOr (getD sets (r .before .0) 0) (cond (rowFits e r) (bitAnd (r .after) among) 0))
+withRow e among r sets = set sets (r .before .0) (bitOr (getD sets (r .before .0) 0) (rowAdds e among r))
+
+-- the column of the tables that an event can be from, halved
+abbrev pub tablesOf : ℕ → ℕ → ℕ
+tablesOf request error = cond (eqb error NDERR) 2 (cond (eqb request SnpPreferUniqueFwd) 1 0)
 
 -- the column of a message, by its channel and opcode
 abbrev pub messageOf : ℕ → ℕ → ℕ
 messageOf channel opcode = cond (eqb channel RSP) 0 (cond (eqb opcode op-SnpRespDataPtl) 2 1)
 
--- the number that an answer has in a word, above the other columns
-unfoldable pub answerKey : ℕ → ℕ → ℕ → ℕ → ℕ
-answerKey channel opcode resp forward = resp + 16 * forward + 256 * messageOf channel opcode
+-- the upper columns of a word as one number
+abbrev pub rowKey : ℕ → ℕ → ℕ → ℕ → ℕ
+rowKey tables message resp forward = tables + 8 * resp + 128 * forward + 2048 * message
 
--- the same of an answer on the bus
-abbrev pub wireKey : List ℕ → ℕ
-wireKey w = answerKey (byte w 0) (byte w 1) (byte w 2) (byte w 3)
+-- the same by the tables and by an answer on the bus
+unfoldable pub wireKey : ℕ → List ℕ → ℕ
+wireKey tables w = rowKey tables (messageOf (byte w 0) (byte w 1)) (byte w 2) (byte w 3)
+
+-- the upper columns that a row of the event has
+abbrev pub eventKey : List ℕ → ℕ
+eventKey e = wireKey (tablesOf (requestOf e) (respErrOf e)) (answerOf e)

@@ -7,6 +7,7 @@ use kinds::Forward;
 use kinds::FwdState;
 use kinds::LineState;
 use kinds::Opcode;
+use kinds::Request;
 use kinds::Resp;
 use kinds::RespErr;
 use rows::Table;
@@ -17,7 +18,7 @@ ghost use Rattle.kinds.specs.Codes.{stateNotSeen};
 ghost use Rattle.sets.specs.Sets.{setOf};
 ghost use Rattle.rows.specs.Event.{seen};
 ghost use Rattle.steps.specs.Steps.{setsAfter, duty};
-ghost use Rattle.steps.specs.Code.{columnAt, tableAt, forwardAt, answerAt, rowAt, eventBytes, rowFits, withRow, answerKey};
+ghost use Rattle.steps.specs.Code.{columnAt, tableAt, forwardAt, answerAt, rowAt, eventBytes, rowFits, rowAdds, tablesOf, messageOf, rowKey, eventKey};
 
 mod printed;
 
@@ -108,17 +109,11 @@ fn row_fits(e: &[u8; EVENT_BYTES], row: Row) -> bool
     rows::asked(e, table, row.ret, row.marked) & rows::some_tag(e, table, before, answer)
 }
 
-// The seven sets with what the row adds.
-fn with_row(e: &[u8; EVENT_BYTES], among: u8, row: Row, sets: [u8; 7]) -> [u8; 7]
-    requires { ⌜ row .before .0 < 7 ⌝ }
-    ensures { λ r. ⌜ r ≡ withRow (now (e .entry)) among row sets ⌝ }
+// What the row adds to the set of its state before.
+fn row_adds(e: &[u8; EVENT_BYTES], among: u8, row: Row) -> u8
+    ensures { λ r. ⌜ r ≡ rowAdds (now (e .entry)) among row ⌝ }
 {
-    let before = row.before;
-    let at = before.0 as usize;
-    let added = sets::choose(row_fits(e, row), row.after & among, 0);
-    let mut next = sets;
-    next[at] = next[at] | added;
-    next
+    sets::choose(row_fits(e, row), row.after & among, 0)
 }
 
 // The set of the states after that were seen: one, or all where it wasn't seen.
@@ -152,15 +147,39 @@ fn event_bytes(event: &[u8]) -> [u8; EVENT_BYTES]
     ]
 }
 
-// The number that an answer has in the words of the rows, so that a row with another answer is passed over unread.
-fn answer_key(channel: u8, opcode: u8, resp: u8, forward: u8) -> u32
-    ensures { λ r. ⌜ r ≡ answerKey channel opcode resp forward ⌝ }
+// The column of the table, halved: B4.59 and B4.60 are for SnpPreferUniqueFwd, and NDERR has rows of its own.
+fn tables_of(request: u8, error: u8) -> u8
+    ensures { λ r. ⌜ r ≡ tablesOf request error ⌝ }
+{
+    let printed = sets::choose(request == Request::SNP_PREFER_UNIQUE_FWD.0, 1, 0);
+    sets::choose(error == RespErr::NDERR.0, 2, printed)
+}
+
+// The column of the message.
+fn message_of(channel: u8, opcode: u8) -> u8
+    ensures { λ r. ⌜ r ≡ messageOf channel opcode ⌝ }
 {
     let data = sets::choose(opcode == Opcode::SNP_RESP_DATA_PTL.0, 2, 1);
-    let message = sets::choose(channel == Channel::RSP.0, 0, data);
-    resp as u32
+    sets::choose(channel == Channel::RSP.0, 0, data)
+}
+
+// The upper columns of a row's word as one number.
+fn row_key(tables: u8, message: u8, resp: u8, forward: u8) -> u32
+    ensures { λ r. ⌜ r ≡ rowKey tables message resp forward ⌝ }
+{
+    tables as u32
+        + printed::RESP_WEIGHT * resp as u32
         + printed::FWD_WEIGHT * forward as u32
         + printed::MESSAGE_WEIGHT * message as u32
+}
+
+// The upper columns that a row of the event has, so that every other row is passed over unread.
+fn event_key(e: &[u8; EVENT_BYTES]) -> u32
+    ensures { λ r. ⌜ r ≡ eventKey (now (e .entry)) ⌝ }
+{
+    let tables = tables_of(e[place::REQUEST], e[place::RESP_ERR]);
+    let message = message_of(e[place::CHANNEL], e[place::OPCODE]);
+    row_key(tables, message, e[place::RESP], e[place::FWD_STATE])
 }
 
 // For each of the seven states before, the set of states after.
@@ -169,24 +188,20 @@ pub fn sets_after(event: &[u8]) -> [u8; 7]
 {
     let e = event_bytes(event);
     let among = seen_states(LineState(e[place::AFTER]));
-    let key = answer_key(
-        e[place::CHANNEL],
-        e[place::OPCODE],
-        e[place::RESP],
-        e[place::FWD_STATE],
-    );
+    let key = event_key(&e);
     let rows = printed::ROWS;
     let mut sets = [0u8; 7];
     let mut i: usize = 0;
     while i < printed::ROW_COUNT {
         let word = rows[i];
-        if word >> printed::RESP_AT != key {
+        if word >> printed::KEY_AT != key {
             i += 1;
             continue;
         }
         let row = row_of(word);
-        let next = with_row(&e, among, row, sets);
-        sets = next;
+        let at = row.before.0 as usize;
+        let added = row_adds(&e, among, row);
+        sets[at] = sets[at] | added;
         i += 1;
     }
     sets

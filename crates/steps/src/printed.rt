@@ -16,10 +16,14 @@ pub const FWD_AT: u32 = 24;
 
 pub const MESSAGE_AT: u32 = 28;
 
-// The answer's three columns lie above all others, Resp the lowest of them: what FwdState and message weigh there.
-pub const FWD_WEIGHT: u32 = 1 << (FWD_AT - RESP_AT);
+// From here up lie the columns of table (but for its lowest bit), Resp, FwdState and message, and what each weighs there.
+pub const KEY_AT: u32 = TABLE_AT + 1;
 
-pub const MESSAGE_WEIGHT: u32 = 1 << (MESSAGE_AT - RESP_AT);
+pub const RESP_WEIGHT: u32 = 1 << (RESP_AT - KEY_AT);
+
+pub const FWD_WEIGHT: u32 = 1 << (FWD_AT - KEY_AT);
+
+pub const MESSAGE_WEIGHT: u32 = 1 << (MESSAGE_AT - KEY_AT);
 
 // The table.
 const B46: u32 = 0 << TABLE_AT;

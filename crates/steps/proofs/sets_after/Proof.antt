@@ -1,5 +1,5 @@
 -- `steps::sets_after` meets its contract: the walk along the rows. The invariant: the words are the printed rows, and the sets are what the
--- rows passed so far lead to; a row with another answer is passed over, and leads nowhere. The measure is the rows that are left.
+-- rows so far lead to; a row with other upper columns than the event's leads nowhere. The measure is the rows that are left.
 -- Assumes nothing.
 use borrow.Author.Needs.{needs}
 use native.Mathlib.Omega.{arith}
@@ -9,9 +9,9 @@ use lib.ListN.{take}
 use denote.Ref.{now}
 use Rattle.sets.specs.Sets.{setOf}
 use Rattle.rows.specs.Rows.{rows}
-use Rattle.steps.specs.Code.{rowAt, eventBytes, answerKey}
-use Rattle.steps.proofs.Walk.{Printed, keyed, walked, walk-none, word-before, walk-turn, walk-end}
-use Rattle.steps.proofs.Passing.{pass-turn}
+use Rattle.steps.specs.Code.{rowAt, eventBytes, wireKey}
+use Rattle.steps.proofs.Walk.{Printed, half, keyed, walked, walk-none, word-before, walk-end}
+use Rattle.steps.proofs.Passing.{pass-turn, add-turn}
 use Rattle.steps.proofs.sets_after.Statement.{statement}
 use Rattle.steps.proofs.sets_after.Tie as tie
 
@@ -25,30 +25,18 @@ abbrev μ-loop : tie.MeasureT-loop
 event-bytes-requires : tie.Need-event-bytes-requires Inv-loop μ-loop
 event-bytes-requires c κs = search needs
 
-array-read-answer-key : tie.Need-array-read-answer-key Inv-loop μ-loop
-array-read-answer-key c = search needs
+array-read-t15 : tie.Need-array-read-t15 Inv-loop μ-loop
+array-read-t15 c = search needs
 
 seen-states-requires : tie.Need-seen-states-requires Inv-loop μ-loop
 seen-states-requires c κs = search needs
 
-array-read-answer-key-2 : tie.Need-array-read-answer-key-2 Inv-loop μ-loop
-array-read-answer-key-2 c = search needs
-
-array-read-answer-key-3 : tie.Need-array-read-answer-key-3 Inv-loop μ-loop
-array-read-answer-key-3 c = search needs
-
-array-read-answer-key-4 : tie.Need-array-read-answer-key-4 Inv-loop μ-loop
-array-read-answer-key-4 c = search needs
-
-array-read-answer-key-5 : tie.Need-array-read-answer-key-5 Inv-loop μ-loop
-array-read-answer-key-5 c = search needs
-
-answer-key-requires : tie.Need-answer-key-requires Inv-loop μ-loop
-answer-key-requires c κs = search needs
+event-key-requires : tie.Need-event-key-requires Inv-loop μ-loop
+event-key-requires c κs = search needs
 
 loop-holds : tie.Need-loop-holds Inv-loop μ-loop
-unfolding rowAt rows setOf keyed answerKey
-loop-holds c = (omega arith, record { same = refl; keys = refl }, walk-none (eventBytes (now (c .before .before .before .before .args .event))))
+unfolding rowAt rows setOf keyed wireKey half
+loop-holds c = (omega arith, record { same = refl; keys = refl }, walk-none (eventBytes (now (c .before .before .before .before .before .args .event))))
 
 mul-word : tie.Need-mul-word Inv-loop μ-loop
 mul-word c = omega arith
@@ -63,13 +51,22 @@ loop-less : tie.Need-loop-less Inv-loop μ-loop
 loop-less c = omega arith
 
 loop-again : tie.Need-loop-again Inv-loop μ-loop
-loop-again c = (omega arith, c .before .before .loop .inv .1, pass-turn (now (c .before .before .before .before .before .before .before .args .event)) (c .before .before .loop .i) (c .before .before .before .before .before .event-bytes .result) (c .before .before .before .before .seen-states .result) (c .before .before .before .answer-key .result) (c .before .before .loop .sets) (c .before .before .loop .inv .1) (c .before .loop-test .taken) (c .before .before .before .before .before .event-bytes .ensures) (c .before .before .before .before .seen-states .ensures) (c .before .before .before .answer-key .ensures) (c .if1 .taken) (c .before .before .loop .inv .2))
+loop-again c = (omega arith, c .before .before .loop .inv .1, pass-turn (now (c .before .before .before .before .before .before .before .before .args .event)) (c .before .before .loop .i) (c .before .before .before .before .before .before .event-bytes .result) (c .before .before .before .before .before .seen-states .result) (c .before .before .before .event-key .result) (c .before .before .loop .sets) (c .before .before .loop .inv .1) (c .before .loop-test .taken) (c .before .before .before .before .before .before .event-bytes .ensures) (c .before .before .before .before .before .seen-states .ensures) (c .before .before .before .event-key .ensures) (c .if1 .taken) (c .before .before .loop .inv .2))
 
 row-of-requires : tie.Need-row-of-requires Inv-loop μ-loop
 row-of-requires c κs = search needs
 
-with-row-requires : tie.Need-with-row-requires Inv-loop μ-loop
-with-row-requires c κs = word-before (c .before .before .before .before .loop .i) (c .before .row-of .result) (c .before .before .before .before .loop .inv .1) (c .before .before .before .loop-test .taken) (c .before .row-of .ensures)
+cast-at : tie.Need-cast-at Inv-loop μ-loop
+cast-at c = search needs
+
+row-adds-requires : tie.Need-row-adds-requires Inv-loop μ-loop
+row-adds-requires c κs = search needs
+
+array-read-sets : tie.Need-array-read-sets Inv-loop μ-loop
+array-read-sets c = word-before (c .before .before .before .before .before .before .loop .i) (c .before .before .before .row-of .result) (c .before .before .before .before .before .before .loop .inv .1) (c .before .before .before .before .before .loop-test .taken) (c .before .before .before .row-of .ensures)
+
+array-write-sets : tie.Need-array-write-sets Inv-loop μ-loop
+array-write-sets c = word-before (c .before .before .before .before .before .before .loop .i) (c .before .before .before .row-of .result) (c .before .before .before .before .before .before .loop .inv .1) (c .before .before .before .before .before .loop-test .taken) (c .before .before .before .row-of .ensures)
 
 add-i-2 : tie.Need-add-i-2 Inv-loop μ-loop
 add-i-2 c = omega arith
@@ -78,10 +75,10 @@ loop-less-2 : tie.Need-loop-less-2 Inv-loop μ-loop
 loop-less-2 c = omega arith
 
 loop-again-2 : tie.Need-loop-again-2 Inv-loop μ-loop
-loop-again-2 c = (omega arith, c .before .before .before .before .before .loop .inv .1, walk-turn (now (c .before .before .before .before .before .before .before .before .before .before .args .event)) (c .before .before .before .before .before .loop .i) (c .before .before .before .before .before .before .before .before .event-bytes .result) (c .before .before .before .before .before .before .before .seen-states .result) (c .before .before .row-of .result) (c .before .before .before .before .before .loop .sets) (c .with-row .result) (c .before .before .before .before .before .loop .inv .1) (c .before .before .before .before .loop-test .taken) (c .before .before .before .before .before .before .before .before .event-bytes .ensures) (c .before .before .before .before .before .before .before .seen-states .ensures) (c .before .before .row-of .ensures) (c .before .before .before .before .before .loop .inv .2) (c .with-row .ensures))
+loop-again-2 c = (omega arith, c .before .before .before .before .before .before .loop .inv .1, add-turn (now (c .before .before .before .before .before .before .before .before .before .before .before .before .args .event)) (c .before .before .before .before .before .before .loop .i) (c .before .before .before .before .before .before .before .before .before .before .event-bytes .result) (c .before .before .before .before .before .before .before .before .before .seen-states .result) (c .before .before .before .row-of .result) (c .before .before .before .before .before .before .loop .sets) (c .row-adds .result) (c .before .before .before .before .before .before .loop .inv .1) (c .before .before .before .before .before .loop-test .taken) (c .before .before .before .before .before .before .before .before .before .before .event-bytes .ensures) (c .before .before .before .before .before .before .before .before .before .seen-states .ensures) (c .before .before .before .row-of .ensures) (c .before .before .before .before .before .before .loop .inv .2) (c .row-adds .ensures))
 
 returns : tie.Need-returns Inv-loop μ-loop
-returns c = walk-end (now (c .before .before .before .before .before .before .args .event)) (c .before .loop .i) (c .before .loop .sets) (c .loop-test .left) (c .before .loop .inv .2)
+returns c = walk-end (now (c .before .before .before .before .before .before .before .args .event)) (c .before .loop .i) (c .before .loop .sets) (c .loop-test .left) (c .before .loop .inv .2)
 
 pub sets-after-spec : {M : Type 1} → statement M
 sets-after-spec =
@@ -90,13 +87,9 @@ sets-after-spec =
     Inv-loop
     μ-loop
     event-bytes-requires
-    array-read-answer-key
+    array-read-t15
     seen-states-requires
-    array-read-answer-key-2
-    array-read-answer-key-3
-    array-read-answer-key-4
-    array-read-answer-key-5
-    answer-key-requires
+    event-key-requires
     loop-holds
     mul-word
     array-read-word
@@ -104,7 +97,10 @@ sets-after-spec =
     loop-less
     loop-again
     row-of-requires
-    with-row-requires
+    cast-at
+    row-adds-requires
+    array-read-sets
+    array-write-sets
     add-i-2
     loop-less-2
     loop-again-2

@@ -1,0 +1,17 @@
+-- `steps::message_of` meets its contract: by the channel, then by the opcode.
+-- Assumes nothing.
+use borrow.Author.Needs.{needs}
+use Rattle.steps.proofs.message_of.Statement.{statement}
+use Rattle.steps.proofs.message_of.Tie as tie
+
+choose-requires : tie.Need-choose-requires
+choose-requires c κs = search needs
+
+choose-requires-2 : tie.Need-choose-requires-2
+choose-requires-2 c κs = search needs
+
+returns : tie.Need-returns
+returns c = cc
+
+pub message-of-spec : {M : Type 1} → statement M
+message-of-spec = tie.close (tie.spec choose-requires choose-requires-2 returns)

@@ -1,0 +1,17 @@
+-- `steps::row_adds` meets its contract: the states after that were seen, where the row fits.
+-- Assumes nothing.
+use borrow.Author.Needs.{needs}
+use Rattle.steps.proofs.row_adds.Statement.{statement}
+use Rattle.steps.proofs.row_adds.Tie as tie
+
+row-fits-requires : tie.Need-row-fits-requires
+row-fits-requires c κs = search needs
+
+choose-requires : tie.Need-choose-requires
+choose-requires c κs = search needs
+
+returns : tie.Need-returns
+returns c = cc
+
+pub row-adds-spec : {M : Type 1} → statement M
+row-adds-spec = tie.close (tie.spec row-fits-requires choose-requires returns)
