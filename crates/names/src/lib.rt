@@ -25,7 +25,8 @@ const ZERO: u8 = 48;
 // to this one.
 const NINE: u8 = 57;
 
-// Whether a text is another, as a field a name. Every byte is compared, with no way out before the last: such a loop compiles to a few wide compares.
+// Whether a text is another, as a field a name. Every byte is compared, with no way out before the last: such a loop compiles to a few
+// wide compares.
 pub fn is(field: &[u8], name: &[u8]) -> bool
     ensures { λ r. ⌜ r ≡ same (now (field .entry)) (now (name .entry)) ⌝ }
 {
