@@ -13,7 +13,7 @@ use Rattle.lines.specs.Seen.{tooLong}
 use Rattle.replies.specs.Replies.{headerLine, refusedLine}
 use Rattle.sheet.specs.Sheet.{answers, sheetOut}
 use Rattle.sheet.specs.Pieces.{Held, whole, sure, room, ready, eaten, toCome, total}
-use Rattle.sheet.specs.Runs.{emptied, withPiece, Run, reads, eats, ends, refused, done, start}
+use Rattle.sheet.specs.Runs.{emptied, withPiece, Run, SomeRun, reads, eats, ends, refused, done, start}
 use Rattle.sheet.proofs.Turns.{eaten-keeps, nothing, size, eaten-less}
 
 piece-read : (h : Held) (piece input : List ℕ) → toCome (withPiece h piece) input ≡ toCome h (piece ++ input)
@@ -59,11 +59,6 @@ run-is-sheet r = ap (λ (s : List ℕ). headerLine ++ s) (run-writes r)
 -- two runs of one input write the same
 pub runs-agree : {input out out′ : List ℕ} → Run start input out → Run start input out′ → out ≡ out′
 runs-agree r r′ = run-writes r ∙ sym (run-writes r′)
-
--- some run of what is held and this input
-pub record SomeRun (h : Held) (input : List ℕ) : Type 0 where
-  pub out : List ℕ
-  pub run : Run h input out
 
 -- where the input has ended, a buffer with room for one answer is enough, and what is held is not ready only behind a refusal or the last line
 not-ready : (h : Held) → ready true room (emptied h) ≡ false → SomeRun h []

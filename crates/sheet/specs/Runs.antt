@@ -27,6 +27,11 @@ pub data Run : Held → List ℕ → List ℕ → Type 0 where
   -- the input has ended, and every line of it is taken
   done : {h : Held} → h .rest ≡ [] → 0 < h .lines → Run h [] []
 
+-- from what is held, with this input to come, something is written: there is a run
+pub record SomeRun (h : Held) (input : List ℕ) : Type 0 where
+  pub out : List ℕ
+  pub run : Run h input out
+
 -- nothing is read yet
 abbrev pub start : Held
 start = record { rest = []; lines = 0; table = startTable; text = []; going = true }

@@ -1,16 +1,16 @@
 -- The answers to good lines are those to their events, one after another, and what follows goes on from the table that they leave.
 -- Assumes nothing.
-use mathlib.Core.Path.{_≡_, refl, sym, _∙_, ap, ap₂, subst}
-use mathlib.Core.Bool.{Bool, true, false, cond, _&&_}
+use mathlib.Core.Path.{_≡_, refl, sym, _∙_, ap, ap₂}
+use mathlib.Core.Bool.{true, cond}
 use mathlib.Core.List.{List, [], _∷_, _++_, append-nil, append-assoc}
-use Prim.Native.Nat.{ℕ, zero, suc, _+_, _-_, _≤_, _<_}
+use Prim.Native.Nat.{ℕ, suc, _+_, _-_, _≤_, _<_}
 use native.Mathlib.Nat.{add-zero}
 use native.Mathlib.Omega.{arith}
 use borrow.Author.Tests.{eqb-true, eq-eqb, ne-eqb, leb-true, le-ltb}
 use lib.Dec.{eqb, ltb, leb}
 use lib.ListN.{length}
 use Rattle.kinds.specs.Tests.{all}
-use Rattle.kinds.proofs.Lists.{and-left, and-right, and-both}
+use Rattle.kinds.proofs.Lists.{and-left, and-right}
 use Rattle.trace.specs.Events.{TraceEvent, moved, run}
 use Rattle.histories.proofs.Own.{run-append}
 use Rattle.entries.specs.Entries.{entryOf}

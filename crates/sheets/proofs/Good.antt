@@ -1,20 +1,20 @@
 -- A line that is not refused is an event without fault: every byte is within its range, the request is one of the seven, the pair is in the table.
 -- Assumes nothing.
-use mathlib.Core.Path.{_≡_, refl, sym, _∙_, ap, subst}
+use mathlib.Core.Path.{_≡_, refl, _∙_, ap}
 use mathlib.Core.Bool.{Bool, true, false, cond, _&&_}
 use mathlib.Core.List.{List, [], _∷_, _++_}
-use Prim.Native.Nat.{ℕ, suc, _+_, _≤_, _<_}
+use Prim.Native.Nat.{ℕ, _+_, _≤_, _<_}
 use native.Mathlib.Omega.{arith}
 use borrow.Author.Tests.{lt-ltb, ltb-false}
 use lib.Dec.{eqb, ltb}
-use lib.ListN.{length, getD}
+use lib.ListN.{length, getD, length-append}
 use Rattle.kinds.specs.Tests.{all, _∈?_}
 use Rattle.kinds.specs.Codes.{requests}
 use Rattle.kinds.specs.Places.{eventLength}
 use Rattle.kinds.proofs.Lists.{and-left, and-right, and-both, all-at}
-use Rattle.event.specs.Refusals.{issueE, below, fault, refusalAlone}
+use Rattle.event.specs.Refusals.{issueE, below, fault}
 use Rattle.fields.specs.Fields.{fieldsOf}
-use Rattle.names.specs.Names.{Named, unknown, codeOf, requestNames, columns, answerBytes}
+use Rattle.names.specs.Names.{Named, codeOf, requestNames, columns, answerBytes}
 use Rattle.names.proofs.Names.{Sought, none, found, seek, answer-length, answer-in-range}
 use Rattle.entries.specs.Entries.{codesOf, lineCodes, wellFormed, present, eventOf, highestPair, entry, refusedEntry, entryOf}
 use Rattle.entries.specs.declared.Entry.{Entry}
@@ -73,7 +73,7 @@ module _ (line : List ℕ) (w : wellFormed line ≡ true) where
   code : ℕ → ℕ
   code i = getD (lineCodes line) i 0
 
-  all-in-range : below (eventOf (lineCodes line)) 1 (issueE .limits) ≡ true
+  pub all-in-range : below (eventOf (lineCodes line)) 1 (issueE .limits) ≡ true
   unfolding eventOf code
   all-in-range =
       in-range (code 1) (code 2) (code 3) (code 4) (code 5) (code 7) (code 8) (present (code 9)) (code 9) (code 10)
@@ -81,7 +81,7 @@ module _ (line : List ℕ) (w : wellFormed line ≡ true) where
       (code-below line w 2 (omega arith)) (code-below line w 3 (omega arith)) (code-below line w 4 (omega arith)) (code-below line w 5 (omega arith))
       (code-below line w 7 (omega arith)) (code-below line w 8 (omega arith)) (present-below (code 9)) (code-below line w 9 (omega arith)) (code-below line w 10 (omega arith))
 
-  requested : getD (eventOf (lineCodes line)) 0 0 ∈? requests ≡ true
+  pub requested : getD (eventOf (lineCodes line)) 0 0 ∈? requests ≡ true
   unfolding eventOf
   requested = field-requested (fieldsOf line) (code-below line w 1 (omega arith))
 
@@ -119,3 +119,15 @@ module _ (line : List ℕ) (h : entryOf line .refusal .0 ≡ 0) where
 
   pub entry-pair-in : entryOf line .pair .0 < 4096
   entry-pair-in = omega (arith, ap (λ (e : Entry). e .pair .0) (says line h .so), says line h .low-pair)
+
+  pub entry-in-range : below (entryOf line .event) 1 (issueE .limits) ≡ true
+  entry-in-range = ap (λ (e : Entry). below (e .event) 1 (issueE .limits)) (says line h .so) ∙ all-in-range line (says line h .well-formed)
+
+  pub entry-requested : getD (entryOf line .event) 0 0 ∈? requests ≡ true
+  entry-requested = ap (λ (e : Entry). getD (e .event) 0 0 ∈? requests) (says line h .so) ∙ requested line (says line h .well-formed)
+
+  pub entry-length : length (entryOf line .event) ≡ eventLength
+  unfolding eventOf
+  entry-length =
+      ap (λ (e : Entry). length (e .event)) (says line h .so)
+      ∙ omega (arith, answer-length (getD (lineCodes line) 6 0), length-append (answerBytes (getD (lineCodes line) 6 0)) (getD (lineCodes line) 7 0 ∷ getD (lineCodes line) 8 0 ∷ present (getD (lineCodes line) 9 0) ∷ getD (lineCodes line) 9 0 ∷ getD (lineCodes line) 10 0 ∷ []))

@@ -1,5 +1,8 @@
 pub mod Good
 pub mod Answers
+pub mod Named
 pub mod Reached
 pub mod Refused
+pub mod Calls
+pub mod Pieces
 pub mod SheetTheorems

@@ -21,12 +21,12 @@ use Rattle.steps.specs.Steps.{duty, noDuty}
 use Rattle.verdicts.specs.Verdicts.{after, verdict, dutyByte, explained}
 use Rattle.verdicts.proofs.Laws.{after-below, is-explained, is-unexplained, is-not-judged}
 use Rattle.trace.specs.Events.{TraceEvent, run}
-use Rattle.histories.specs.Histories.{own, History}
+use Rattle.histories.specs.Histories.{own}
 use Rattle.histories.proofs.Walk.{walk, walk-below, ends, ends-in}
 use Rattle.histories.proofs.Own.{run-own, run-append, length-run}
 use Rattle.sheet.specs.Sheet.{startTable}
 use Rattle.sheets.specs.Good.{eventOn, eventsOf, good, foundBehind}
-use Rattle.sheets.specs.Histories.{HistoryOn, SomeHistoryOn, pairOn, ReachesIn, PassesTo, Reaches, Passes, VerdictOn, passed, stopped, not-reached, DutyOn}
+use Rattle.sheets.specs.Histories.{HistoryOn, SomeHistoryOn, pairOn, PassesTo, Passes, VerdictOn, passed, stopped, not-reached, DutyOn}
 use Rattle.sheets.proofs.Good.{entry-pair-in}
 use Rattle.sheets.proofs.Answers.{good-accepted, events-append}
 
@@ -45,11 +45,11 @@ full-states : (s : ℕ) → bit full s ≡ true → s ∈? states ≡ true
 full-states s h = each-state (λ n. n ∈? states ≡ true) refl refl refl refl refl refl refl s (bit-state full s (omega arith) h)
 
 -- every pair starts from it
-start-length : length startTable ≡ 4096
+pub start-length : length startTable ≡ 4096
 unfolding startTable
 start-length = length-replicate 4096 full
 
-start-set : (p : ℕ) → p < 4096 → setIn startTable p ≡ full
+pub start-set : (p : ℕ) → p < 4096 → setIn startTable p ≡ full
 unfolding startTable
 start-set p h = getD-replicate 4096 p full 0 h
 

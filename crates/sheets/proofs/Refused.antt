@@ -1,20 +1,19 @@
 -- Every line is the header, good, or refused with one number; and so every sheet is answered in one of four ways.
 -- Assumes nothing.
-use mathlib.Core.Path.{_≡_, refl, sym, _∙_, ap, ap₂, subst}
+use mathlib.Core.Path.{_≡_, refl, sym, _∙_, ap, subst}
 use mathlib.Core.Bool.{Bool, true, false, cond, true≢false}
 use mathlib.Core.List.{List, [], _∷_, _++_, append-nil}
 use Prim.Native.Nat.{ℕ, zero, suc, _+_, _-_, _≤_, _<_}
 use native.Mathlib.Nat.{add-zero}
 use native.Mathlib.Omega.{arith}
 use borrow.Author.Tests.{eqb-true, eqb-false, eq-eqb, ne-eqb, ltb-true, ltb-false, lt-ltb, le-ltb, le-leb}
-use lib.Dec.{eqb, ltb, leb}
+use lib.Dec.{eqb, ltb}
 use lib.ListN.{length, getD}
-use Rattle.kinds.specs.Tests.{same, all}
+use Rattle.kinds.specs.Tests.{same}
 use Rattle.kinds.proofs.Lists.{and-both}
 use Rattle.names.proofs.Names.{same-equal, same-self}
 use Rattle.trace.specs.Events.{run}
 use Rattle.entries.specs.Entries.{lineCodes, wellFormed, eventOf, highestPair, entry, refusedEntry, entryOf}
-use Rattle.entries.specs.declared.Entry.{Entry}
 use Rattle.replies.specs.Replies.{refusedLine}
 use Rattle.sheet.specs.Sheet.{Told, told, refuse, header, longest, mostLines, onHeader, onEntry, onLine, answers, startTable}
 use Rattle.sheet.proofs.Turns.{tooLongTold, long-told}

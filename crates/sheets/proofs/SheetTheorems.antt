@@ -3,10 +3,12 @@
 -- Assumes nothing.
 use mathlib.Core.Path.{_≡_, refl, sym, _∙_, ap, subst}
 use mathlib.Core.Logic.{_↔_}
-use mathlib.Core.Bool.{Bool, true, false}
+use mathlib.Core.Bool.{Bool, true, false, _&&_}
 use mathlib.Core.List.{List, [], _∷_, _++_, append-cancel-left}
-use Prim.Native.Nat.{ℕ, _+_, _-_, _<_}
-use lib.ListN.{length}
+use Prim.Native.Nat.{ℕ, _+_, _-_, _≤_, _<_}
+use native.Mathlib.Omega.{arith}
+use lib.Dec.{leb}
+use lib.ListN.{length, take, drop}
 -- the definitions that the theorems name
 use Rattle.kinds.specs.Tests.{all}
 use Rattle.kinds.specs.Places.{setIn}
@@ -17,24 +19,31 @@ use Rattle.steps.specs.Steps.{steps, duty, noDuty}
 use Rattle.event.specs.Refusals.{issueE, fault}
 use Rattle.verdicts.specs.Verdicts.{after, verdict, dutyByte, explained}
 use Rattle.trace.specs.Events.{run}
+use Rattle.trace.specs.Lent.{Left}
+use Rattle.trace.specs.Judged.{judged}
 use Rattle.lines.specs.Lines.{linesOf}
 use Rattle.names.specs.Names.{codeOf, requestNames, flagNames, tagNames, responses, responseNames, answers as namedAnswers, answerBytes, tagOpNames, respErrNames, forwardNames, finalNames, isPair, decimal as readDecimal, pairOf, columns}
 use Rattle.entries.specs.Entries.{lineCodes, wellFormed, eventOf, entryOf}
 use Rattle.replies.specs.Replies.{decimal, verdictText, dutyText, statesText, headerLine, answerLine, refusedLine}
 use Rattle.sheet.specs.Sheet.{refuse, header, mostLines, onLine, answers, startTable, sheetOut}
-use Rattle.sheet.specs.Pieces.{Held, ready, eaten, total}
-use Rattle.sheet.specs.Runs.{Run, start}
+use Rattle.sheet.specs.Pieces.{Held, sure, room, ready, eaten, toCome, total}
+use Rattle.sheet.specs.Eaten.{held, ate}
+use Rattle.sheet.specs.Runs.{Run, SomeRun, start}
 use Rattle.sheets.specs.Pages.{exampleIn, exampleOut, cases, asSaid}
-use Rattle.sheets.specs.Good.{eventOn, eventsOf, good, AllGood, foundBehind, answerLines}
+use Rattle.sheets.specs.Good.{eventOn, eventsOf, good, AllGood, foundBehind, answerLines, names}
 use Rattle.sheets.specs.Refused.{RefusedWith, LineIs, SheetSays}
-use Rattle.sheets.specs.Histories.{HistoryOn, pairOn, ReachesIn, PassesTo, VerdictOn, DutyOn}
+use Rattle.sheets.specs.Histories.{pairOn, ReachesIn, PassesTo, VerdictOn, DutyOn}
+use Rattle.sheets.specs.Calls.{callOf, spelled}
 -- their proofs
 use Rattle.sheet.proofs.Turns.{eaten-keeps, eaten-stops}
-use Rattle.sheet.proofs.Runs.{SomeRun, run-is-sheet, runs-agree, run-exists}
+use Rattle.sheet.proofs.Runs.{run-is-sheet, runs-agree, run-exists}
 use Rattle.sheets.proofs.Good.{no-fault, entry-no-fault}
 use Rattle.sheets.proofs.Answers.{good-accepted, good-then-more, good-alone, answer-behind}
+use Rattle.sheets.proofs.Named.{named}
 use Rattle.sheets.proofs.Reached.{pair-inside, set-exact, shown-exact, verdict-given, gives-verdict, duty-given, duty-none}
 use Rattle.sheets.proofs.Refused.{refused-told, line-is, one-number, header-passes, said-answers, some-said}
+use Rattle.sheets.proofs.Pieces.{call-tied, call-stops}
+use Rattle.sheets.proofs.Calls.{judged-so, spelled-so}
 
 -- THE PAGE'S EXAMPLE: the whole input gives the whole output, byte for byte.
 pub page-example : sheetOut exampleIn ≡ exampleOut
@@ -83,6 +92,19 @@ piece-tied = eaten-keeps
 pub piece-progress : (ended : Bool) (space : ℕ) (h : Held) → ready ended space (eaten ended space h) ≡ false
 piece-progress = eaten-stops
 
+-- The same of a call of `eat`, by what it leaves: the bytes that it put, and then what is still to come of the rest of the piece, are what was
+-- to come of the piece; and then the run has ended, or there is no room for an answer, or nothing is sure of the next line.
+pub eat-tied : (ended : Bool) (piece : List ℕ) (lines : ℕ) (going : Bool) (table out more : List ℕ) → (ended ≡ true → more ≡ [])
+    → let r = ate ended piece lines going table out in
+    take (r .answer .put) (r .out) ++ toCome (held (drop (r .answer .taken) piece) (r .answer .lines) (r .table) (r .answer .going)) more
+    ≡ toCome (held piece lines table going) more
+eat-tied = call-tied
+
+pub eat-stops : (ended : Bool) (piece : List ℕ) (lines : ℕ) (going : Bool) (table out : List ℕ)
+    → let r = ate ended piece lines going table out in
+    r .answer .going && (leb (r .answer .put + room) (length out) && sure ended (r .answer .lines) (drop (r .answer .taken) piece)) ≡ false
+eat-stops = call-stops
+
 -- ONE OUTCOME: every public function of the sheet and of what it stands on claims that its outcome is the value of one definition, so any
 -- two outcomes that a claim allows are equal.
 pub one-value {ℓ} : {A : Type ℓ} {claimed r r′ : A} → r ≡ claimed → r′ ≡ claimed → r ≡ r′
@@ -107,6 +129,11 @@ pub table-carried : (k : ℕ) (table : List ℕ) (lines more : List (List ℕ)) 
     → answers k table (lines ++ more) ≡ answerLines (k - 1) table (eventsOf lines) ++ answers (k + length lines) (run table (eventsOf lines)) more
 table-carried = good-then-more
 
+-- The page's example is of that kind: its four lines are good.
+pub example-good : AllGood 1 (drop 1 (linesOf exampleIn))
+unfolding codeOf requestNames flagNames tagNames responses responseNames namedAnswers answerBytes tagOpNames respErrNames forwardNames finalNames isPair readDecimal pairOf columns wellFormed eventOf entryOf
+example-good = record { behind-header = omega arith; not-too-many = omega arith; each-good = refl }
+
 -- A LINE'S OWN ANSWER: behind the answers to the lines before it stands its number and what it is found to be.
 pub own-answer : (input : List ℕ) (before : List (List ℕ)) (line : List ℕ) (more : List (List ℕ)) → linesOf input ≡ header ∷ (before ++ (line ∷ more))
     → AllGood 1 before → good line ≡ true → length before + 1 < mostLines
@@ -118,11 +145,30 @@ own-answer input before line more e g h q =
     ap (λ (s : List ℕ). headerLine ++ s)
     (ap (answers 0 startTable) e ∙ header-passes (before ++ (line ∷ more)) ∙ answer-behind startTable before line more g h q)
 
+-- THE SHEET AND THE TRACE CALL AGREE: up to 4,096 good lines, lent as one trace, are accepted, and the sheet is what comes back, spelled.
+pub sheet-spells-trace : (input : List ℕ) (lines : List (List ℕ)) (verdicts duties afters : List ℕ) → linesOf input ≡ header ∷ lines → AllGood 1 lines
+    → length lines ≤ 4096 → length verdicts ≡ length lines → length duties ≡ length lines → length afters ≡ length lines
+    → let r = judged issueE (callOf lines verdicts duties afters) in
+    (r .outcome .refusal .0 ≡ 0) × (sheetOut input ≡ headerLine ++ spelled 0 (r .verdicts) (r .duties) (r .afters))
+sheet-spells-trace input lines verdicts duties afters e g few v d a =
+    let so = judged-so lines verdicts duties afters (g .each-good) few v d a in (
+      ap (λ (r : Left). r .outcome .refusal .0) so,
+      ap (λ (s : List ℕ). headerLine ++ s)
+          (ap (answers 0 startTable) e
+          ∙ header-passes lines
+          ∙ good-alone 1 startTable lines g
+          ∙ sym (ap (λ (r : Left). spelled 0 (r .verdicts) (r .duties) (r .afters)) so ∙ spelled-so 0 startTable (eventsOf lines))),
+    )
+
 module _ (before : List (List ℕ)) (line : List ℕ) (g : good line ≡ true) where
   -- DEMAND 3 ON THE SHEET: the states that a line's answer shows are exactly those in which some history ends, of the line's pair, from one of
   -- the seven states, through that pair's events on the lines before it and on the line itself.
   pub sheet-states-exact : (s : ℕ) → bit (foundBehind before line .after) s ≡ true ↔ PassesTo before line s
   sheet-states-exact = shown-exact before line g
+
+  -- The same in the answer's text: a state's name stands in it exactly when some history ends there.
+  pub sheet-names-exact : (s : ℕ) → s < 7 → names (foundBehind before line) s ≡ true ↔ PassesTo before line s
+  sheet-names-exact s h = subst (λ b. b ≡ true ↔ PassesTo before line s) (sym (named (foundBehind before line) s h)) (shown-exact before line g s)
 
   -- The set that it is judged on holds exactly the states in which some history reaches it.
   pub sheet-reached-exact : (s : ℕ) → bit (setIn (run startTable (eventsOf before)) (pairOn line)) s ≡ true ↔ ReachesIn before line s

@@ -4,14 +4,15 @@ use mathlib.Core.Path.{_≡_}
 use mathlib.Core.Bool.{Bool, true, _&&_}
 use mathlib.Core.List.{List, [], _∷_, _++_}
 use lib.Dec.{eqb, leb}
-use lib.ListN.{length}
-use Rattle.kinds.specs.Tests.{all}
+use lib.ListN.{length, getD}
+use Rattle.kinds.specs.Tests.{any, all, same}
+use Rattle.kinds.specs.Codes.{I}
 use Rattle.kinds.specs.Places.{setIn}
 use Rattle.verdicts.specs.Verdicts.{finding}
 use Rattle.verdicts.specs.declared.Finding.{Finding}
 use Rattle.trace.specs.Events.{TraceEvent, moved, run}
 use Rattle.entries.specs.Entries.{entryOf}
-use Rattle.replies.specs.Replies.{answerLine}
+use Rattle.replies.specs.Replies.{stateNames, namesIn, answerLine}
 use Rattle.sheet.specs.Sheet.{longest, mostLines, startTable}
 
 -- a line as an event of a trace: its pair, and the event's bytes
@@ -45,3 +46,7 @@ answerLines n table (x ∷ xs) = answerLine n (foundOn table x) ++ answerLines (
 -- what a line of a sheet is found to be, with these lines between the header and it
 abbrev pub foundBehind : List (List ℕ) → List ℕ → Finding
 foundBehind before line = foundOn (run startTable (eventsOf before)) (eventOn line)
+
+-- the answer names state s: its name is one of those that are written, with spaces between them, behind the last comma
+abbrev pub names : Finding → ℕ → Bool
+names found s = any (same (getD stateNames s [])) (namesIn (found .after) I stateNames)

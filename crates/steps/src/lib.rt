@@ -18,7 +18,8 @@ ghost use Rattle.kinds.specs.Codes.{stateNotSeen};
 ghost use Rattle.sets.specs.Sets.{setOf};
 ghost use Rattle.rows.specs.Event.{seen};
 ghost use Rattle.steps.specs.Steps.{setsAfter, duty};
-ghost use Rattle.steps.specs.Code.{columnAt, tableAt, forwardAt, answerAt, rowAt, eventBytes, rowFits, rowAdds, tablesOf, messageOf, rowKey, eventKey};
+ghost use Rattle.steps.specs.Code.{columnAt, tableAt, forwardAt, answerAt, rowAt, eventBytes, rowFits, rowAdds};
+ghost use Rattle.steps.specs.Code.{tablesOf, messageOf, rowKey, eventKey};
 
 mod printed;
 
