@@ -1,11 +1,12 @@
 -- Laws of what the walk's own parts compute, each over plain variables.
 -- Assumes nothing.
 use mathlib.Core.Path.{_≡_, refl, sym, _∙_, ap, ap₂, subst⁻¹}
-use mathlib.Core.Bool.{Bool, true, false, not, _&&_, false≢true}
+use mathlib.Core.Bool.{Bool, true, false, cond, not, _&&_, false≢true}
 use mathlib.Core.List.{List, [], _∷_}
 use Prim.Native.Nat.{ℕ, _<_, _≤_}
 use native.Mathlib.Omega.{arith}
 use borrow.Author.Tests.{ne-eqb, ltb-true, ltb-false}
+use lib.Bits.{bitAnd}
 use lib.Dec.{ltb}
 use lib.ListN.{getD}
 use Rattle.kinds.specs.Codes.{stateNotSeen}
@@ -15,7 +16,7 @@ use Rattle.rows.specs.Permitted.{asked, answered, someTag}
 use Rattle.rows.specs.declared.Table.the-variants.{NdErr}
 use Rattle.sets.specs.Sets.{setOf}
 use Rattle.rows.specs.Event.{byte, seen}
-use Rattle.steps.specs.Code.{tableAt, forwardAt, answerAt, eventBytes, rowFits}
+use Rattle.steps.specs.Code.{tableAt, forwardAt, answerAt, eventBytes, rowFits, rowAdds}
 use Rattle.steps.specs.declared.Row as code
 use Rattle.kinds.specs.declared.Forward.{Forward}
 
@@ -69,3 +70,11 @@ pub fits-rest : (e : List ℕ) (r : code.Row) (b x y : Bool) → b ≡ answered 
 unfolding rowFits
 fits-rest e r true x y h k p q = ap₂ _&&_ p q ∙ ap (λ (z : Bool). z && asked e (r .table) (r .ret) (r .marked) && someTag e (r .table) (r .before .0) (r .answer)) h
 fits-rest e r false x y h k p q = absurd (false≢true (sym k))
+
+-- one choice inside another
+pub two-choices : (s t : Bool) (a b d x r : ℕ) → x ≡ cond t b d → r ≡ cond s a x → r ≡ cond s a (cond t b d)
+two-choices s t a b d x r h k = k ∙ ap (cond s a) h
+
+-- what the row adds, by whether it fits
+pub adds : (e : List ℕ) (among : ℕ) (r : code.Row) (b : Bool) (v : ℕ) → b ≡ rowFits e r → v ≡ cond b (bitAnd (r .after) among) 0 → v ≡ rowAdds e among r
+adds e among r b v h k = k ∙ ap (λ (x : Bool). cond x (bitAnd (r .after) among) 0) h

@@ -1,5 +1,8 @@
 -- `steps::message_of` meets its contract: by the channel, then by the opcode.
 -- Assumes nothing.
+use lib.Dec.{eqb}
+use Rattle.kinds.specs.Codes.{RSP, op-SnpRespDataPtl}
+use Rattle.steps.proofs.Laws.{two-choices}
 use borrow.Author.Needs.{needs}
 use Rattle.steps.proofs.message_of.Statement.{statement}
 use Rattle.steps.proofs.message_of.Tie as tie
@@ -11,7 +14,7 @@ choose-requires-2 : tie.Need-choose-requires-2
 choose-requires-2 c κs = search needs
 
 returns : tie.Need-returns
-returns c = cc
+returns c = two-choices (eqb (c .before .before .before .before .args .channel) RSP) (eqb (c .before .before .before .before .args .opcode) op-SnpRespDataPtl) 0 2 1 (c .before .before .choose .result) (c .choose2 .result) (c .before .before .choose .ensures) (c .choose2 .ensures)
 
 pub message-of-spec : {M : Type 1} → statement M
 message-of-spec = tie.close (tie.spec choose-requires choose-requires-2 returns)

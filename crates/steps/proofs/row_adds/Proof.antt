@@ -1,5 +1,7 @@
 -- `steps::row_adds` meets its contract: the states after that were seen, where the row fits.
 -- Assumes nothing.
+use denote.Ref.{now}
+use Rattle.steps.proofs.Laws.{adds}
 use borrow.Author.Needs.{needs}
 use Rattle.steps.proofs.row_adds.Statement.{statement}
 use Rattle.steps.proofs.row_adds.Tie as tie
@@ -11,7 +13,7 @@ choose-requires : tie.Need-choose-requires
 choose-requires c κs = search needs
 
 returns : tie.Need-returns
-returns c = cc
+returns c = adds (now (c .before .before .before .args .e)) (c .before .before .before .args .among) (c .before .before .before .args .row) (c .before .before .row-fits .result) (c .choose .result) (c .before .before .row-fits .ensures) (c .choose .ensures)
 
 pub row-adds-spec : {M : Type 1} → statement M
 row-adds-spec = tie.close (tie.spec row-fits-requires choose-requires returns)

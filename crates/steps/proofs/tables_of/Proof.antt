@@ -1,5 +1,8 @@
 -- `steps::tables_of` meets its contract: by the error, then by the request.
 -- Assumes nothing.
+use lib.Dec.{eqb}
+use Rattle.kinds.specs.Codes.{NDERR, SnpPreferUniqueFwd}
+use Rattle.steps.proofs.Laws.{two-choices}
 use borrow.Author.Needs.{needs}
 use Rattle.steps.proofs.tables_of.Statement.{statement}
 use Rattle.steps.proofs.tables_of.Tie as tie
@@ -11,7 +14,7 @@ choose-requires-2 : tie.Need-choose-requires-2
 choose-requires-2 c κs = search needs
 
 returns : tie.Need-returns
-returns c = cc
+returns c = two-choices (eqb (c .before .before .before .before .args .error) NDERR) (eqb (c .before .before .before .before .args .request) SnpPreferUniqueFwd) 2 1 0 (c .before .before .choose .result) (c .choose2 .result) (c .before .before .choose .ensures) (c .choose2 .ensures)
 
 pub tables-of-spec : {M : Type 1} → statement M
 tables-of-spec = tie.close (tie.spec choose-requires choose-requires-2 returns)
