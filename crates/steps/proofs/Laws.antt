@@ -59,16 +59,29 @@ answer-rsp m r f g h k = ap (SnpResp (record { 0 = r })) k ∙ sym (ap (λ (n : 
 pub answer-dat : (m r f : ℕ) (g : Forward) → m ≡ 1 → g ≡ forwardAt f → SnpRespData (record { 0 = r }) g ≡ answerAt m r f
 answer-dat m r f g h k = ap (SnpRespData (record { 0 = r })) k ∙ sym (ap (λ (n : ℕ). answerAt n r f) h)
 
--- the answer first, then the rest
-pub fits-none : (e : List ℕ) (r : code.Row) (b : Bool) → b ≡ answered e (r .table) (r .answer) → not b ≡ true → false ≡ rowFits e r
+-- the snoop first, then the rest
+pub fits-none : (e : List ℕ) (r : code.Row) (b : Bool) → b ≡ asked e (r .table) (r .ret) (r .marked) → not b ≡ true → false ≡ rowFits e r
 unfolding rowFits
 fits-none e r true h k = absurd (false≢true k)
-fits-none e r false h k = ap (λ (x : Bool). x && asked e (r .table) (r .ret) (r .marked) && someTag e (r .table) (r .before .0) (r .answer)) h
+fits-none e r false h k =
+    and-false (answered e (r .table) (r .answer)) (someTag e (r .table) (r .before .0) (r .answer))
+    ∙ ap (λ (x : Bool). answered e (r .table) (r .answer) && x && someTag e (r .table) (r .before .0) (r .answer)) h
+  where
+    and-false : (a t : Bool) → false ≡ a && false && t
+    and-false true t = refl
+    and-false false t = refl
 
-pub fits-rest : (e : List ℕ) (r : code.Row) (b x y : Bool) → b ≡ answered e (r .table) (r .answer) → not b ≡ false
-    → x ≡ asked e (r .table) (r .ret) (r .marked) → y ≡ someTag e (r .table) (r .before .0) (r .answer) → x && y ≡ rowFits e r
+pub fits-rest : (e : List ℕ) (r : code.Row) (b x y : Bool) → b ≡ asked e (r .table) (r .ret) (r .marked) → not b ≡ false
+    → x ≡ answered e (r .table) (r .answer) → y ≡ someTag e (r .table) (r .before .0) (r .answer) → x && y ≡ rowFits e r
 unfolding rowFits
-fits-rest e r true x y h k p q = ap₂ _&&_ p q ∙ ap (λ (z : Bool). z && asked e (r .table) (r .ret) (r .marked) && someTag e (r .table) (r .before .0) (r .answer)) h
+fits-rest e r true x y h k p q =
+    and-true x y
+    ∙ ap₂ (λ (a t : Bool). a && true && t) p q
+    ∙ ap (λ (z : Bool). answered e (r .table) (r .answer) && z && someTag e (r .table) (r .before .0) (r .answer)) h
+  where
+    and-true : (a t : Bool) → a && t ≡ a && true && t
+    and-true true t = refl
+    and-true false t = refl
 fits-rest e r false x y h k p q = absurd (false≢true (sym k))
 
 -- one choice inside another

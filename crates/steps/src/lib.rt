@@ -102,12 +102,12 @@ fn row_fits(e: &[u8; EVENT_BYTES], row: Row) -> bool
     ensures { λ r. ⌜ r ≡ rowFits (now (e .entry)) row ⌝ }
 {
     let table = row.table;
-    let answer = row.answer;
-    if !rows::answered(e, table, answer) {
+    if !rows::asked(e, table, row.ret, row.marked) {
         return false;
     }
     let before = row.before;
-    rows::asked(e, table, row.ret, row.marked) & rows::some_tag(e, table, before, answer)
+    let answer = row.answer;
+    rows::answered(e, table, answer) & rows::some_tag(e, table, before, answer)
 }
 
 // What the row adds to the set of its state before.

@@ -1,4 +1,4 @@
--- `steps::row_fits` meets its contract: the answer first, then the rest.
+-- `steps::row_fits` meets its contract: the snoop first, then the rest.
 -- Assumes nothing.
 use denote.Ref.{now}
 use Rattle.steps.proofs.Laws.{fits-none, fits-rest}
@@ -6,21 +6,21 @@ use borrow.Author.Needs.{needs}
 use Rattle.steps.proofs.row_fits.Statement.{statement}
 use Rattle.steps.proofs.row_fits.Tie as tie
 
-answered-requires : tie.Need-answered-requires
-answered-requires c κs = search needs
-
-returns : tie.Need-returns
-returns c = fits-none (now (c .before .before .args .e)) (c .before .before .args .row) (c .before .answered .result) (c .before .answered .ensures) (c .if1 .taken)
-
 asked-requires : tie.Need-asked-requires
 asked-requires c κs = search needs
+
+returns : tie.Need-returns
+returns c = fits-none (now (c .before .before .args .e)) (c .before .before .args .row) (c .before .asked .result) (c .before .asked .ensures) (c .if1 .taken)
+
+answered-requires : tie.Need-answered-requires
+answered-requires c κs = search needs
 
 some-tag-requires : tie.Need-some-tag-requires
 some-tag-requires c κs = search needs
 
 returns-2 : tie.Need-returns-2
-returns-2 c = fits-rest (now (c .before .before .before .before .before .args .e)) (c .before .before .before .before .before .args .row) (c .before .before .before .before .answered .result) (c .before .asked .result) (c .some-tag .result) (c .before .before .before .before .answered .ensures) (c .before .before .before .if1 .left) (c .before .asked .ensures) (c .some-tag .ensures)
+returns-2 c = fits-rest (now (c .before .before .before .before .before .args .e)) (c .before .before .before .before .before .args .row) (c .before .before .before .before .asked .result) (c .before .answered .result) (c .some-tag .result) (c .before .before .before .before .asked .ensures) (c .before .before .before .if1 .left) (c .before .answered .ensures) (c .some-tag .ensures)
 
 pub row-fits-spec : {M : Type 1} → statement M
 row-fits-spec =
-    tie.close (tie.spec answered-requires returns asked-requires some-tag-requires returns-2)
+    tie.close (tie.spec asked-requires returns answered-requires some-tag-requires returns-2)
