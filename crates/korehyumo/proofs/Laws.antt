@@ -1,0 +1,106 @@
+-- Laws of the number that a call gives back: the places and numbers that it holds, and how each is read out of it.
+-- Assumes nothing.
+use mathlib.Core.Path.{_≡_, sym, _∙_, ap, ap₂, subst}
+use mathlib.Core.Bool.{Bool, true, false, cond}
+use mathlib.Core.List.{List}
+use Prim.Native.Nat.{ℕ, _<_, _≤_, _/_, _%_}
+use native.Mathlib.Omega.{arith}
+use lib.Arith.{digits-div, digits-mod}
+use lib.Dec.{eqb}
+use lib.ListN.{length}
+use Rattle.kinds.specs.Tests.{_∈?_}
+use Rattle.kinds.specs.Places.{eventLength}
+use Rattle.rows.specs.Event.{requestOf}
+use Rattle.event.specs.Refusals.{Issue, below, fault, refusalAlone}
+use Rattle.event.specs.Alone.{acceptedAlone, refusedAlone, judgedAlone}
+use Rattle.event.specs.declared.Judgment.{Judgment}
+use Rattle.trace.specs.declared.Outcome.{Outcome}
+use Rattle.trace.specs.Lent.{Lent, Left, left}
+use Rattle.trace.specs.Refusals.{outcome, most}
+use Rattle.trace.specs.Given.{Given, accepted, bad-lengths, bad-set, bad-pair, bad-byte, bad-request}
+use Rattle.trace.specs.Judged.{judged}
+use Rattle.trace.proofs.Given.{given}
+use Rattle.trace.proofs.Whole.{judged-outcome}
+use Rattle.korehyumo.specs.Calls.{inOne, eventCall, eventTold, traceCall, traceTold}
+
+-- the number and the place are read back out of the two in one
+pub number-in : (number place : ℕ) → number < 256 → inOne number place % 256 ≡ number
+unfolding inOne
+number-in number place h = digits-mod place h
+
+pub place-in : (number place : ℕ) → number < 256 → inOne number place / 256 ≡ place
+unfolding inOne
+place-in number place h = digits-div place h
+
+-- so two that are the same in one are the same
+pub same-outcome : (o : Outcome) (number place : ℕ) → o .refusal .0 < 256 → number < 256 → inOne (o .refusal .0) (o .place) ≡ inOne number place
+    → o ≡ outcome number place
+same-outcome o number place small small′ h =
+    ap₂ outcome
+    (sym (number-in (o .refusal .0) (o .place) small) ∙ ap (λ (n : ℕ). n % 256) h ∙ number-in number place small′)
+    (sym (place-in (o .refusal .0) (o .place) small) ∙ ap (λ (n : ℕ). n / 256) h ∙ place-in number place small′)
+
+-- one event alone: its place and its number are small
+pub place-alone : (issue : Issue) (e : List ℕ) → judgedAlone issue e .place ≤ most
+unfolding judgedAlone
+place-alone issue e = go (eqb (refusalAlone issue e) 0)
+  where
+    go : (b : Bool) → cond b (acceptedAlone e) (refusedAlone (refusalAlone issue e)) .place ≤ most
+    go true = omega arith
+    go false = omega arith
+
+fault-below : (issue : Issue) (e : List ℕ) → fault issue e < 256
+unfolding fault
+fault-below issue e = go (below e 1 (issue .limits)) (requestOf e ∈? issue .requests)
+  where
+    go : (fine known : Bool) → cond fine (cond known 0 5) 4 < 256
+    go true true = omega arith
+    go true false = omega arith
+    go false known = omega arith
+
+alone-below : (issue : Issue) (e : List ℕ) → refusalAlone issue e < 256
+unfolding refusalAlone
+alone-below issue e = go (eqb (length e) eventLength) (fault-below issue e)
+  where
+    go : (whole : Bool) → fault issue e < 256 → cond whole (fault issue e) 1 < 256
+    go true h = h
+    go false h = omega arith
+
+pub number-alone : (issue : Issue) (e : List ℕ) → judgedAlone issue e .refusal .0 < 256
+unfolding judgedAlone
+number-alone issue e = go (eqb (refusalAlone issue e) 0) (alone-below issue e)
+  where
+    go : (b : Bool) → refusalAlone issue e < 256 → cond b (acceptedAlone e) (refusedAlone (refusalAlone issue e)) .refusal .0 < 256
+    go true h = omega arith
+    go false h = h
+
+-- a whole trace: of every row of the refusal table the place and the number are small
+place-of-row : {issue : Issue} {l : Lent} {number place : ℕ} → Given issue l number place → place ≤ most
+place-of-row (accepted g) = g .fits .few-events
+place-of-row (bad-lengths n) = omega arith
+place-of-row (bad-set f a b n) = omega (arith, f .few-pairs, b)
+place-of-row (bad-pair g b n) = omega (arith, g .fits .few-events, b)
+place-of-row (bad-byte g b p n) = omega (arith, g .fits .few-events, b)
+place-of-row (bad-request g b p c n) = omega (arith, g .fits .few-events, b)
+
+number-of-row : {issue : Issue} {l : Lent} {number place : ℕ} → Given issue l number place → number < 256
+number-of-row (accepted g) = omega arith
+number-of-row (bad-lengths n) = omega arith
+number-of-row (bad-set f a b n) = omega arith
+number-of-row (bad-pair g b n) = omega arith
+number-of-row (bad-byte g b p n) = omega arith
+number-of-row (bad-request g b p c n) = omega arith
+
+pub place-of-trace : (issue : Issue) (l : Lent) → judged issue l .outcome .place ≤ most
+place-of-trace issue l = subst (λ (o : Outcome). o .place ≤ most) (sym (judged-outcome issue l)) (place-of-row (given issue l))
+
+pub number-of-trace : (issue : Issue) (l : Lent) → judged issue l .outcome .refusal .0 < 256
+number-of-trace issue l = subst (λ (o : Outcome). o .refusal .0 < 256) (sym (judged-outcome issue l)) (number-of-row (given issue l))
+
+-- what each call leaves is what it has of the judge, told
+pub event-told : (j j′ : Judgment) (r : ℕ) → r ≡ inOne (j .refusal .0) (j .place) → j ≡ j′ → eventCall r (j .sets) (j .duties) ≡ eventTold j′
+event-told j j′ r h k = ap (λ (n : ℕ). eventCall n (j .sets) (j .duties)) h ∙ ap eventTold k
+
+pub trace-told : (o : Outcome) (table verdicts duties afters : List ℕ) (l : Left) (r : ℕ) → r ≡ inOne (o .refusal .0) (o .place)
+    → left o table verdicts duties afters ≡ l → traceCall r table verdicts duties afters ≡ traceTold l
+trace-told o table verdicts duties afters l r h k = ap (λ (n : ℕ). traceCall n table verdicts duties afters) h ∙ ap traceTold k
