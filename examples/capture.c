@@ -1,0 +1,116 @@
+/* Reads a binary capture, judges it, and prints the events that nothing explains and who holds each duty: capture [FILE]
+ *
+ * A capture is records of 16 bytes, one an event: its pair's number in two bytes, low byte first, then the event's 14 bytes. Each of the 4,096 pairs
+ * starts from any state. The capture is judged 4,096 events at a time, each part from the sets that the one before it left. */
+
+#include <errno.h>
+#include <stdio.h>
+#include <string.h>
+#include "korehyumo.h"
+
+/* How many bytes a record has. */
+#define RECORD_BYTES (2 + KOREHYUMO_EVENT_BYTES)
+
+/* A part of a capture as it is lent to the judge, and what comes back of each event. */
+struct part {
+    size_t count;
+    uint8_t events[KOREHYUMO_MOST * KOREHYUMO_EVENT_BYTES];
+    uint16_t pairs[KOREHYUMO_MOST];
+    uint8_t verdicts[KOREHYUMO_MOST];
+    uint8_t duties[KOREHYUMO_MOST];
+    uint8_t afters[KOREHYUMO_MOST];
+};
+
+/* What is known of a capture so far: each pair's set, and how many events there were of each verdict. */
+struct known {
+    uint8_t table[KOREHYUMO_MOST];
+    unsigned long long verdicts[3];
+};
+
+/* How many events there were. */
+static unsigned long long events_known(const struct known *known)
+{
+    return known->verdicts[KOREHYUMO_EXPLAINED] + known->verdicts[KOREHYUMO_UNEXPLAINED] + known->verdicts[KOREHYUMO_NOT_JUDGED];
+}
+
+/* Reads the next part of a capture: 1 where it has come, or 0 with the fault told. */
+static int read_part(FILE *capture, const struct known *known, struct part *part)
+{
+    static uint8_t records[KOREHYUMO_MOST * RECORD_BYTES];
+    size_t bytes = fread(records, 1, sizeof records, capture);
+    if (ferror(capture)) {
+        fprintf(stderr, "capture: it can't be read: %s\n", strerror(errno));
+        return 0;
+    }
+    part->count = bytes / RECORD_BYTES;
+    if (bytes % RECORD_BYTES != 0) {
+        fprintf(stderr, "capture: it ends within event %llu\n", events_known(known) + part->count);
+        return 0;
+    }
+    for (size_t k = 0; k < part->count; k++) {
+        const uint8_t *record = records + k * RECORD_BYTES;
+        part->pairs[k] = (uint16_t)(record[0] | record[1] << 8);
+        memcpy(part->events + k * KOREHYUMO_EVENT_BYTES, record + 2, KOREHYUMO_EVENT_BYTES);
+    }
+    return 1;
+}
+
+/* Judges a part from the sets that are known, which go on: 1, or 0 with the refusal told. */
+static int judge_part(struct known *known, struct part *part)
+{
+    size_t n = part->count;
+    uint64_t result = korehyumo_trace(part->events, n * KOREHYUMO_EVENT_BYTES, part->pairs, n, known->table, sizeof known->table,
+                                      part->verdicts, n, part->duties, n, part->afters, n);
+    if (korehyumo_number(result) == KOREHYUMO_ACCEPTED)
+        return 1;
+    fprintf(stderr, "capture: refused with %u at event %llu\n", korehyumo_number(result), events_known(known) + korehyumo_place(result));
+    return 0;
+}
+
+/* Prints what the bench wants to know of a judged part, and counts its verdicts. */
+static void tell_part(struct known *known, const struct part *part)
+{
+    static const char *const duties[] = {0, "Home holds the duty", "the Requester holds the duty", "the duty is lost"};
+    unsigned long long first = events_known(known);
+    for (size_t k = 0; k < part->count; k++) {
+        const char *told = part->verdicts[k] == KOREHYUMO_UNEXPLAINED ? "unexplained" : duties[part->duties[k]];
+        if (told)
+            printf("event %llu, pair %u: %s\n", first + k, (unsigned)part->pairs[k], told);
+        known->verdicts[part->verdicts[k]]++;
+    }
+}
+
+/* Judges a capture to its end: 0, or 1 where it could not be. */
+static int judge_capture(FILE *capture)
+{
+    static struct known known;
+    static struct part part;
+    memset(known.table, KOREHYUMO_ALL_STATES, sizeof known.table);
+    do {
+        if (!read_part(capture, &known, &part) || !judge_part(&known, &part))
+            return 1;
+        tell_part(&known, &part);
+    } while (part.count == KOREHYUMO_MOST);
+    printf("%llu events: %llu explained, %llu unexplained, %llu not judged\n", events_known(&known), known.verdicts[KOREHYUMO_EXPLAINED],
+           known.verdicts[KOREHYUMO_UNEXPLAINED], known.verdicts[KOREHYUMO_NOT_JUDGED]);
+    return 0;
+}
+
+int main(int count, char **words)
+{
+    if (count > 2) {
+        fprintf(stderr, "usage: capture [FILE]\n");
+        return 2;
+    }
+    FILE *capture = count == 2 ? fopen(words[1], "rb") : stdin;
+    if (!capture) {
+        fprintf(stderr, "capture: %s: %s\n", words[1], strerror(errno));
+        return 1;
+    }
+    int status = judge_capture(capture);
+    if (fflush(stdout) != 0 || ferror(stdout)) {
+        fprintf(stderr, "capture: the output can't be written: %s\n", strerror(errno));
+        return 1;
+    }
+    return status;
+}
