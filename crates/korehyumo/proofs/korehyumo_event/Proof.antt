@@ -10,20 +10,13 @@ use Rattle.korehyumo.proofs.Laws.{place-alone, event-told}
 use borrow.Author.Needs.{needs}
 use Rattle.korehyumo.proofs.korehyumo_event.Statement.{statement}
 use Rattle.korehyumo.proofs.korehyumo_event.Tie as tie
-use Rattle.korehyumo.proofs.korehyumo_event.Reads as reads
-use Rattle.korehyumo.proofs.korehyumo_event.Lts as lts
-use Rattle.event.proofs.judge_event.Reads as judge-event-reads
-use Rattle.korehyumo.proofs.in_one.Reads as in-one-reads
 
--- src/lib.rt:26:9
 judge-event-requires : tie.Need-judge-event-requires
 judge-event-requires c κs = search needs
 
--- src/lib.rt:31:5
 in-one-requires : tie.Need-in-one-requires
 in-one-requires c κs = subst (λ (j : Judgment). j .place ≤ most) (sym (c .before .before .judge-event .ensures)) (place-alone issueE (now (c .before .before .before .before .args .event)))
 
--- src/lib.rt:22:1
 returns : tie.Need-returns
 returns c = event-told (c .before .before .before .judge-event .result) _ (c .in-one .result) (c .in-one .ensures) (c .before .before .before .judge-event .ensures)
 

@@ -9,36 +9,25 @@ use Rattle.korehyumo.proofs.Laws.{place-of-trace, trace-told}
 use borrow.Author.Needs.{needs}
 use Rattle.korehyumo.proofs.korehyumo_trace.Statement.{statement}
 use Rattle.korehyumo.proofs.korehyumo_trace.Tie as tie
-use Rattle.korehyumo.proofs.korehyumo_trace.Reads as reads
-use Rattle.korehyumo.proofs.korehyumo_trace.Lts as lts
-use Rattle.korehyumo.proofs.in_one.Reads as in-one-reads
-use Rattle.trace.proofs.judge_trace.Reads as judge-trace-reads
 
--- src/lib.rt:49:9
 judge-trace-requires : tie.Need-judge-trace-requires
 judge-trace-requires c κs = search needs
 
--- src/lib.rt:50:5
 in-one-requires : tie.Need-in-one-requires
 in-one-requires c κs = subst (λ (l : Left). l .outcome .place ≤ most) (sym (c .before .before .before .before .before .before .before .before .judge-trace .ensures)) (place-of-trace issueE _)
 
--- src/lib.rt:35:1
 same-length : tie.Need-same-length
 same-length c = search needs
 
--- src/lib.rt:35:1
 same-length-2 : tie.Need-same-length-2
 same-length-2 c = search needs
 
--- src/lib.rt:35:1
 same-length-3 : tie.Need-same-length-3
 same-length-3 c = search needs
 
--- src/lib.rt:35:1
 same-length-4 : tie.Need-same-length-4
 same-length-4 c = search needs
 
--- src/lib.rt:35:1
 returns : tie.Need-returns
 returns c = trace-told (c .before .before .before .before .before .before .before .before .before .judge-trace .result) _ _ _ _ _ (c .in-one .result) (c .in-one .ensures) (c .before .before .before .before .before .before .before .before .before .judge-trace .ensures)
 
