@@ -1,5 +1,6 @@
-//! Answers records and bench sheets the way the judge's programs are to answer them.
+//! Answers records, bench sheets and captures the way the judge's programs are to answer them.
 
+use crate::capture::{self, Stop};
 use crate::cases::{self, RECORD_BYTES};
 use crate::event;
 use crate::lent::Lent;
@@ -39,19 +40,18 @@ pub fn trace(input: impl Read, output: impl Write) -> io::Result<()> {
 
 /// Answers the bench sheet that the input is.
 pub fn sheet(mut input: impl Read, mut output: impl Write) -> io::Result<()> {
-    let mut sheet = Vec::new();
-    // Of a piece that is longer than the room for it the rest would be lost, so the room never shrinks.
-    let mut room = vec![0; pipe::BUFFER];
-    loop {
-        match input.read(&mut room) {
-            Ok(0) => break,
-            Ok(came) => sheet.extend(&room[..came]),
-            Err(error) if error.kind() == io::ErrorKind::Interrupted => {}
-            Err(error) => return Err(error),
-        }
-    }
+    let sheet = pipe::all(&mut input)?;
     output.write_all(&sheet::answer(&sheet).output)?;
     output.flush()
+}
+
+/// Answers the capture that the input is, and tells what kept it from being judged to its end, if anything did.
+pub fn capture(mut input: impl Read, mut output: impl Write) -> io::Result<Option<Stop>> {
+    let capture = pipe::all(&mut input)?;
+    let own = capture::answer(&capture);
+    output.write_all(&own.output)?;
+    output.flush()?;
+    Ok(own.stop)
 }
 
 #[cfg(test)]

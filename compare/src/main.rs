@@ -3,6 +3,7 @@
 #![forbid(unsafe_code)]
 
 mod answer;
+mod capture;
 mod cases;
 mod codes;
 mod compare_event;
@@ -12,6 +13,7 @@ mod draw;
 mod event;
 mod histories;
 mod lent;
+mod make;
 mod names;
 mod pipe;
 mod rows;

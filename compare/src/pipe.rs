@@ -103,6 +103,21 @@ pub fn fill(from: &mut dyn Read, bytes: &mut [u8]) -> io::Result<usize> {
     Ok(filled)
 }
 
+/// All that comes until there is no more.
+pub fn all(from: &mut dyn Read) -> io::Result<Vec<u8>> {
+    let mut bytes = Vec::new();
+    // Of a piece that is longer than the room for it the rest would be lost, so the room never shrinks.
+    let mut room = vec![0; BUFFER];
+    loop {
+        match from.read(&mut room) {
+            Ok(0) => return Ok(bytes),
+            Ok(came) => bytes.extend(&room[..came]),
+            Err(error) if error.kind() == io::ErrorKind::Interrupted => {}
+            Err(error) => return Err(error),
+        }
+    }
+}
+
 /// What went wrong if anything comes after as many answers as were wanted, in plain words.
 pub fn past_the_answers(output: &mut dyn Read, wanted: u64) -> Option<String> {
     let mut extra = vec![0; EXTRA];
@@ -146,5 +161,11 @@ mod tests {
         assert_eq!(bytes, [1, 2, 3]);
         assert_eq!(fill(&mut drops, &mut bytes).unwrap(), 2);
         assert_eq!(fill(&mut drops, &mut bytes).unwrap(), 0);
+    }
+    /// Bytes that come in drops are all there at the end.
+    #[test]
+    fn all_to_the_end() {
+        assert_eq!(all(&mut Drops(&[1, 2, 3, 4, 5])).unwrap(), [1, 2, 3, 4, 5]);
+        assert!(all(&mut Drops(&[])).unwrap().is_empty());
     }
 }

@@ -68,23 +68,15 @@ pub fn answer(sheet: &[u8]) -> Answer {
         duties: [0; 4],
     };
     answer.write(OUTPUT_HEADER);
-    if lines.is_empty() || lines[0] != HEADER.as_bytes() {
-        answer.refuse(NO_HEADER, 1);
-        return answer;
-    }
+    let (events, refusal) = events(&lines);
     let mut table = vec![ALL_STATES; MOST_PAIRS];
-    for (n, line) in lines.iter().enumerate().skip(1) {
-        match read_line(n + 1, line) {
-            Ok((pair, event)) => {
-                let judged = trace::judge_event(&event, table[pair]);
-                table[pair] = judged.after;
-                answer.tell(n - 1, &judged);
-            }
-            Err(refusal) => {
-                answer.refuse(refusal, n + 1);
-                return answer;
-            }
-        }
+    for (n, (pair, event)) in events.iter().enumerate() {
+        let judged = trace::judge_event(event, table[*pair]);
+        table[*pair] = judged.after;
+        answer.tell(n, &judged);
+    }
+    if let Some(refusal) = refusal {
+        answer.refuse(refusal);
     }
     answer
 }
@@ -116,9 +108,9 @@ impl Answer {
     }
 
     /// Tells the refusal that ends the run.
-    fn refuse(&mut self, number: u8, line: usize) {
-        self.refusal = Some(Refusal { number, line });
-        self.write(&format!("refused,{},{}", number, line));
+    fn refuse(&mut self, refusal: Refusal) {
+        self.refusal = Some(refusal);
+        self.write(&format!("refused,{},{}", refusal.number, refusal.line));
     }
 }
 
@@ -150,6 +142,25 @@ pub fn lines(sheet: &[u8]) -> Vec<&[u8]> {
         }
     }
     lines
+}
+
+/// The pairs and events of a sheet's lines up to the first that is refused, and its refusal if there is one.
+pub fn events(lines: &[&[u8]]) -> (Vec<(usize, Event)>, Option<Refusal>) {
+    let mut events = Vec::new();
+    if lines.is_empty() || lines[0] != HEADER.as_bytes() {
+        let number = NO_HEADER;
+        return (events, Some(Refusal { number, line: 1 }));
+    }
+    for (n, line) in lines.iter().enumerate().skip(1) {
+        match read_line(n + 1, line) {
+            Ok(event) => events.push(event),
+            Err(number) => {
+                let line = n + 1;
+                return (events, Some(Refusal { number, line }));
+            }
+        }
+    }
+    (events, None)
 }
 
 /// The pair and the event of the line of this number, or the number of its refusal.

@@ -7,14 +7,14 @@ use std::fs::{self, OpenOptions};
 use std::io::{self, Read, Seek, Write};
 use std::os::unix::io::OwnedFd;
 use std::os::unix::net::UnixDatagram;
-use std::process::{self, Child, Command, ExitStatus, Stdio};
+use std::process::{self, Child, ChildStdin, Command, ExitStatus, Stdio};
 use std::sync::mpsc::{self, Receiver};
 use std::sync::Arc;
 use std::thread;
 use std::time::{Duration, Instant};
 
-/// How long a program may take for any sheet.
-const PATIENCE: Duration = Duration::from_secs(60);
+/// How long a program may take for any sheet or capture.
+pub const PATIENCE: Duration = Duration::from_secs(60);
 
 /// How many bytes of a sheet give a program another second.
 const BYTES_A_SECOND: u64 = 50_000;
@@ -103,14 +103,31 @@ pub fn run(program: &[OsString], sheet: &Arc<Vec<u8>>, arrival: Arrival) -> Resu
             Some(ours)
         }
     };
+    let more = Duration::from_secs(sheet.len() as u64 / BYTES_A_SECOND);
+    let sheet = Arc::clone(sheet);
+    watched(command, PATIENCE + more, move |input| {
+        // A program that has told a refusal need not take the rest.
+        let _ = match (input, ours) {
+            (Some(mut input), _) => input.write_all(&sheet),
+            (None, Some(ours)) => send(&ours, &sheet, arrival),
+            (None, None) => Ok(()),
+        };
+    })
+}
+
+/// Starts a program whose output and complaints are piped, feeds it, and tells what it did within its time.
+pub fn watched(
+    mut command: Command,
+    patience: Duration,
+    feed: impl FnOnce(Option<ChildStdin>) + Send + 'static,
+) -> Result<Ran, String> {
     let mut child = command
         .spawn()
         .map_err(|error| format!("the program cannot be started: {}", error))?;
     // The program alone holds its end now, so that sending fails once it has ended.
     drop(command);
 
-    let deadline =
-        Instant::now() + PATIENCE + Duration::from_secs(sheet.len() as u64 / BYTES_A_SECOND);
+    let deadline = Instant::now() + patience;
     let output = child.stdout.take().ok_or("the program has no output")?;
     let output = all_of(output);
     let complaint = child
@@ -119,15 +136,7 @@ pub fn run(program: &[OsString], sheet: &Arc<Vec<u8>>, arrival: Arrival) -> Resu
         .ok_or("the program has no way to complain")?;
     let complaint = all_of(complaint);
     let input = child.stdin.take();
-    let sheet = Arc::clone(sheet);
-    thread::spawn(move || {
-        // A program that has told a refusal need not take the rest.
-        let _ = match (input, ours) {
-            (Some(mut input), _) => input.write_all(&sheet),
-            (None, Some(ours)) => send(&ours, &sheet, arrival),
-            (None, None) => Ok(()),
-        };
-    });
+    thread::spawn(move || feed(input));
 
     let ran = finish(&mut child, &output, &complaint, deadline);
     if ran.is_err() {
@@ -187,10 +196,10 @@ fn all_of(mut from: impl Read + Send + 'static) -> Receiver<io::Result<Vec<u8>>>
     receiver
 }
 
-/// A file that holds a sheet, and that is gone when nobody reads it any more.
-fn file_of(sheet: &[u8]) -> io::Result<Stdio> {
+/// A file that holds some bytes, and that is gone when nobody reads it any more.
+pub fn file_of(bytes: &[u8]) -> io::Result<Stdio> {
     let name = format!(
-        "compare-sheet-{}-{:?}",
+        "compare-input-{}-{:?}",
         process::id(),
         thread::current().id()
     );
@@ -201,7 +210,7 @@ fn file_of(sheet: &[u8]) -> io::Result<Stdio> {
         .create_new(true)
         .open(&path)?;
     fs::remove_file(&path)?;
-    file.write_all(sheet)?;
+    file.write_all(bytes)?;
     file.rewind()?;
     Ok(Stdio::from(file))
 }

@@ -30,7 +30,12 @@ pub struct Shape<'a> {
 
 /// A trace without damage, whose buffers hold anything.
 pub fn good_trace(draw: &mut Draw, shape: &Shape) -> Lent {
-    let table: Vec<u8> = (0..shape.table).map(|_| starting_set(draw)).collect();
+    let table = (0..shape.table).map(|_| starting_set(draw)).collect();
+    trace_from(draw, shape, table)
+}
+
+/// A trace without damage that starts from a table of sets, and whose other buffers hold anything.
+pub fn trace_from(draw: &mut Draw, shape: &Shape, table: Vec<u8>) -> Lent {
     let mut sets = table.clone();
     let mut events = Vec::with_capacity(shape.events * BYTES);
     let mut pairs = Vec::with_capacity(shape.events);
