@@ -113,7 +113,7 @@ impl Count {
 }
 
 /// Counts a list of numbers in.
-fn add_each(sums: &mut [u64], others: &[u64]) {
+pub fn add_each(sums: &mut [u64], others: &[u64]) {
     for (sum, other) in sums.iter_mut().zip(others) {
         *sum += other;
     }
@@ -357,7 +357,7 @@ fn line_from(output: &[u8], start: usize) -> &[u8] {
 }
 
 /// Bytes for a reader, or their beginning where there are many.
-fn shown(bytes: &[u8]) -> String {
+pub fn shown(bytes: &[u8]) -> String {
     match bytes.get(..SHOWN_BYTES) {
         Some(first) if bytes.len() > SHOWN_BYTES => format!(
             "\"{}\" and {} bytes more",

@@ -4,8 +4,14 @@
 
 mod answer;
 mod capture;
+mod capture_cases;
+mod capture_draws;
+mod capture_made;
+mod capture_run;
+mod capture_sweeps;
 mod cases;
 mod codes;
+mod compare_capture;
 mod compare_event;
 mod compare_sheet;
 mod compare_trace;
@@ -32,6 +38,7 @@ mod trace_sweeps;
 
 use std::env;
 use std::ffi::OsString;
+use std::fs::File;
 use std::io;
 use std::process::ExitCode;
 
@@ -40,9 +47,12 @@ const USAGE: &str = "usage:
   compare event [--seed N] [--random N] -- PROGRAM ARGS..
   compare trace [--seed N] [--random N] -- PROGRAM ARGS..
   compare sheet [--once] [--seed N] [--random N] -- PROGRAM ARGS..
+  compare capture [--seed N] [--random N] -- PROGRAM ARGS..
   compare answer event
   compare answer trace
-  compare answer sheet";
+  compare answer sheet
+  compare answer capture [FILE]
+  compare make capture";
 
 /// The seed where none is named.
 const SEED: u64 = 1;
@@ -55,6 +65,9 @@ const RANDOM_TRACES: u64 = 140_000;
 
 /// How many random bench sheets there are where no number is named.
 const RANDOM_SHEETS: u64 = 1_000;
+
+/// How many random captures there are where no number is named.
+const RANDOM_CAPTURES: u64 = 120;
 
 /// The most random cases that can be asked for.
 const MOST_RANDOM: u64 = 1_000_000_000;
@@ -95,6 +108,11 @@ fn subcommand(words: &[OsString]) -> Result<bool, String> {
             let cases = sheet_cases::Cases::new(asked.seed, asked.random as usize, once);
             Ok(told(compare_sheet::run(&cases, asked.program)))
         }
+        (Some("capture"), _) => {
+            let asked = comparison(&words[1..], RANDOM_CAPTURES)?;
+            let cases = capture_cases::Cases::new(asked.seed, asked.random as usize);
+            Ok(told(compare_capture::run(&cases, asked.program)))
+        }
         (Some("answer"), Some("event")) if words.len() == 2 => {
             let answered = answer::event(io::stdin().lock(), io::stdout().lock());
             Ok(told(
@@ -113,7 +131,36 @@ fn subcommand(words: &[OsString]) -> Result<bool, String> {
                 answered.map(|()| true).map_err(|error| error.to_string()),
             ))
         }
+        (Some("answer"), Some("capture")) if words.len() <= 3 => Ok(capture_answered(words.get(2))),
+        (Some("make"), Some("capture")) if words.len() == 2 => Ok(told(capture_made())),
         _ => Err("that is no call of this program".to_string()),
+    }
+}
+
+/// Answers the capture in a file, or on standard input where none is named, and tells whether it was judged to its end.
+fn capture_answered(file: Option<&OsString>) -> bool {
+    let output = io::stdout().lock();
+    let answered = match file {
+        Some(path) => File::open(path).and_then(|file| answer::capture(file, output)),
+        None => answer::capture(io::stdin().lock(), output),
+    };
+    match answered {
+        Ok(None) => return true,
+        Ok(Some(stop)) => eprintln!("{}", stop.message()),
+        Err(error) => eprintln!("capture: {}", error),
+    }
+    false
+}
+
+/// Writes the capture of the sheet on standard input, and tells of the line at which the sheet is refused, if there is one.
+fn capture_made() -> Result<bool, String> {
+    let made = make::capture(io::stdin().lock(), io::stdout().lock());
+    match made.map_err(|error| error.to_string())? {
+        None => Ok(true),
+        Some(refusal) => Err(format!(
+            "the sheet is refused with {} at line {}",
+            refusal.number, refusal.line
+        )),
     }
 }
 
@@ -208,6 +255,12 @@ mod tests {
             "answer event more",
             "answer trace more",
             "answer sheet more",
+            "answer capture file more",
+            "make",
+            "make capture more",
+            "make sheet",
+            "capture",
+            "capture --once -- judge",
             "answer else",
             "event",
             "trace",
