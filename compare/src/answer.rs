@@ -120,4 +120,28 @@ mod tests {
             assert_eq!(output, expected.as_bytes());
         }
     }
+    /// A capture is answered as a whole, and what stops its run is told.
+    #[test]
+    fn captures_are_answered() {
+        for (input, expected, stop) in [
+            (
+                &[][..],
+                "0 events: 0 explained, 0 unexplained, 0 not judged\n",
+                None,
+            ),
+            (&[0; 17], "", Some(Stop::Cut { event: 1 })),
+            (
+                &[0; 16],
+                "",
+                Some(Stop::Refused {
+                    number: 5,
+                    event: 0,
+                }),
+            ),
+        ] {
+            let mut output = Vec::new();
+            assert_eq!(capture(input, &mut output).unwrap(), stop);
+            assert_eq!(output, expected.as_bytes());
+        }
+    }
 }

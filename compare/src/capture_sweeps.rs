@@ -229,3 +229,125 @@ fn add_long(captures: &mut Captures, draw: &mut Draw) {
         captures.add(Kind::Long, &how, records(&lent));
     }
 }
+
+#[cfg(test)]
+mod tests {
+    use super::*;
+    use crate::capture::{answer, Stop};
+    use std::collections::BTreeSet;
+
+    /// The captures of this module, each with its kind.
+    fn captures() -> Captures {
+        let mut captures = Captures::default();
+        add_sweeps(&mut captures, 1);
+        captures
+    }
+
+    /// The page's example comes first and is answered as the page has it, and every length to 40 bytes follows.
+    #[test]
+    fn the_example_and_lengths() {
+        let captures = captures();
+        let output = "event 0, pair 0: Home holds the duty\n\
+                      event 2, pair 0: unexplained\n\
+                      4 events: 2 explained, 1 unexplained, 1 not judged\n";
+        assert_eq!(answer(&captures.all[0].capture).output, output.as_bytes());
+        let lengths: BTreeSet<usize> = captures
+            .all
+            .iter()
+            .map(|made| made.capture.len())
+            .filter(|length| *length <= 40)
+            .collect();
+        assert_eq!(lengths, (0..=40).collect());
+    }
+
+    /// Each refusal is given at each place, and the ends within a record are in each part, before and after its borders.
+    #[test]
+    fn stops() {
+        let mut refused = BTreeSet::new();
+        let mut cut = BTreeSet::new();
+        for made in captures().all {
+            let own = answer(&made.capture);
+            let event = match own.stop {
+                Some(Stop::Refused { number, event }) => {
+                    refused.insert((number, event));
+                    event
+                }
+                Some(Stop::Cut { event }) => {
+                    cut.insert(event);
+                    event
+                }
+                None => continue,
+            };
+            // What is told of the parts before shows whether it stands.
+            assert_eq!(own.output.is_empty(), event < PART, "{}", made.how);
+        }
+        for event in [
+            0, 1, 17, 4_094, 4_095, 4_096, 4_097, 8_191, 8_192, 8_193, 12_288,
+        ] {
+            assert!((3..=5).all(|number| refused.contains(&(number, event))));
+        }
+        for event in [
+            0, 1, 2, 3, 100, 4_094, 4_095, 4_096, 4_097, 8_191, 8_192, 12_288,
+        ] {
+            assert!(cut.contains(&event));
+        }
+    }
+
+    /// A refusal in a part that is cut is not given, and one in a part before is.
+    #[test]
+    fn cut_and_refused() {
+        let all = captures().all;
+        let found = |how: &str| {
+            let made = all.iter().find(|made| made.how.contains(how)).unwrap();
+            answer(&made.capture).stop.unwrap()
+        };
+        let cut = found(" of event 4098, 4100 events and 9 bytes");
+        assert_eq!(cut, Stop::Cut { event: 4_100 });
+        let refused = found(" of event 7, 4100 events and 9 bytes");
+        assert!(matches!(refused, Stop::Refused { event: 7, .. }));
+        let refused = found(" of event 4095, 4096 events and 9 bytes");
+        assert!(matches!(refused, Stop::Refused { event: 4_095, .. }));
+    }
+
+    /// Pair numbers from 4,096 on are refused at the pair's first event, and those below are not.
+    #[test]
+    fn pairs() {
+        for made in captures().all {
+            if let (Kind::Pairs, Some(pair)) = (made.kind, made.how.strip_prefix("pair ")) {
+                let refused = Stop::Refused {
+                    number: 3,
+                    event: 2,
+                };
+                let pair: u32 = pair.parse().unwrap();
+                assert_eq!(
+                    answer(&made.capture).stop,
+                    (pair > 4_095).then_some(refused)
+                );
+            }
+        }
+    }
+
+    /// Long captures are mostly explained, and those of many pairs tell something in each of their parts.
+    #[test]
+    fn long_captures() {
+        let all = captures().all;
+        let long = all.iter().filter(|made| made.kind == Kind::Long);
+        for (n, made) in long.enumerate() {
+            let events = made.capture.len() / RECORD;
+            let own = answer(&made.capture);
+            assert!(10 * own.verdicts[0] as usize > 7 * events, "{}", made.how);
+            let output = String::from_utf8(own.output).unwrap();
+            let told: BTreeSet<usize> = output
+                .lines()
+                .filter_map(|line| line.strip_prefix("event ")?.split_once(',')?.0.parse().ok())
+                .map(|event: usize| event / PART)
+                .collect();
+            assert!(
+                n < 4 || told == (0..=events / PART).collect(),
+                "{}",
+                made.how
+            );
+        }
+        assert!(all.iter().any(|made| made.capture.len() > 65_536 * RECORD));
+    }
+}

@@ -54,6 +54,9 @@ const USAGE: &str = "usage:
   compare answer capture [FILE]
   compare make capture";
 
+/// What is wrong with words that ask for nothing that this program does.
+const NO_CALL: &str = "that is no call of this program";
+
 /// The seed where none is named.
 const SEED: u64 = 1;
 
@@ -113,28 +116,25 @@ fn subcommand(words: &[OsString]) -> Result<bool, String> {
             let cases = capture_cases::Cases::new(asked.seed, asked.random as usize);
             Ok(told(compare_capture::run(&cases, asked.program)))
         }
-        (Some("answer"), Some("event")) if words.len() == 2 => {
-            let answered = answer::event(io::stdin().lock(), io::stdout().lock());
-            Ok(told(
-                answered.map(|()| true).map_err(|error| error.to_string()),
-            ))
-        }
-        (Some("answer"), Some("trace")) if words.len() == 2 => {
-            let answered = answer::trace(io::stdin().lock(), io::stdout().lock());
-            Ok(told(
-                answered.map(|()| true).map_err(|error| error.to_string()),
-            ))
-        }
-        (Some("answer"), Some("sheet")) if words.len() == 2 => {
-            let answered = answer::sheet(io::stdin().lock(), io::stdout().lock());
-            Ok(told(
-                answered.map(|()| true).map_err(|error| error.to_string()),
-            ))
-        }
         (Some("answer"), Some("capture")) if words.len() <= 3 => Ok(capture_answered(words.get(2))),
+        (Some("answer"), Some(what)) if words.len() == 2 => answered(what),
         (Some("make"), Some("capture")) if words.len() == 2 => Ok(told(capture_made())),
-        _ => Err("that is no call of this program".to_string()),
+        _ => Err(NO_CALL.to_string()),
     }
+}
+
+/// Answers the events, the traces or the sheet on standard input, and tells whether all was well.
+fn answered(what: &str) -> Result<bool, String> {
+    let (input, output) = (io::stdin().lock(), io::stdout().lock());
+    let answered = match what {
+        "event" => answer::event(input, output),
+        "trace" => answer::trace(input, output),
+        "sheet" => answer::sheet(input, output),
+        _ => return Err(NO_CALL.to_string()),
+    };
+    Ok(told(
+        answered.map(|()| true).map_err(|error| error.to_string()),
+    ))
 }
 
 /// Answers the capture in a file, or on standard input where none is named, and tells whether it was judged to its end.
