@@ -1,0 +1,67 @@
+//! One event judged alone.
+
+use crate::calls;
+use crate::codes::State;
+use crate::findings::Duty;
+use crate::refusal::Refusal;
+use crate::sets::StateSet;
+use std::array;
+use std::ops::Index;
+
+/// What one event leaves when the cache was in one state before it.
+#[derive(Clone, Copy, Debug, PartialEq, Eq, Hash)]
+pub struct Outcome {
+    /// The states after; empty where no step exists from that state.
+    pub after: StateSet,
+    /// Who holds the duty, judged from that state alone.
+    pub duty: Duty,
+}
+
+/// One event judged alone: an outcome for each of the seven states before, by which it is indexed.
+#[derive(Clone, Copy, Debug, PartialEq, Eq, Hash)]
+pub struct Judgment([Outcome; State::ALL.len()]);
+
+impl Index<State> for Judgment {
+    type Output = Outcome;
+
+    fn index(&self, before: State) -> &Outcome {
+        &self.0[usize::from(before.code())]
+    }
+}
+
+impl Judgment {
+    /// The states before from which a step exists.
+    pub fn befores(&self) -> StateSet {
+        let steps = |before: &State| !self[*before].after.is_empty();
+        State::ALL.into_iter().filter(steps).collect()
+    }
+}
+
+/// Judges one event alone, an [`Event`](crate::Event) or any bytes.
+///
+/// ```
+/// use korehyumo::{judge_event, Answer, Duty, Event, Fields, Forward, Refusal, Request, Resp, State};
+///
+/// let answer = Answer::SnpRespData(Resp::SC_PD, Forward::NoForward);
+/// let judgment = judge_event(Event::from(Fields::new(Request::SnpShared, answer)))?;
+/// assert_eq!(judgment[State::UD].after.to_string(), "I SC");
+/// assert_eq!(judgment[State::UD].duty, Duty::Home);
+/// assert!(judgment[State::UC].after.is_empty());
+/// assert_eq!(judgment.befores().to_string(), "UD SD");
+///
+/// assert_eq!(judge_event([0; 13]), Err(Refusal::Lengths));
+/// # Ok::<(), Refusal>(())
+/// ```
+///
+/// # Errors
+///
+/// [`Refusal::Lengths`] where there are not fourteen bytes, [`Refusal::Range`] and [`Refusal::Request`], both with event 0. It
+/// never panics.
+pub fn judge_event<Bytes: AsRef<[u8]>>(event: Bytes) -> Result<Judgment, Refusal> {
+    let (result, sets, duties) = calls::event(event.as_ref());
+    Refusal::unless_accepted(result)?;
+    Ok(Judgment(array::from_fn(|before| Outcome {
+        after: StateSet::given(sets[before]),
+        duty: Duty::from(duties[before]),
+    })))
+}

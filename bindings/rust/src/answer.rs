@@ -1,0 +1,113 @@
+//! The snoopee's answer to Home.
+
+use crate::codes::{FwdState, Resp};
+use std::fmt;
+
+/// What the snoopee forwards to the Requester.
+#[derive(Clone, Copy, Debug, PartialEq, Eq, Hash)]
+pub enum Forward {
+    /// Nothing.
+    NoForward,
+    /// Data, with the state that the Requester is given.
+    CompData(FwdState),
+}
+
+/// The snoopee's answer to Home, with what it forwards inside it.
+///
+/// ```
+/// use korehyumo::{Answer, Forward, FwdState, Resp};
+///
+/// let answer = Answer::SnpRespData(Resp::SC_PD, Forward::CompData(FwdState::SC));
+/// assert_eq!(answer.to_string(), "SnpRespData_SC_PD_Fwded_SC");
+/// assert_eq!(answer.forward().to_string(), "CompData_SC");
+/// assert_eq!(answer.wire(), [1, 6, 5, 1, 1, 1]);
+/// assert_eq!(Answer::from_wire([1, 6, 5, 1, 1, 1]), Some(answer));
+/// ```
+#[derive(Clone, Copy, Debug, PartialEq, Eq, Hash)]
+pub enum Answer {
+    /// Without data: SnpResp, or SnpRespFwded where something is forwarded.
+    SnpResp(Resp, Forward),
+    /// With data: SnpRespData, or SnpRespDataFwded where something is forwarded.
+    SnpRespData(Resp, Forward),
+    /// With part of the data, and nothing forwarded.
+    SnpRespDataPtl(Resp),
+}
+
+/// The channel of an answer without data.
+const RSP: u8 = 0;
+/// The channel of an answer with data.
+const DAT: u8 = 1;
+
+impl Answer {
+    /// Its Resp.
+    pub const fn resp(self) -> Resp {
+        match self {
+            Answer::SnpResp(resp, _)
+            | Answer::SnpRespData(resp, _)
+            | Answer::SnpRespDataPtl(resp) => resp,
+        }
+    }
+
+    /// What it forwards.
+    pub const fn forward(self) -> Forward {
+        match self {
+            Answer::SnpResp(_, forward) | Answer::SnpRespData(_, forward) => forward,
+            Answer::SnpRespDataPtl(_) => Forward::NoForward,
+        }
+    }
+
+    /// What the bus shows of it: channel, opcode, Resp, FwdState, forwarded data present, its Resp.
+    pub const fn wire(self) -> [u8; 6] {
+        let (channel, plain, forwarding) = match self {
+            Answer::SnpResp(..) => (RSP, 1, 9),
+            Answer::SnpRespData(..) => (DAT, 1, 6),
+            Answer::SnpRespDataPtl(_) => (DAT, 5, 5),
+        };
+        let resp = self.resp().code();
+        match self.forward() {
+            Forward::NoForward => [channel, plain, resp, 0, 0, 0],
+            Forward::CompData(state) => [channel, forwarding, resp, state.code(), 1, state.code()],
+        }
+    }
+
+    /// The answer that the bus shows so; none where those six bytes are no answer that this kind can hold.
+    pub fn from_wire(wire: [u8; 6]) -> Option<Answer> {
+        let resp = Resp::try_from(wire[2]).ok()?;
+        let forward = match FwdState::try_from(wire[3]) {
+            Ok(state) => Forward::CompData(state),
+            Err(_) => Forward::NoForward,
+        };
+        let all = [
+            Answer::SnpResp(resp, forward),
+            Answer::SnpRespData(resp, forward),
+            Answer::SnpRespDataPtl(resp),
+        ];
+        all.into_iter().find(|answer| answer.wire() == wire)
+    }
+}
+
+impl fmt::Display for Forward {
+    /// Writes `CompData` with its state, or `-`, as the bench sheet does.
+    fn fmt(&self, f: &mut fmt::Formatter<'_>) -> fmt::Result {
+        match self {
+            Forward::NoForward => f.pad("-"),
+            Forward::CompData(state) => f.pad(&format!("CompData_{state}")),
+        }
+    }
+}
+
+impl fmt::Display for Answer {
+    /// Writes the response's name, as the tables do.
+    fn fmt(&self, f: &mut fmt::Formatter<'_>) -> fmt::Result {
+        let message = match self {
+            Answer::SnpResp(..) => "SnpResp",
+            Answer::SnpRespData(..) => "SnpRespData",
+            Answer::SnpRespDataPtl(_) => "SnpRespDataPtl",
+        };
+        let resp = self.resp();
+        match self.forward() {
+            Forward::NoForward => f.pad(&format!("{message}_{resp}")),
+            Forward::CompData(state) => f.pad(&format!("{message}_{resp}_Fwded_{state}")),
+        }
+    }
+}

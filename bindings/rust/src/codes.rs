@@ -1,0 +1,206 @@
+//! Kinds whose values have published codes, one enum each.
+
+use std::error::Error;
+use std::fmt;
+
+/// A byte that is no code of its kind.
+///
+/// ```
+/// use korehyumo::Request;
+///
+/// let unknown = Request::try_from(3).unwrap_err();
+/// assert_eq!(unknown.to_string(), "3 is no code of Request");
+/// ```
+#[derive(Clone, Copy, Debug, PartialEq, Eq)]
+pub struct UnknownCode {
+    /// The kind's name.
+    pub kind: &'static str,
+    /// The byte.
+    pub code: u8,
+}
+
+impl fmt::Display for UnknownCode {
+    fn fmt(&self, f: &mut fmt::Formatter<'_>) -> fmt::Result {
+        write!(f, "{} is no code of {}", self.code, self.kind)
+    }
+}
+
+impl Error for UnknownCode {}
+
+/// A kind: its values with their codes, and both ways between the two.
+macro_rules! kind {
+    ($(#[$about:meta])* $kind:ident { $($(#[$meaning:meta])* $name:ident = $code:literal,)+ }) => {
+        $(#[$about])*
+        // The names are the tables' own.
+        #[allow(non_camel_case_types)]
+        #[derive(Clone, Copy, Debug, PartialEq, Eq, PartialOrd, Ord, Hash)]
+        #[repr(u8)]
+        pub enum $kind {
+            $($(#[$meaning])* $name = $code,)+
+        }
+
+        impl $kind {
+            /// All of them, in the order of their codes.
+            pub const ALL: [$kind; [$($code),+].len()] = [$($kind::$name),+];
+
+            /// Its published code.
+            pub const fn code(self) -> u8 {
+                self as u8
+            }
+
+            /// Its name, as the tables and the bench sheet write it.
+            pub const fn name(self) -> &'static str {
+                match self {
+                    $($kind::$name => stringify!($name),)+
+                }
+            }
+        }
+
+        impl fmt::Display for $kind {
+            fn fmt(&self, f: &mut fmt::Formatter<'_>) -> fmt::Result {
+                f.pad(self.name())
+            }
+        }
+
+        impl TryFrom<u8> for $kind {
+            type Error = UnknownCode;
+
+            fn try_from(code: u8) -> Result<$kind, UnknownCode> {
+                let known = $kind::ALL.into_iter().find(|value| value.code() == code);
+                known.ok_or(UnknownCode { kind: stringify!($kind), code })
+            }
+        }
+    };
+}
+
+kind! {
+    /// The state of a line in a cache.
+    ///
+    /// ```
+    /// use korehyumo::State;
+    ///
+    /// assert_eq!(State::SD.code(), 6);
+    /// assert_eq!(State::try_from(6), Ok(State::SD));
+    /// assert!(State::SD.is_dirty());
+    /// ```
+    State {
+        /// Invalid.
+        I = 0,
+        /// Unique Clean.
+        UC = 1,
+        /// Unique Clean Empty.
+        UCE = 2,
+        /// Unique Dirty.
+        UD = 3,
+        /// Unique Dirty Partial.
+        UDP = 4,
+        /// Shared Clean.
+        SC = 5,
+        /// Shared Dirty.
+        SD = 6,
+    }
+}
+
+impl State {
+    /// Whether somebody has to write the line back: UD, UDP and SD.
+    pub const fn is_dirty(self) -> bool {
+        matches!(self, State::UD | State::UDP | State::SD)
+    }
+}
+
+kind! {
+    /// The snoop that is asked.
+    ///
+    /// ```
+    /// use korehyumo::Request;
+    ///
+    /// assert_eq!(Request::SnpPreferUniqueFwd.code(), 22);
+    /// assert_eq!(Request::try_from(22), Ok(Request::SnpPreferUniqueFwd));
+    /// ```
+    Request {
+        /// In table B4.46.
+        SnpShared = 1,
+        /// In table B4.46.
+        SnpClean = 2,
+        /// In table B4.46.
+        SnpNotSharedDirty = 4,
+        /// In table B4.57.
+        SnpCleanFwd = 18,
+        /// In table B4.57.
+        SnpNotSharedDirtyFwd = 20,
+        /// In table B4.46.
+        SnpPreferUnique = 21,
+        /// In table B4.59, and in B4.60 too where the snoopee is not known to be in an exclusive sequence.
+        SnpPreferUniqueFwd = 22,
+    }
+}
+
+kind! {
+    /// The state of a line's memory tags in the snoopee; one that was not seen is no value of this kind.
+    TagState {
+        /// It has no tags.
+        Invalid = 0,
+        /// Its tags are those of memory.
+        Clean = 1,
+        /// Its tags have to be written back.
+        Dirty = 2,
+    }
+}
+
+kind! {
+    /// What an answer to Home says of memory tags.
+    TagOp {
+        /// No tags come with it.
+        Invalid = 0,
+        /// Tags come with it.
+        Transfer = 1,
+        /// Tags come with it that have to be written back.
+        Update = 2,
+        /// No row has it.
+        Match = 3,
+    }
+}
+
+kind! {
+    /// The error field of an answer to Home.
+    RespErr {
+        /// No error.
+        OK = 0,
+        /// No row has it.
+        EXOK = 1,
+        /// The data is in error.
+        DERR = 2,
+        /// A non-data error: there is no data.
+        NDERR = 3,
+    }
+}
+
+kind! {
+    /// The state that an answer to Home names, and whether it passes to Home the duty to write back (PD).
+    Resp {
+        /// I.
+        I = 0,
+        /// SC, which may have become I since.
+        SC = 1,
+        /// SD.
+        SD = 3,
+        /// I, and Home has the duty.
+        I_PD = 4,
+        /// SC, and Home has the duty.
+        SC_PD = 5,
+    }
+}
+
+kind! {
+    /// The state that forwarded data names, and whether it passes to the Requester the duty to write back (PD).
+    FwdState {
+        /// SC.
+        SC = 1,
+        /// UC.
+        UC = 2,
+        /// UD, and the Requester has the duty.
+        UD_PD = 6,
+        /// SD, and the Requester has the duty.
+        SD_PD = 7,
+    }
+}

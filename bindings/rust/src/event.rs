@@ -1,0 +1,199 @@
+//! Events, as captured and by name.
+
+use crate::answer::Answer;
+use crate::codes::{Request, RespErr, State, TagOp, TagState};
+use std::fmt;
+
+/// One snoop and its answer, as the fourteen bytes of a capture. It can hold any bytes: the judge refuses what it must.
+///
+/// ```
+/// use korehyumo::{Answer, Event, Fields, Forward, Request, Resp};
+///
+/// let captured = Event::from([1, 0, 0, 0, 0, 1, 1, 5, 0, 0, 0, 0, 0, 7]);
+/// let answer = Answer::SnpRespData(Resp::SC_PD, Forward::NoForward);
+/// let named = Event::from(Fields::new(Request::SnpShared, answer));
+/// assert_eq!(captured, named);
+/// ```
+#[derive(Clone, Copy, Debug, PartialEq, Eq, Hash)]
+pub struct Event([u8; Event::BYTES]);
+
+/// What is seen of one snoop and its answer, by name.
+///
+/// ```
+/// use korehyumo::{Answer, Event, Fields, Forward, FwdState, Request, Resp, TagOp, TagState};
+///
+/// // entry g of the notebook
+/// let answer = Answer::SnpRespData(Resp::SC_PD, Forward::CompData(FwdState::SC));
+/// let fields = Fields {
+///     tag: Some(TagState::Dirty),
+///     tag_op: TagOp::Update,
+///     ..Fields::new(Request::SnpCleanFwd, answer)
+/// };
+/// assert_eq!(fields.to_string(), "SnpCleanFwd,0,0,0,Dirty,SnpRespData_SC_PD_Fwded_SC,Update,OK,CompData_SC,?");
+/// assert_eq!(Event::from(fields).fields(), Some(fields));
+/// ```
+#[derive(Clone, Copy, Debug, PartialEq, Eq, Hash)]
+pub struct Fields {
+    /// The snoop.
+    pub request: Request,
+    /// Whether Home asked for the data too.
+    pub ret_to_src: bool,
+    /// Whether the snoopee must not go to SD.
+    pub do_not_go_to_sd: bool,
+    /// Whether the snoopee is known to be in an exclusive sequence.
+    pub excl: bool,
+    /// The snoopee's tag state; none where it was not seen.
+    pub tag: Option<TagState>,
+    /// The answer to Home, with what was forwarded.
+    pub answer: Answer,
+    /// The answer's TagOp.
+    pub tag_op: TagOp,
+    /// The answer's RespErr.
+    pub resp_err: RespErr,
+    /// The snoopee's state after; none where it was not seen.
+    pub state_after: Option<State>,
+}
+
+/// The byte of a tag state that was not seen.
+const TAG_NOT_SEEN: u8 = 3;
+/// The byte of a state after that was not seen.
+const STATE_NOT_SEEN: u8 = 7;
+
+impl Event {
+    /// How many bytes an event has.
+    pub const BYTES: usize = 14;
+
+    /// Its bytes.
+    pub const fn bytes(&self) -> &[u8; Event::BYTES] {
+        &self.0
+    }
+
+    /// What it says by name; none where some byte has no name, though the judge may accept it.
+    pub fn fields(&self) -> Option<Fields> {
+        let bytes = &self.0;
+        Some(Fields {
+            request: Request::try_from(bytes[0]).ok()?,
+            ret_to_src: flag(bytes[1])?,
+            do_not_go_to_sd: flag(bytes[2])?,
+            excl: flag(bytes[3])?,
+            tag: seen(bytes[4], TAG_NOT_SEEN)?,
+            answer: Answer::from_wire([
+                bytes[5], bytes[6], bytes[7], bytes[8], bytes[11], bytes[12],
+            ])?,
+            tag_op: TagOp::try_from(bytes[9]).ok()?,
+            resp_err: RespErr::try_from(bytes[10]).ok()?,
+            state_after: seen(bytes[13], STATE_NOT_SEEN)?,
+        })
+    }
+}
+
+impl Fields {
+    /// A snoop and its answer as the notebook has them where it names nothing else: flags 0, tags and TagOp Invalid, RespErr OK,
+    /// state after not seen.
+    pub const fn new(request: Request, answer: Answer) -> Fields {
+        Fields {
+            request,
+            ret_to_src: false,
+            do_not_go_to_sd: false,
+            excl: false,
+            tag: Some(TagState::Invalid),
+            answer,
+            tag_op: TagOp::Invalid,
+            resp_err: RespErr::OK,
+            state_after: None,
+        }
+    }
+}
+
+/// The flag that a byte is.
+fn flag(byte: u8) -> Option<bool> {
+    match byte {
+        0 => Some(false),
+        1 => Some(true),
+        _ => None,
+    }
+}
+
+/// The value that a byte says was seen, or that none was; nothing where it says neither.
+fn seen<Kind: TryFrom<u8>>(byte: u8, not_seen: u8) -> Option<Option<Kind>> {
+    if byte == not_seen {
+        return Some(None);
+    }
+    Kind::try_from(byte).ok().map(Some)
+}
+
+impl From<[u8; Event::BYTES]> for Event {
+    fn from(bytes: [u8; Event::BYTES]) -> Event {
+        Event(bytes)
+    }
+}
+
+impl From<Event> for [u8; Event::BYTES] {
+    fn from(event: Event) -> [u8; Event::BYTES] {
+        event.0
+    }
+}
+
+impl From<Fields> for Event {
+    fn from(fields: Fields) -> Event {
+        let [channel, opcode, resp, fwd_state, present, its_resp] = fields.answer.wire();
+        Event([
+            fields.request.code(),
+            u8::from(fields.ret_to_src),
+            u8::from(fields.do_not_go_to_sd),
+            u8::from(fields.excl),
+            fields.tag.map_or(TAG_NOT_SEEN, TagState::code),
+            channel,
+            opcode,
+            resp,
+            fwd_state,
+            fields.tag_op.code(),
+            fields.resp_err.code(),
+            present,
+            its_resp,
+            fields.state_after.map_or(STATE_NOT_SEEN, State::code),
+        ])
+    }
+}
+
+impl AsRef<[u8]> for Event {
+    fn as_ref(&self) -> &[u8] {
+        &self.0
+    }
+}
+
+impl fmt::Display for Event {
+    /// Writes its fields by name, or its bytes as numbers where some of them have no name.
+    fn fmt(&self, f: &mut fmt::Formatter<'_>) -> fmt::Result {
+        match self.fields() {
+            Some(fields) => fields.fmt(f),
+            None => write!(f, "{:?}", self.0),
+        }
+    }
+}
+
+impl fmt::Display for Fields {
+    /// Writes the ten fields that the bench sheet has behind the pair.
+    fn fmt(&self, f: &mut fmt::Formatter<'_>) -> fmt::Result {
+        let flags = [self.ret_to_src, self.do_not_go_to_sd, self.excl].map(u8::from);
+        write!(
+            f,
+            "{},{},{},{},",
+            self.request, flags[0], flags[1], flags[2]
+        )?;
+        write!(
+            f,
+            "{},{},",
+            self.tag.map_or("?", TagState::name),
+            self.answer
+        )?;
+        write!(
+            f,
+            "{},{},{},",
+            self.tag_op,
+            self.resp_err,
+            self.answer.forward()
+        )?;
+        f.write_str(self.state_after.map_or("?", State::name))
+    }
+}

@@ -1,0 +1,89 @@
+//! Judges AMBA CHI snoop answers: whether the rows of the CHI tables permit an answer, which states the cache can be in
+//! afterwards, and who now holds the duty to write a Dirty line back.
+//!
+//! The judging is done by a library that is proved to meet its definition for every input. This package is safe Rust over
+//! its C interface, with a kind for each of the definition's numbers. No call panics, whatever it is given: what can't be
+//! judged is a [`Refusal`], and whatever was lent is then as it came.
+//!
+//! One event of one pair:
+//!
+//! ```
+//! use korehyumo::{Answer, Event, Fields, Forward, Judge, PairNumber, Request, Resp};
+//!
+//! # fn main() -> Result<(), korehyumo::Refusal> {
+//! let answer = Answer::SnpRespData(Resp::SC_PD, Forward::NoForward);
+//! let event = Event::from(Fields::new(Request::SnpShared, answer));
+//! let mut judge = Judge::new(1)?;
+//! let findings = judge.judge(&[(PairNumber(0), event)])?;
+//! assert_eq!(findings[0].to_string(), "explained,Home,I SC");
+//! # Ok(())
+//! # }
+//! ```
+//!
+//! The definition's own example, in which a cache gives up its Dirty line, then claims to have it still, and is lost from there:
+//!
+//! ```
+//! use korehyumo::{Answer, Event, Fields, Forward, Judge, PairNumber, Refusal, Request, Resp, State, Verdict};
+//!
+//! fn main() -> Result<(), Refusal> {
+//!     let with_data = |resp| Answer::SnpRespData(resp, Forward::NoForward);
+//!     let without = |resp| Answer::SnpResp(resp, Forward::NoForward);
+//!     let events = [
+//!         Fields::new(Request::SnpShared, with_data(Resp::SC_PD)),
+//!         Fields { ret_to_src: true, ..Fields::new(Request::SnpShared, with_data(Resp::SC)) },
+//!         Fields::new(Request::SnpClean, with_data(Resp::SD)),
+//!         Fields { state_after: Some(State::I), ..Fields::new(Request::SnpClean, without(Resp::I)) },
+//!     ];
+//!     let trace = events.map(|fields| (PairNumber(0), Event::from(fields)));
+//!
+//!     let mut judge = Judge::new(1)?;
+//!     let findings = judge.judge(&trace)?;
+//!     let lines: Vec<String> = findings.iter().map(|finding| finding.to_string()).collect();
+//!     assert_eq!(lines, ["explained,Home,I SC", "explained,none,I SC", "unexplained,none,", "not judged,none,"]);
+//!     assert_eq!(findings.iter().position(|finding| finding.verdict == Verdict::Unexplained), Some(2));
+//!     assert!(judge.set_of(PairNumber(0)).unwrap().is_empty());
+//!     Ok(())
+//! }
+//! ```
+//!
+//! | call | what for |
+//! |---|---|
+//! | [`judge_event`] | one event alone: for each of the seven states before, the states after and the duty |
+//! | [`Judge`] | trace after trace, with the pairs' sets carried on |
+//! | [`judge_trace`] | one trace over plain lent buffers, without allocation |
+//!
+//! A later library may have refusals, verdicts and duties that this version of the package has no name for. It then gives
+//! [`Refusal::Unknown`], [`Verdict::Other`] and [`Duty::Other`], with their numbers.
+
+#![deny(unsafe_code)]
+#![deny(unsafe_op_in_unsafe_fn)]
+#![warn(missing_docs)]
+
+mod alone;
+mod answer;
+#[allow(unsafe_code)]
+mod calls;
+mod codes;
+mod event;
+mod findings;
+mod judge;
+mod numbers;
+mod refusal;
+mod sets;
+mod trace;
+
+pub use alone::{judge_event, Judgment, Outcome};
+pub use answer::{Answer, Forward};
+pub use codes::{FwdState, Request, Resp, RespErr, State, TagOp, TagState, UnknownCode};
+pub use event::{Event, Fields};
+pub use findings::{Duty, Finding, Verdict};
+pub use judge::Judge;
+pub use numbers::{EventNumber, PairNumber};
+pub use refusal::Refusal;
+pub use sets::StateSet;
+pub use trace::{judge_trace, MOST_EVENTS, MOST_PAIRS};
+
+/// The examples of the package's README.
+#[cfg(doctest)]
+#[doc = include_str!("../README.md")]
+pub struct Readme;

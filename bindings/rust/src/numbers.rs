@@ -1,0 +1,29 @@
+//! Two small counts that must not be confused.
+
+use std::fmt;
+
+/// The number of a pair: one cache line in one cache. It is the place of the pair's set in the table.
+///
+/// ```compile_fail
+/// use korehyumo::{EventNumber, PairNumber};
+///
+/// assert!(PairNumber(7) == EventNumber(7)); // a pair's number is no event's number
+/// ```
+#[derive(Clone, Copy, Debug, Default, PartialEq, Eq, PartialOrd, Ord, Hash)]
+pub struct PairNumber(pub u16);
+
+/// The number of an event, from 0 in the order of the trace.
+#[derive(Clone, Copy, Debug, Default, PartialEq, Eq, PartialOrd, Ord, Hash)]
+pub struct EventNumber(pub u64);
+
+impl fmt::Display for PairNumber {
+    fn fmt(&self, f: &mut fmt::Formatter<'_>) -> fmt::Result {
+        self.0.fmt(f)
+    }
+}
+
+impl fmt::Display for EventNumber {
+    fn fmt(&self, f: &mut fmt::Formatter<'_>) -> fmt::Result {
+        self.0.fmt(f)
+    }
+}

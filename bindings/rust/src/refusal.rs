@@ -1,0 +1,173 @@
+//! Why a call was refused.
+
+use crate::numbers::{EventNumber, PairNumber};
+use std::error::Error;
+use std::fmt;
+
+/// Why a call was refused, and where. Whatever was lent is then as it came.
+///
+/// ```
+/// use korehyumo::{judge_trace, PairNumber, Refusal};
+///
+/// let mut table = [127, 128];
+/// let refusal = judge_trace(&[], &[], &mut table, &mut [], &mut [], &mut []).unwrap_err();
+/// assert_eq!(refusal, Refusal::Set(PairNumber(1)));
+/// assert_eq!((refusal.number(), refusal.place()), (2, 1));
+/// assert_eq!(refusal.to_string(), "refused with 2: the set of pair 1 is above 127");
+/// ```
+#[derive(Clone, Copy, Debug, PartialEq, Eq, Hash)]
+#[non_exhaustive]
+pub enum Refusal {
+    /// 1: something lent has a length that it must not have, or there are too many events or pairs.
+    Lengths,
+    /// 2: the set of this pair is above 127; it is the lowest such pair.
+    Set(PairNumber),
+    /// 3: this event's pair is not in the table.
+    Pair(EventNumber),
+    /// 4: a byte of this event, from 1 to 13, is outside its range.
+    Range(EventNumber),
+    /// 5: this event's request is none that is judged.
+    Request(EventNumber),
+    /// A number, or a place for it, that this version of the package does not know. A later library has it.
+    Unknown {
+        /// The refusal's number.
+        number: u8,
+        /// Its place.
+        place: u64,
+    },
+}
+
+impl Refusal {
+    /// Its number, as the definition's table gives it.
+    pub const fn number(self) -> u8 {
+        match self {
+            Refusal::Lengths => 1,
+            Refusal::Set(_) => 2,
+            Refusal::Pair(_) => 3,
+            Refusal::Range(_) => 4,
+            Refusal::Request(_) => 5,
+            Refusal::Unknown { number, .. } => number,
+        }
+    }
+
+    /// Its place, as the definition's table gives it: a pair's number, an event's number, or 0.
+    pub const fn place(self) -> u64 {
+        match self {
+            Refusal::Lengths => 0,
+            Refusal::Set(pair) => pair.0 as u64,
+            Refusal::Pair(event) | Refusal::Range(event) | Refusal::Request(event) => event.0,
+            Refusal::Unknown { place, .. } => place,
+        }
+    }
+
+    /// The place of the library's result where it accepted, else the refusal.
+    pub(crate) fn unless_accepted(result: u64) -> Result<u64, Refusal> {
+        let number = (result % 256) as u8;
+        let place = result / 256;
+        let event = EventNumber(place);
+        match number {
+            0 => Ok(place),
+            1 => Err(Refusal::Lengths),
+            2 => Err(Refusal::of_set(place)),
+            3 => Err(Refusal::Pair(event)),
+            4 => Err(Refusal::Range(event)),
+            5 => Err(Refusal::Request(event)),
+            _ => Err(Refusal::Unknown { number, place }),
+        }
+    }
+
+    /// The refusal of a set at a place.
+    fn of_set(place: u64) -> Refusal {
+        match u16::try_from(place) {
+            Ok(pair) => Refusal::Set(PairNumber(pair)),
+            Err(_) => Refusal::Unknown { number: 2, place },
+        }
+    }
+}
+
+impl fmt::Display for Refusal {
+    fn fmt(&self, f: &mut fmt::Formatter<'_>) -> fmt::Result {
+        write!(f, "refused with {}", self.number())?;
+        match self {
+            Refusal::Lengths => f.write_str(": something lent has a wrong length"),
+            Refusal::Set(pair) => write!(f, ": the set of pair {pair} is above 127"),
+            Refusal::Pair(event) => write!(f, ": the pair of event {event} is not in the table"),
+            Refusal::Range(event) => write!(f, ": a byte of event {event} is outside its range"),
+            Refusal::Request(event) => {
+                write!(f, ": the request of event {event} is none that is judged")
+            }
+            Refusal::Unknown { place, .. } => write!(
+                f,
+                " at place {place}, which this version of the package does not know"
+            ),
+        }
+    }
+}
+
+impl Error for Refusal {}
+
+#[cfg(test)]
+mod tests {
+    use super::*;
+
+    /// Each number of the definition's table with its place, as the library's result holds them.
+    #[test]
+    fn results_of_the_table() {
+        let read = Refusal::unless_accepted;
+        assert_eq!(read(0), Ok(0));
+        assert_eq!(read(4_096 * 256), Ok(4_096));
+        assert_eq!(read(1), Err(Refusal::Lengths));
+        assert_eq!(read(4_095 * 256 + 2), Err(Refusal::Set(PairNumber(4_095))));
+        assert_eq!(
+            read(4_095 * 256 + 3),
+            Err(Refusal::Pair(EventNumber(4_095)))
+        );
+        assert_eq!(read(7 * 256 + 4), Err(Refusal::Range(EventNumber(7))));
+        assert_eq!(read(5), Err(Refusal::Request(EventNumber(0))));
+    }
+
+    /// A number that is not known is a refusal with that number and place, never an acceptance.
+    #[test]
+    fn results_not_known() {
+        for number in 6..=255 {
+            for place in [0, 1, 255, 4_096, u64::MAX / 256] {
+                let refusal =
+                    Refusal::unless_accepted(place * 256 + u64::from(number)).unwrap_err();
+                assert_eq!(refusal, Refusal::Unknown { number, place });
+                assert_eq!((refusal.number(), refusal.place()), (number, place));
+            }
+        }
+        let far = Refusal::unless_accepted(65_536 * 256 + 2).unwrap_err();
+        assert_eq!((far.number(), far.place()), (2, 65_536));
+    }
+
+    /// Each refusal in words.
+    #[test]
+    fn words() {
+        let words = |result: u64| Refusal::unless_accepted(result).unwrap_err().to_string();
+        assert_eq!(
+            words(1),
+            "refused with 1: something lent has a wrong length"
+        );
+        assert_eq!(
+            words(9 * 256 + 2),
+            "refused with 2: the set of pair 9 is above 127"
+        );
+        assert_eq!(
+            words(9 * 256 + 3),
+            "refused with 3: the pair of event 9 is not in the table"
+        );
+        assert_eq!(
+            words(9 * 256 + 4),
+            "refused with 4: a byte of event 9 is outside its range"
+        );
+        assert_eq!(
+            words(9 * 256 + 5),
+            "refused with 5: the request of event 9 is none that is judged"
+        );
+        assert_eq!(
+            words(8 * 256 + 16),
+            "refused with 16 at place 8, which this version of the package does not know"
+        );
+    }
+}

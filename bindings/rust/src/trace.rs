@@ -1,0 +1,46 @@
+//! A whole trace over lent buffers.
+
+use crate::calls;
+use crate::refusal::Refusal;
+
+/// The most events that one call takes.
+pub const MOST_EVENTS: usize = 4_096;
+/// The most pairs that a table has.
+pub const MOST_PAIRS: usize = 4_096;
+
+/// Judges a whole trace over plain lent buffers, and says how many events it had. Nothing is allocated.
+///
+/// `events` has fourteen bytes an event and `pairs` its pair's number; `table` has each pair's set before and after the
+/// trace; `verdicts`, `duties` and `afters` get a byte for each event. [`Judge`](crate::Judge) does the same with kinds for
+/// the bytes.
+///
+/// ```
+/// use korehyumo::{judge_trace, Refusal};
+///
+/// let events = [
+///     1, 0, 0, 0, 0, 1, 1, 5, 0, 0, 0, 0, 0, 7, // SnpShared, SnpRespData_SC_PD
+///     2, 0, 0, 0, 0, 1, 1, 3, 0, 0, 0, 0, 0, 7, // SnpClean, SnpRespData_SD
+/// ];
+/// let (mut table, mut verdicts, mut duties, mut afters) = ([127], [0; 2], [0; 2], [0; 2]);
+/// let n = judge_trace(&events, &[0, 0], &mut table, &mut verdicts, &mut duties, &mut afters)?;
+/// assert_eq!(n, 2);
+/// assert_eq!((verdicts, duties, afters), ([0, 1], [1, 0], [33, 0]));
+/// assert_eq!(table, [0]);
+/// # Ok::<(), Refusal>(())
+/// ```
+///
+/// # Errors
+///
+/// Any [`Refusal`], and all the buffers are then as they came. It never panics, whatever the bytes and the lengths.
+pub fn judge_trace(
+    events: &[u8],
+    pairs: &[u16],
+    table: &mut [u8],
+    verdicts: &mut [u8],
+    duties: &mut [u8],
+    afters: &mut [u8],
+) -> Result<usize, Refusal> {
+    let result = calls::trace(events, pairs, table, verdicts, duties, afters);
+    let n = Refusal::unless_accepted(result)?;
+    Ok(n as usize)
+}
