@@ -1,0 +1,194 @@
+//! Whatever is lent, nothing panics, and what comes back is what the definition allows.
+
+mod common;
+
+use common::{wire, Draw, Lent, HIGHEST, REQUESTS, RESPONSES};
+use korehyumo::{
+    judge_event, Duty, Event, Finding, Judge, PairNumber, Refusal, State, StateSet, Verdict,
+};
+
+/// An event with every byte in its range, of which three in four have an answer of the rows and so are often explained.
+fn event(draw: &mut Draw) -> [u8; 14] {
+    let mut bytes = HIGHEST.map(|highest| draw.byte(highest));
+    bytes[0] = REQUESTS[draw.below(7) as usize];
+    if draw.below(4) == 0 {
+        return bytes;
+    }
+    let (_, codes) = RESPONSES[draw.below(22) as usize];
+    let wire = wire(codes);
+    bytes[5..9].copy_from_slice(&wire[..4]);
+    bytes[11..13].copy_from_slice(&wire[4..]);
+    if draw.below(8) != 0 {
+        bytes[9] = 0;
+        bytes[10] = if draw.below(8) == 0 { 3 } else { 0 };
+        bytes[13] = 7;
+    }
+    bytes
+}
+
+/// A trace with good lengths, pairs, sets and events.
+fn good(draw: &mut Draw) -> Lent {
+    let pairs = draw.below(20) + 1;
+    let n = draw.below(20);
+    let events: Vec<[u8; 14]> = (0..n).map(|_| event(draw)).collect();
+    let numbers: Vec<u16> = (0..n).map(|_| draw.below(pairs) as u16).collect();
+    let table: Vec<u8> = (0..pairs).map(|_| draw.byte(127)).collect();
+    Lent::new(&events, &numbers, &table)
+}
+
+/// The states after an event from a set, and the duty: what the event alone gives from each of its states.
+fn from_alone(event: Event, before: StateSet) -> (StateSet, Duty) {
+    let judgment = judge_event(event).unwrap();
+    let steps = || before.iter().map(|state| judgment[state]);
+    let after = steps().flat_map(|outcome| outcome.after.iter()).collect();
+    let duty = steps()
+        .map(|outcome| outcome.duty)
+        .find(|duty| *duty != Duty::None);
+    (after, duty.unwrap_or(Duty::None))
+}
+
+/// Any bytes at all in buffers of any lengths: refused and left as they were, or answered within the codes.
+#[test]
+fn any_bytes() {
+    let mut draw = Draw(0x1234_5678_9abc_def1);
+    for _ in 0..20_000 {
+        let n = draw.below(4) as usize;
+        let mut any = |most: u64| {
+            if draw.below(3) == 0 {
+                draw.below(most) as usize
+            } else {
+                n
+            }
+        };
+        let lengths = [any(60), any(5), any(5), any(5), any(5), any(5)];
+        let before = Lent {
+            events: draw.bytes(if lengths[0] == n { 14 * n } else { lengths[0] }),
+            pairs: (0..lengths[1]).map(|_| draw.below(65_536) as u16).collect(),
+            table: draw.bytes(lengths[2]),
+            verdicts: draw.bytes(lengths[3]),
+            duties: draw.bytes(lengths[4]),
+            afters: draw.bytes(lengths[5]),
+        };
+        let mut lent = before.clone();
+        match lent.judge() {
+            Ok(accepted) => assert_eq!((accepted, lent.verdicts.len()), (n, n)),
+            Err(refusal) => {
+                assert!((1..=5).contains(&refusal.number()));
+                assert_eq!(lent, before);
+            }
+        }
+    }
+}
+
+/// Any bytes at all as one event.
+#[test]
+fn any_event() {
+    let mut draw = Draw(0x0fed_cba9_8765_4321);
+    for _ in 0..20_000 {
+        let length = if draw.below(2) == 0 {
+            14
+        } else {
+            draw.below(50) as usize
+        };
+        let bytes = draw.bytes(length);
+        let refusal = judge_event(&bytes).err();
+        assert_eq!(refusal == Some(Refusal::Lengths), bytes.len() != 14);
+    }
+}
+
+/// A trace by name.
+fn named(lent: &Lent) -> Vec<(PairNumber, Event)> {
+    let event = |bytes: &[u8]| Event::from(<[u8; 14]>::try_from(bytes).unwrap());
+    let pairs = lent.pairs.iter().map(|pair| PairNumber(*pair));
+    pairs.zip(lent.events.chunks_exact(14).map(event)).collect()
+}
+
+/// A judge with the sets of a table.
+fn judge_of(table: &[u8]) -> Judge {
+    let set = |byte: &u8| StateSet::try_from(*byte).unwrap();
+    Judge::with_sets(table.iter().map(set)).unwrap()
+}
+
+/// Good traces, some with a byte spoilt, over plain buffers and by name: the same answers.
+#[test]
+fn by_name_as_over_buffers() {
+    let mut draw = Draw(0x7777_1234_5555_9999);
+    for _ in 0..5_000 {
+        let mut lent = good(&mut draw);
+        if !lent.events.is_empty() && draw.below(3) == 0 {
+            let at = draw.below(lent.events.len() as u64) as usize;
+            lent.events[at] = draw.byte(255);
+        }
+        let mut judge = judge_of(&lent.table);
+        let findings = judge.judge(&named(&lent)).map(<[Finding]>::to_vec);
+        let accepted = lent.judge();
+        assert_eq!(findings.as_ref().map(Vec::len), accepted.as_ref().copied());
+        assert!(judge
+            .sets()
+            .map(StateSet::bits)
+            .eq(lent.table.iter().copied()));
+        let findings = findings.unwrap_or_default();
+        for (k, finding) in findings.iter().enumerate() {
+            let bytes = (
+                finding.verdict.code(),
+                finding.duty.code(),
+                finding.after.bits(),
+            );
+            assert_eq!(bytes, (lent.verdicts[k], lent.duties[k], lent.afters[k]));
+        }
+    }
+}
+
+/// A trace says of each event what the event alone says from each state of its pair's set.
+#[test]
+fn traces_as_events_alone() -> Result<(), Refusal> {
+    let mut draw = Draw(0x3141_5926_5358_9793);
+    let mut verdicts = [0; 3];
+    for _ in 0..2_000 {
+        let lent = good(&mut draw);
+        let mut judge = judge_of(&lent.table);
+        for (pair, event) in named(&lent) {
+            let before = judge.set_of(pair).unwrap();
+            let finding = judge.judge(&[(pair, event)])?[0];
+            let verdict = match (before.is_empty(), finding.after.is_empty()) {
+                (true, _) => Verdict::NotJudged,
+                (false, true) => Verdict::Unexplained,
+                (false, false) => Verdict::Explained,
+            };
+            assert_eq!((finding.after, finding.duty), from_alone(event, before));
+            assert_eq!(finding.verdict, verdict);
+            verdicts[usize::from(verdict.code())] += 1;
+        }
+    }
+    assert!(verdicts.iter().all(|count| *count > 500), "{verdicts:?}");
+    Ok(())
+}
+
+/// Each duty is told only where it can be: Home and Requester by what was passed, lost only from a Dirty state.
+#[test]
+fn duties_of_events_alone() -> Result<(), Refusal> {
+    let mut draw = Draw(0x2718_2818_2845_9045);
+    let mut told = [0; 4];
+    for _ in 0..20_000 {
+        let bytes = event(&mut draw);
+        let judgment = judge_event(bytes)?;
+        for before in State::ALL {
+            let expected = match (
+                judgment[before].after.is_empty(),
+                bytes[7],
+                bytes[8],
+                bytes[10],
+            ) {
+                (true, ..) => Duty::None,
+                (false, 4 | 5, ..) => Duty::Home,
+                (false, _, 6 | 7, _) => Duty::Requester,
+                (false, _, _, 3) if before.is_dirty() => Duty::Lost,
+                _ => Duty::None,
+            };
+            assert_eq!(judgment[before].duty, expected);
+            told[usize::from(expected.code())] += 1;
+        }
+    }
+    assert!(told.iter().all(|count| *count > 100), "{told:?}");
+    Ok(())
+}

@@ -1,0 +1,131 @@
+//! What several tests lend.
+
+// Each test takes what it needs.
+#![allow(dead_code)]
+
+use korehyumo::{judge_trace, Refusal};
+
+/// The four events of the definition's bench sheet.
+pub const SHEET: [[u8; 14]; 4] = [
+    [1, 0, 0, 0, 0, 1, 1, 5, 0, 0, 0, 0, 0, 7],
+    [1, 1, 0, 0, 0, 1, 1, 1, 0, 0, 0, 0, 0, 7],
+    [2, 0, 0, 0, 0, 1, 1, 3, 0, 0, 0, 0, 0, 7],
+    [2, 0, 0, 0, 0, 0, 1, 0, 0, 0, 0, 0, 0, 0],
+];
+
+/// SnpShared answered by SnpResp_I with NDERR, entry m of the notebook.
+pub const IN_ERROR: [u8; 14] = [1, 0, 0, 0, 0, 0, 1, 0, 0, 0, 3, 0, 0, 7];
+
+/// The highest value of each byte of an event; of the request there is none but the seven codes.
+pub const HIGHEST: [u8; 14] = [255, 1, 1, 1, 3, 1, 31, 7, 7, 3, 3, 1, 7, 7];
+
+/// The codes of the seven requests.
+pub const REQUESTS: [u8; 7] = [1, 2, 4, 18, 20, 21, 22];
+
+/// The 22 responses of the rows with their channel, opcode, Resp and FwdState.
+pub const RESPONSES: [(&str, [u8; 4]); 22] = [
+    ("SnpResp_I", [0, 1, 0, 0]),
+    ("SnpResp_SC", [0, 1, 1, 0]),
+    ("SnpRespData_I", [1, 1, 0, 0]),
+    ("SnpRespData_SC", [1, 1, 1, 0]),
+    ("SnpRespData_SD", [1, 1, 3, 0]),
+    ("SnpRespData_I_PD", [1, 1, 4, 0]),
+    ("SnpRespData_SC_PD", [1, 1, 5, 0]),
+    ("SnpRespDataPtl_I_PD", [1, 5, 4, 0]),
+    ("SnpResp_I_Fwded_SC", [0, 9, 0, 1]),
+    ("SnpResp_SC_Fwded_SC", [0, 9, 1, 1]),
+    ("SnpResp_SD_Fwded_SC", [0, 9, 3, 1]),
+    ("SnpResp_I_Fwded_SD_PD", [0, 9, 0, 7]),
+    ("SnpResp_SC_Fwded_SD_PD", [0, 9, 1, 7]),
+    ("SnpResp_I_Fwded_UC", [0, 9, 0, 2]),
+    ("SnpResp_I_Fwded_UD_PD", [0, 9, 0, 6]),
+    ("SnpRespData_I_Fwded_SC", [1, 6, 0, 1]),
+    ("SnpRespData_SC_Fwded_SC", [1, 6, 1, 1]),
+    ("SnpRespData_SD_Fwded_SC", [1, 6, 3, 1]),
+    ("SnpRespData_I_Fwded_SD_PD", [1, 6, 0, 7]),
+    ("SnpRespData_SC_Fwded_SD_PD", [1, 6, 1, 7]),
+    ("SnpRespData_I_PD_Fwded_SC", [1, 6, 4, 1]),
+    ("SnpRespData_SC_PD_Fwded_SC", [1, 6, 5, 1]),
+];
+
+/// The six bytes of a response with its forwarded data as the row has it.
+pub fn wire(codes: [u8; 4]) -> [u8; 6] {
+    let [channel, opcode, resp, fwd_state] = codes;
+    [
+        channel,
+        opcode,
+        resp,
+        fwd_state,
+        u8::from(fwd_state != 0),
+        fwd_state,
+    ]
+}
+
+/// The six buffers of a call.
+#[derive(Clone, Debug, PartialEq, Eq)]
+pub struct Lent {
+    pub events: Vec<u8>,
+    pub pairs: Vec<u16>,
+    pub table: Vec<u8>,
+    pub verdicts: Vec<u8>,
+    pub duties: Vec<u8>,
+    pub afters: Vec<u8>,
+}
+
+impl Lent {
+    /// A trace on a table, with other bytes for its answers than any answer has.
+    pub fn new(events: &[[u8; 14]], pairs: &[u16], table: &[u8]) -> Lent {
+        let n = events.len();
+        Lent {
+            events: events.concat(),
+            pairs: pairs.to_vec(),
+            table: table.to_vec(),
+            verdicts: vec![201; n],
+            duties: vec![202; n],
+            afters: vec![203; n],
+        }
+    }
+
+    /// Lends the buffers to the judge.
+    pub fn judge(&mut self) -> Result<usize, Refusal> {
+        judge_trace(
+            &self.events,
+            &self.pairs,
+            &mut self.table,
+            &mut self.verdicts,
+            &mut self.duties,
+            &mut self.afters,
+        )
+    }
+
+    /// Asserts that the trace is refused so, and that every buffer stays as it came.
+    pub fn refused(&self, refusal: Refusal, number: u8, place: u64) {
+        let mut lent = self.clone();
+        assert_eq!(lent.judge(), Err(refusal));
+        assert_eq!((refusal.number(), refusal.place()), (number, place));
+        assert_eq!(lent, *self);
+    }
+}
+
+/// Numbers drawn one after another, the same in every run.
+pub struct Draw(pub u64);
+
+impl Draw {
+    /// A number below a limit.
+    pub fn below(&mut self, limit: u64) -> u64 {
+        self.0 ^= self.0 << 13;
+        self.0 ^= self.0 >> 7;
+        self.0 ^= self.0 << 17;
+        (self.0 >> 11) % limit
+    }
+
+    /// A byte up to a highest one.
+    pub fn byte(&mut self, highest: u8) -> u8 {
+        self.below(u64::from(highest) + 1) as u8
+    }
+
+    /// So many bytes of any value.
+    pub fn bytes(&mut self, count: usize) -> Vec<u8> {
+        (0..count).map(|_| self.byte(255)).collect()
+    }
+}

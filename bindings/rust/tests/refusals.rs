@@ -1,0 +1,224 @@
+//! Every refusal with its number and place, and that whatever was lent stays as it came.
+
+mod common;
+
+use common::{Lent, HIGHEST, IN_ERROR, REQUESTS, SHEET};
+use korehyumo::{judge_event, Event, EventNumber, Judge, PairNumber, Refusal, StateSet};
+
+/// The definition's example on a table of five pairs.
+fn example() -> Lent {
+    Lent::new(&SHEET, &[4; 4], &[127; 5])
+}
+
+/// Asserts that a trace is refused for its lengths.
+fn refused_for_lengths(lent: &Lent) {
+    lent.refused(Refusal::Lengths, 1, 0);
+}
+
+/// A wrong length of each buffer that depends on the events, alone and together with every other fault.
+#[test]
+fn lengths() {
+    for length in [0, 1, 3, 5, 8, 56, 4_096, 5_000] {
+        let mut wrong = [example(), example(), example(), example()];
+        wrong[0].pairs.resize(length, 4);
+        wrong[1].verdicts.resize(length, 9);
+        wrong[2].duties.resize(length, 9);
+        wrong[3].afters.resize(length, 9);
+        for mut lent in wrong {
+            refused_for_lengths(&lent);
+            lent.table[0] = 128;
+            lent.events[0] = 0;
+            lent.events[1] = 2;
+            refused_for_lengths(&lent);
+        }
+    }
+}
+
+/// Event bytes that are no whole number of events, or more events or fewer than the other buffers have places for.
+#[test]
+fn lengths_of_events() {
+    for bytes in (0..=70).filter(|bytes| *bytes != 56) {
+        let mut lent = example();
+        lent.events.resize(bytes, 0);
+        refused_for_lengths(&lent);
+    }
+}
+
+/// One more event, or one more pair, than there can be.
+#[test]
+fn lengths_over_the_most() {
+    let sized = |events: usize, pairs: usize| {
+        Lent::new(&vec![IN_ERROR; events], &vec![0; events], &vec![127; pairs])
+    };
+    assert_eq!(sized(4_096, 4_096).judge(), Ok(4_096));
+    for (events, pairs) in [
+        (4_097, 4_096),
+        (4_096, 4_097),
+        (4_097, 1),
+        (0, 4_097),
+        (1, 70_000),
+    ] {
+        refused_for_lengths(&sized(events, pairs));
+    }
+}
+
+/// Each buffer empty, and all but one of them.
+#[test]
+fn empty_slices() {
+    let empty = Lent::new(&[], &[], &[]);
+    assert_eq!(empty.clone().judge(), Ok(0));
+    let mut alone = vec![empty; 5];
+    alone[0].events = SHEET[0].to_vec();
+    alone[1].pairs = vec![0];
+    alone[2].verdicts = vec![7];
+    alone[3].duties = vec![7];
+    alone[4].afters = vec![7];
+    alone.iter().for_each(refused_for_lengths);
+    Lent::new(&SHEET, &[0; 4], &[]).refused(Refusal::Pair(EventNumber(0)), 3, 0);
+}
+
+/// A set above 127, at the lowest such pair and before any event is looked at.
+#[test]
+fn sets() {
+    for set in 128..=255 {
+        let mut lent = example();
+        lent.table[3] = set;
+        lent.table[4] = 255;
+        lent.refused(Refusal::Set(PairNumber(3)), 2, 3);
+        lent.pairs[0] = 5;
+        lent.events[0] = 0;
+        lent.events[4] = 4;
+        lent.refused(Refusal::Set(PairNumber(3)), 2, 3);
+    }
+    Lent::new(&[], &[], &[127, 128]).refused(Refusal::Set(PairNumber(1)), 2, 1);
+    let mut full = vec![127; 4_096];
+    full[4_095] = 128;
+    Lent::new(&[], &[], &full).refused(Refusal::Set(PairNumber(4_095)), 2, 4_095);
+}
+
+/// A pair that the table doesn't have, before the event's bytes and any later event.
+#[test]
+fn pairs() {
+    for pair in [5, 6, 255, 256, 260, 4_096, 65_535] {
+        for event in 0..4 {
+            let refusal = Refusal::Pair(EventNumber(event as u64));
+            let mut lent = example();
+            lent.pairs[event] = pair;
+            lent.refused(refusal, 3, event as u64);
+            lent.events[event * 14] = 0;
+            lent.events[event * 14 + 13] = 8;
+            lent.pairs[3] = pair;
+            lent.refused(refusal, 3, event as u64);
+        }
+    }
+}
+
+/// Each byte one above its highest value, before the event's request and any later event; its highest value is accepted.
+#[test]
+fn ranges() {
+    for event in 0..4 {
+        let refusal = Refusal::Range(EventNumber(event as u64));
+        for (byte, highest) in HIGHEST.iter().enumerate().skip(1) {
+            let mut lent = example();
+            lent.events[event * 14 + byte] = *highest;
+            assert_eq!(lent.clone().judge(), Ok(4));
+            lent.events[event * 14 + byte] = highest + 1;
+            lent.refused(refusal, 4, event as u64);
+            lent.events[event * 14] = 0;
+            if event < 3 {
+                lent.pairs[event + 1] = 5;
+            }
+            lent.refused(refusal, 4, event as u64);
+        }
+    }
+}
+
+/// Every request that is not one of the seven, before any later event.
+#[test]
+fn requests() {
+    for event in 0..4 {
+        for request in 0..=255 {
+            let mut lent = example();
+            lent.events[event * 14] = request;
+            if REQUESTS.contains(&request) {
+                assert_eq!(lent.judge(), Ok(4));
+                continue;
+            }
+            if event < 3 {
+                lent.pairs[event + 1] = 5;
+            }
+            lent.refused(Refusal::Request(EventNumber(event as u64)), 5, event as u64);
+        }
+    }
+}
+
+/// The refusals of the last event that there can be.
+#[test]
+fn last_event() {
+    let last = EventNumber(4_095);
+    let mut lent = Lent::new(&[IN_ERROR; 4_096], &[0; 4_096], &[127]);
+    lent.events[4_095 * 14] = 3;
+    lent.refused(Refusal::Request(last), 5, 4_095);
+    lent.events[4_095 * 14 + 4] = 4;
+    lent.refused(Refusal::Range(last), 4, 4_095);
+    lent.pairs[4_095] = 1;
+    lent.refused(Refusal::Pair(last), 3, 4_095);
+}
+
+/// One event alone: the same refusals, all at place 0.
+#[test]
+fn alone() {
+    let refused = |bytes: &[u8], refusal: Refusal, number: u8| {
+        assert_eq!(judge_event(bytes), Err(refusal));
+        assert_eq!((refusal.number(), refusal.place()), (number, 0));
+    };
+    for length in (0..40).filter(|length| *length != 14) {
+        refused(&vec![1; length], Refusal::Lengths, 1);
+    }
+    refused(&[0; 70_000], Refusal::Lengths, 1);
+    let first = EventNumber(0);
+    for (byte, highest) in HIGHEST.iter().enumerate().skip(1) {
+        let mut event = SHEET[0];
+        event[byte] = *highest;
+        assert!(judge_event(event).is_ok());
+        event[byte] = highest + 1;
+        refused(&event, Refusal::Range(first), 4);
+        event[0] = 0;
+        refused(&event, Refusal::Range(first), 4);
+    }
+    for request in (0..=255).filter(|request| !REQUESTS.contains(request)) {
+        let mut event = SHEET[0];
+        event[0] = request;
+        refused(&event, Refusal::Request(first), 5);
+    }
+}
+
+/// A refused trace leaves a judge's sets as they were, and it goes on from them.
+#[test]
+fn by_name() -> Result<(), Refusal> {
+    let [gave_up, again, ..] = SHEET.map(Event::from);
+    let mut judge = Judge::new(2)?;
+    let findings = judge.judge(&[(PairNumber(1), gave_up)])?;
+    assert_eq!(findings[0].to_string(), "explained,Home,I SC");
+
+    let mut bytes = SHEET[1];
+    bytes[0] = 3;
+    let refused = [
+        (PairNumber(0), gave_up),
+        (PairNumber(1), Event::from(bytes)),
+    ];
+    assert_eq!(judge.judge(&refused), Err(Refusal::Request(EventNumber(1))));
+    bytes[13] = 8;
+    let refused = [
+        (PairNumber(0), gave_up),
+        (PairNumber(1), Event::from(bytes)),
+    ];
+    assert_eq!(judge.judge(&refused), Err(Refusal::Range(EventNumber(1))));
+    let refused = [(PairNumber(0), gave_up), (PairNumber(2), again)];
+    assert_eq!(judge.judge(&refused), Err(Refusal::Pair(EventNumber(1))));
+    assert!(judge.sets().map(StateSet::bits).eq([127, 33]));
+
+    let findings = judge.judge(&[(PairNumber(1), again)])?;
+    assert_eq!(findings[0].to_string(), "explained,none,I SC");
+    Ok(())
+}
