@@ -1,0 +1,340 @@
+//! Judges a binary capture, and tells what is unexplained and who holds each duty.
+//!
+//!     capture [FILE]
+//!
+//! A capture has a record of 16 bytes for each event: its pair's number, low byte first, then the event's bytes. It comes from
+//! the file, or from standard input where none is named. There are 4,096 pairs, each of which can be in any state at first.
+
+use korehyumo::{
+    Duty, Event, EventNumber, Finding, Judge, PairNumber, Refusal, Verdict, MOST_EVENTS, MOST_PAIRS,
+};
+use std::env;
+use std::fmt;
+use std::fs::File;
+use std::io::{self, BufWriter, Read, Write};
+use std::process::ExitCode;
+
+/// How many bytes a record has.
+const RECORD: usize = 2 + Event::BYTES;
+/// How many bytes a part has that is judged at a time.
+const PART: usize = MOST_EVENTS * RECORD;
+
+/// An event with its pair.
+type PairedEvent = (PairNumber, Event);
+
+/// Why a capture isn't judged to its end.
+#[derive(Debug)]
+enum Stop {
+    /// There is more than one word on the command line.
+    Words,
+    /// The file can't be opened.
+    NotOpened(io::Error),
+    /// The input can't be read.
+    NotRead(io::Error),
+    /// The output can't be written.
+    NotWritten(io::Error),
+    /// The input ends within a record.
+    EndsWithin(EventNumber),
+    /// The judge refuses an event.
+    Refused(u8, EventNumber),
+}
+
+impl fmt::Display for Stop {
+    fn fmt(&self, f: &mut fmt::Formatter<'_>) -> fmt::Result {
+        match self {
+            Stop::Words => write!(
+                f,
+                "it takes the name of one file, or none for standard input"
+            ),
+            Stop::NotOpened(error) => write!(f, "the file can't be opened: {error}"),
+            Stop::NotRead(error) => write!(f, "the input can't be read: {error}"),
+            Stop::NotWritten(error) => write!(f, "the output can't be written: {error}"),
+            Stop::EndsWithin(event) => write!(f, "it ends within event {event}"),
+            Stop::Refused(number, event) => write!(f, "refused with {number} at event {event}"),
+        }
+    }
+}
+
+/// How many events of a capture were judged so far, and how.
+#[derive(Default)]
+struct Counts {
+    events: u64,
+    explained: u64,
+    unexplained: u64,
+    not_judged: u64,
+}
+
+impl Counts {
+    /// The number of the event that comes so many behind those judged so far.
+    fn number(&self, behind: u64) -> EventNumber {
+        EventNumber(self.events + behind)
+    }
+
+    /// Counts an event.
+    fn add(&mut self, verdict: Verdict) {
+        self.events += 1;
+        match verdict {
+            Verdict::Explained => self.explained += 1,
+            Verdict::Unexplained => self.unexplained += 1,
+            Verdict::NotJudged => self.not_judged += 1,
+            // A later library's verdict, which has a line of its own.
+            _ => (),
+        }
+    }
+}
+
+impl fmt::Display for Counts {
+    fn fmt(&self, f: &mut fmt::Formatter<'_>) -> fmt::Result {
+        write!(f, "{} events: {} explained, ", self.events, self.explained)?;
+        write!(
+            f,
+            "{} unexplained, {} not judged",
+            self.unexplained, self.not_judged
+        )
+    }
+}
+
+fn main() -> ExitCode {
+    let mut out = BufWriter::new(io::stdout().lock());
+    let judged = input().and_then(|input| judge_capture(input, &mut out));
+    // What was told before a stop is written before the stop is.
+    let written = out.flush().map_err(Stop::NotWritten);
+    match judged.and(written) {
+        Ok(()) => ExitCode::SUCCESS,
+        Err(stop) => {
+            // There is nowhere else to tell of a standard error that can't be written.
+            let _ = writeln!(io::stderr(), "capture: {stop}");
+            ExitCode::FAILURE
+        }
+    }
+}
+
+/// The file that the command line names, or standard input.
+fn input() -> Result<Box<dyn Read>, Stop> {
+    let mut words = env::args_os().skip(1);
+    match (words.next(), words.next()) {
+        (None, _) => Ok(Box::new(io::stdin())),
+        (Some(name), None) => match File::open(name) {
+            Ok(file) => Ok(Box::new(file)),
+            Err(error) => Err(Stop::NotOpened(error)),
+        },
+        _ => Err(Stop::Words),
+    }
+}
+
+/// Judges a capture part by part, and tells what it finds as it goes.
+fn judge_capture(mut input: impl Read, out: &mut impl Write) -> Result<(), Stop> {
+    let mut judge =
+        Judge::new(MOST_PAIRS).map_err(|refusal| refused(refusal, &Counts::default()))?;
+    let mut counts = Counts::default();
+    let mut part = Vec::with_capacity(PART);
+    loop {
+        part.clear();
+        let read = input.by_ref().take(PART as u64).read_to_end(&mut part);
+        read.map_err(Stop::NotRead)?;
+        judge_part(&mut judge, &part, &mut counts, out)?;
+        if part.len() < PART {
+            return writeln!(out, "{counts}").map_err(Stop::NotWritten);
+        }
+    }
+}
+
+/// Judges one part of a capture, and tells what it finds.
+fn judge_part(
+    judge: &mut Judge,
+    part: &[u8],
+    counts: &mut Counts,
+    out: &mut impl Write,
+) -> Result<(), Stop> {
+    if part.len() % RECORD != 0 {
+        return Err(Stop::EndsWithin(
+            counts.number((part.len() / RECORD) as u64),
+        ));
+    }
+    let trace: Vec<PairedEvent> = part.chunks_exact(RECORD).map(paired_event).collect();
+    let findings = judge
+        .judge(&trace)
+        .map_err(|refusal| refused(refusal, counts))?;
+    for ((pair, _), finding) in trace.iter().zip(findings) {
+        tell(out, counts.number(0), *pair, finding).map_err(Stop::NotWritten)?;
+        counts.add(finding.verdict);
+    }
+    // Whoever watches sees a part's lines before the next part has arrived.
+    out.flush().map_err(Stop::NotWritten)
+}
+
+/// The event of a record, with its pair.
+fn paired_event(record: &[u8]) -> PairedEvent {
+    let mut event = [0; Event::BYTES];
+    event.copy_from_slice(&record[2..]);
+    let pair = u16::from_le_bytes([record[0], record[1]]);
+    (PairNumber(pair), Event::from(event))
+}
+
+/// The refusal of an event of the part that comes behind the events judged so far.
+fn refused(refusal: Refusal, judged: &Counts) -> Stop {
+    Stop::Refused(refusal.number(), judged.number(refusal.place()))
+}
+
+/// Tells what is found of an event, where there is something to tell.
+fn tell(
+    out: &mut impl Write,
+    event: EventNumber,
+    pair: PairNumber,
+    finding: &Finding,
+) -> io::Result<()> {
+    match finding.verdict {
+        Verdict::Explained | Verdict::NotJudged => (),
+        Verdict::Unexplained => writeln!(out, "event {event}, pair {pair}: unexplained")?,
+        other => writeln!(out, "event {event}, pair {pair}: {other}")?,
+    }
+    match finding.duty {
+        Duty::None => Ok(()),
+        Duty::Home => writeln!(out, "event {event}, pair {pair}: Home holds the duty"),
+        Duty::Requester => writeln!(
+            out,
+            "event {event}, pair {pair}: the Requester holds the duty"
+        ),
+        Duty::Lost => writeln!(out, "event {event}, pair {pair}: the duty is lost"),
+        other => writeln!(out, "event {event}, pair {pair}: {other}"),
+    }
+}
+
+#[cfg(test)]
+mod tests {
+    use super::*;
+
+    /// SnpShared answered by SnpRespData_SC_PD, as on the bench sheet.
+    const GAVE_UP: [u8; 14] = [1, 0, 0, 0, 0, 1, 1, 5, 0, 0, 0, 0, 0, 7];
+    /// SnpClean answered by SnpRespData_SD, as on the bench sheet.
+    const KEPT: [u8; 14] = [2, 0, 0, 0, 0, 1, 1, 3, 0, 0, 0, 0, 0, 7];
+    /// SnpCleanFwd answered by SnpResp_SC_Fwded_SD_PD, entry e of the notebook.
+    const PASSED_ON: [u8; 14] = [18, 0, 0, 0, 0, 0, 9, 1, 7, 0, 0, 1, 7, 7];
+    /// SnpShared answered by SnpResp_I with NDERR, entry m of the notebook.
+    const IN_ERROR: [u8; 14] = [1, 0, 0, 0, 0, 0, 1, 0, 0, 0, 3, 0, 0, 7];
+
+    /// The records of events, each of the pair with it.
+    fn records(events: &[(u16, [u8; 14])]) -> Vec<u8> {
+        let record = |(pair, event): &(u16, [u8; 14])| [&pair.to_le_bytes()[..], event].concat();
+        events.iter().flat_map(record).collect()
+    }
+
+    /// What is told of a capture, and how its judging stops where it does.
+    fn told(capture: &[u8]) -> (String, Option<String>) {
+        let mut out = Vec::new();
+        let judged = judge_capture(capture, &mut out);
+        (
+            String::from_utf8(out).unwrap(),
+            judged.err().map(|stop| stop.to_string()),
+        )
+    }
+
+    /// Each line that can be told, and the counts.
+    #[test]
+    fn each_line() {
+        let capture = records(&[
+            (0, GAVE_UP),
+            (4_095, PASSED_ON),
+            (258, IN_ERROR),
+            (0, KEPT),
+            (0, KEPT),
+            (258, IN_ERROR),
+        ]);
+        let lines = "event 0, pair 0: Home holds the duty\n\
+                     event 1, pair 4095: the Requester holds the duty\n\
+                     event 2, pair 258: the duty is lost\n\
+                     event 3, pair 0: unexplained\n\
+                     6 events: 4 explained, 1 unexplained, 1 not judged\n";
+        assert_eq!(told(&capture), (lines.to_string(), None));
+    }
+
+    /// A capture without events.
+    #[test]
+    fn empty() {
+        let line = "0 events: 0 explained, 0 unexplained, 0 not judged\n";
+        assert_eq!(told(&[]), (line.to_string(), None));
+    }
+
+    /// Sets are carried on from part to part, and events are counted over the whole capture.
+    #[test]
+    fn several_parts() {
+        let mut capture = records(&[(7, GAVE_UP)]);
+        capture.extend(records(&vec![(9, IN_ERROR); 2 * MOST_EVENTS - 1]));
+        let first = "event 0, pair 7: Home holds the duty\nevent 1, pair 9: the duty is lost\n";
+        let whole = format!("{first}8192 events: 8192 explained, 0 unexplained, 0 not judged\n");
+        assert_eq!(told(&capture), (whole, None));
+        capture.extend(records(&[(7, KEPT)]));
+        let last = "event 8192, pair 7: unexplained\n8193 events: 8192 explained, 1 unexplained, 0 not judged\n";
+        assert_eq!(told(&capture), (format!("{first}{last}"), None));
+    }
+
+    /// A refusal has its place in the whole capture, and the lines of the parts before it stand.
+    #[test]
+    fn refused_parts() {
+        let mut capture = records(&vec![(9, IN_ERROR); MOST_EVENTS]);
+        let first = "event 0, pair 9: the duty is lost\n".to_string();
+        let refused = |capture: &[u8], stop: &str| {
+            assert_eq!(told(capture), (first.clone(), Some(stop.to_string())))
+        };
+        capture.extend(records(&[(7, GAVE_UP), (4_096, KEPT)]));
+        refused(&capture, "refused with 3 at event 4097");
+        let event = MOST_EVENTS * RECORD + 2;
+        capture[event] = 3;
+        refused(&capture, "refused with 5 at event 4096");
+        capture[event + 13] = 8;
+        refused(&capture, "refused with 4 at event 4096");
+    }
+
+    /// A part that ends within a record is not judged.
+    #[test]
+    fn cut_records() {
+        let cut_at = |bytes: usize| {
+            let capture = records(&[(7, GAVE_UP), (7, GAVE_UP)]);
+            told(&capture[..bytes])
+        };
+        for bytes in 1..2 * RECORD {
+            let stop = format!("it ends within event {}", bytes / RECORD);
+            if bytes != RECORD {
+                assert_eq!(cut_at(bytes), (String::new(), Some(stop)));
+            }
+        }
+        let mut capture = records(&vec![(9, IN_ERROR); MOST_EVENTS + 1]);
+        capture.extend([7, 0, 1]);
+        let first = "event 0, pair 9: the duty is lost\n".to_string();
+        assert_eq!(
+            told(&capture),
+            (first, Some("it ends within event 4097".to_string()))
+        );
+    }
+
+    /// Input and output that give an error.
+    struct Broken;
+
+    impl Read for Broken {
+        fn read(&mut self, _: &mut [u8]) -> io::Result<usize> {
+            Err(io::ErrorKind::Other.into())
+        }
+    }
+
+    impl Write for Broken {
+        fn write(&mut self, _: &[u8]) -> io::Result<usize> {
+            Err(io::ErrorKind::Other.into())
+        }
+
+        fn flush(&mut self) -> io::Result<()> {
+            Err(io::ErrorKind::Other.into())
+        }
+    }
+
+    /// An input that can't be read and an output that can't be written are told, and no count is.
+    #[test]
+    fn broken_files() {
+        let mut out = Vec::new();
+        let unread = records(&[(7, GAVE_UP)]);
+        let stop = judge_capture(unread.chain(Broken), &mut out).unwrap_err();
+        assert!(matches!(stop, Stop::NotRead(_)));
+        assert_eq!(out, b"");
+        let stop = judge_capture(&unread[..], &mut Broken).unwrap_err();
+        assert!(matches!(stop, Stop::NotWritten(_)));
+    }
+}
