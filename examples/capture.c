@@ -1,7 +1,9 @@
-/* Reads a binary capture, judges it, and prints the events that nothing explains and who holds each duty: capture [FILE]
+/* Reads a binary capture, judges it, and prints the events that nothing explains and who holds each duty: capture
+ * [FILE]
  *
- * A capture is records of 16 bytes, one an event: its pair's number in two bytes, low byte first, then the event's 14 bytes. Each of the 4,096 pairs
- * starts from any state. The capture is judged 4,096 events at a time, each part from the sets that the one before it left. */
+ * A capture is records of 16 bytes, one an event: its pair's number in two bytes, low byte first, then the event's 14
+ * bytes. Each of the 4,096 pairs starts from any state. The capture is judged 4,096 events at a time, each part from
+ * the sets that the one before it left. */
 
 #include <errno.h>
 #include <stdio.h>

@@ -1,4 +1,5 @@
-/* Holds the C interface at its border to what the header says: lengths, null, places, and that a refused trace writes nothing. */
+/* Holds the C interface at its border to what the header says: lengths, null, places, and that a refused trace writes
+ * nothing. */
 
 #include <stdio.h>
 #include <string.h>

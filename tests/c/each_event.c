@@ -1,5 +1,6 @@
-/* Judges events one by one through the C interface: records of 41 bytes from standard input, answers of 16 to standard output, as
- * ./judge-events --help says. The event stands before a page that can't be touched, and each answer is written over bytes that it must change. */
+/* Judges events one by one through the C interface: records of 41 bytes from standard input, answers of 16 to standard
+ * output, as ./judge-events --help says. The event stands before a page that can't be touched, and each answer is
+ * written over bytes that it must change. */
 
 #include "rooms.h"
 #include "korehyumo.h"

@@ -1,6 +1,6 @@
-/* Judges whole traces one after another through the C interface: cases from standard input, answers to standard output, as ./judge-traces --help
- * says. What is lent stands between pages that can't be touched, the events and pair numbers can't be written during the call, and every other
- * case lends null for no bytes. */
+/* Judges whole traces one after another through the C interface: cases from standard input, answers to standard output,
+ * as ./judge-traces --help says. What is lent stands between pages that can't be touched, the events and pair numbers
+ * can't be written during the call, and every other case lends null for no bytes. */
 
 #include "rooms.h"
 #include "korehyumo.h"
@@ -64,7 +64,8 @@ static uint64_t judge(struct room *rooms, const struct buffer *buffers, int null
     int null = null_for_none;
     let_write(&rooms[EVENTS], 0);
     let_write(&rooms[PAIRS], 0);
-    uint64_t result = korehyumo_trace(lent(&b[EVENTS], null), b[EVENTS].len, (const uint16_t *)(void *)lent(&b[PAIRS], null), b[PAIRS].len / 2,
+    const uint16_t *pairs = (const uint16_t *)(void *)lent(&b[PAIRS], null);
+    uint64_t result = korehyumo_trace(lent(&b[EVENTS], null), b[EVENTS].len, pairs, b[PAIRS].len / 2,
                                       lent(&b[TABLE], null), b[TABLE].len, lent(&b[VERDICTS], null), b[VERDICTS].len,
                                       lent(&b[DUTIES], null), b[DUTIES].len, lent(&b[AFTERS], null), b[AFTERS].len);
     let_write(&rooms[EVENTS], 1);

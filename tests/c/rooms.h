@@ -1,4 +1,5 @@
-/* Memory to lend to the judge: a byte read or written outside of what is lent either ends the program or shows in the bytes kept beside it. */
+/* Memory to lend to the judge: a byte read or written outside of what is lent either ends the program or shows in the
+ * bytes kept beside it. */
 #ifndef ROOMS_H
 #define ROOMS_H
 
@@ -44,7 +45,7 @@ static inline struct room make_room(size_t bytes)
     return (struct room){all + PAGE, size};
 }
 
-/* Places a buffer at the end of a room or at its start, with the bytes beside it kept; the room has to be large enough. */
+/* Places a buffer at the end of a room or at its start, with the bytes beside it kept; the room is large enough. */
 static inline struct buffer place(struct room *room, size_t len, int at_end)
 {
     struct buffer buffer = {room, at_end ? room->pages + room->size - len : room->pages, len};

@@ -17,8 +17,8 @@ fn in_one(number: u8, place: usize) -> u64
     (place as u64) * 256 + (number as u64)
 }
 
-// One event judged alone: the refusal and its place in one, and for each of the seven states before, the set of states after and the duty. A
-// refused event gives seven empty sets and duties 0.
+// One event judged alone: the refusal and its place in one, and for each of the seven states before, the set of states after and the
+// duty. A refused event gives seven empty sets and duties 0.
 #[no_mangle]
 pub extern "C" fn korehyumo_event(event: &[u8], sets: &mut [u8; 7], duties: &mut [u8; 7]) -> u64
     ensures { λ r. ⌜ eventCall r (now (sets .exit)) (now (duties .exit)) ≡ eventTold (judgedAlone issueE (now (event .entry))) ⌝ }
