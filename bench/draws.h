@@ -104,7 +104,7 @@ static inline int try_permitted(struct drawn *drawn, unsigned state, unsigned wa
             drawn->event.tag_op = (unsigned char)tag_op;
             if (permits(row, &drawn->event)) {
                 fitting[count] = drawn->event;
-                after[count++] = row->after & wanted;
+                after[count++] = (unsigned char)(row->after & wanted);
             }
         }
     }

@@ -1,0 +1,462 @@
+/* A whole trace judged by a program written by hand for speed: all events are tested eight at a time, then each is looked up in tables
+ * that are made from the rows. */
+
+#include <stdio.h>
+#include <stdlib.h>
+#include <string.h>
+#ifdef __SSE2__
+#include <emmintrin.h>
+#endif
+#include "judges.h"
+#include "rows.h"
+#include "wire.h"
+
+/* How many events are tested at a time. */
+#define BLOCK 8u
+
+/* The bits that no good byte of an event has, the request's left out: every range ends at a power of two. */
+static const uint8_t never_set[EVENT_BYTES] = {0, 254, 254, 254, 252, 254, 224, 248, 248, 252, 252, 254, 248, 248};
+
+/* The same over the first eight bytes and the last eight, first byte lowest. */
+#define NEVER_SET_IN_FRONT 0xf8e0fefcfefefe00u
+#define NEVER_SET_IN_BACK 0xf8f8fefcfcf8f8e0u
+
+/* The codes of the requests as a set of bits. */
+#define REQUEST_BITS (1u << 1 | 1u << 2 | 1u << 4 | 1u << 18 | 1u << 20 | 1u << 21 | 1u << 22)
+
+/* What the first six bytes of an event are multiplied by for the highest bits to tell what was asked; found by trial, like the next. */
+#define ASKED_FACTOR 0x1108020400800000u
+
+/* How many of the highest bits that takes. */
+#define ASKED_BITS 9
+
+/* What the last six bytes are multiplied by for the highest bits to tell the rest of the answer. */
+#define REST_FACTOR 0x1020000800220000u
+
+/* How many of the highest bits that takes. */
+#define REST_BITS 14
+
+/* Room for what can be asked with the channel of the answer, and for the pairs of opcode and Resp. */
+enum { ASKED = 128, MESSAGES = 16 };
+
+/* Room for the kinds of rest, for what can be seen of the state after, and for both together. */
+enum { RESTS = 32, SEEN = 4, ENDINGS = RESTS * SEEN };
+
+/* Room for lines of effects, and for the effects. */
+enum { LINES = 64, EFFECTS = 32 };
+
+/* What an event does: the states it is permitted from, those it leaves, who takes the duty, and the states from which it is lost. */
+struct effect {
+    uint8_t from;
+    uint8_t after;
+    uint8_t duty;
+    uint8_t lost_from;
+};
+
+/* All that is looked up, in one place so that one address leads to it. */
+static struct {
+    /* What was asked and the channel, by the highest bits of the first product, as a place among the lines. */
+    uint16_t asked[1 << ASKED_BITS];
+
+    /* The message without its channel, by opcode and Resp times 256, 0 where no row has it. */
+    uint8_t message[8 * 256];
+
+    /* The place of the line of effects by what was asked and the message. */
+    uint16_t line[ASKED * MESSAGES];
+
+    /* The place in a line, by the highest bits of the second product, 0 where no row permits anything. */
+    uint8_t ending[1 << REST_BITS];
+
+    /* The effects by line and place in it. */
+    uint8_t effect[LINES * ENDINGS];
+
+    /* The set after, the verdict and the duty in a byte each, by the set before and the effect. */
+    uint32_t finding[(ALL_STATES + 1) * EFFECTS];
+} at;
+
+/* Eight bytes as a number, the first as its lowest digits. */
+static inline uint64_t load(const uint8_t *bytes)
+{
+    return (uint64_t)bytes[0] | (uint64_t)bytes[1] << 8 | (uint64_t)bytes[2] << 16 | (uint64_t)bytes[3] << 24
+        | (uint64_t)bytes[4] << 32 | (uint64_t)bytes[5] << 40 | (uint64_t)bytes[6] << 48 | (uint64_t)bytes[7] << 56;
+}
+
+/* The place in at.asked by the first eight bytes, of which the last two don't matter: the factor ends in 16 zeros. */
+static inline size_t asked_place(uint64_t front)
+{
+    return (size_t)(front * ASKED_FACTOR >> (64 - ASKED_BITS));
+}
+
+/* The place in at.ending by the last eight bytes, of which the first two are left out. */
+static inline size_t rest_place(uint64_t back)
+{
+    return (size_t)((back >> 16) * REST_FACTOR >> (64 - REST_BITS));
+}
+
+/* The refusal of one event, if any. */
+static inline unsigned fault_of(const uint8_t *event, size_t pair, size_t table_len)
+{
+    if (pair >= table_len)
+        return NO_PAIR;
+    if ((load(event) & NEVER_SET_IN_FRONT) | (load(event + EVENT_BYTES - 8) & NEVER_SET_IN_BACK))
+        return OUT_OF_RANGE;
+    unsigned request = event[REQUEST_AT];
+    return request < 32 && REQUEST_BITS >> request & 1 ? ACCEPTED : OTHER_REQUEST;
+}
+
+#ifdef __SSE2__
+
+/* What the bytes of eight events are tested with, sixteen bytes at a time: bits that no good byte has, and where the requests are. */
+static _Alignas(16) uint8_t tested_with[2][BLOCK * EVENT_BYTES];
+
+/* Fills in what eight events are tested with. */
+static void put_tested_with(void)
+{
+    for (unsigned byte = 0; byte < BLOCK * EVENT_BYTES; byte++) {
+        tested_with[0][byte] = never_set[byte % EVENT_BYTES];
+        tested_with[1][byte] = byte % EVENT_BYTES == REQUEST_AT ? 255 : 0;
+    }
+}
+
+/* Which of eight requests are of the seven, 255 in both bytes for those. */
+static inline __m128i known(__m128i requests)
+{
+    __m128i not_sixteen = _mm_and_si128(requests, _mm_set1_epi16(~16));
+    __m128i two_or_four = _mm_or_si128(_mm_cmpeq_epi16(not_sixteen, _mm_set1_epi16(2)),
+                                       _mm_cmpeq_epi16(not_sixteen, _mm_set1_epi16(4)));
+    __m128i unique = _mm_or_si128(_mm_cmpeq_epi16(requests, _mm_set1_epi16(21)), _mm_cmpeq_epi16(requests, _mm_set1_epi16(22)));
+    return _mm_or_si128(_mm_or_si128(two_or_four, unique), _mm_cmpeq_epi16(requests, _mm_set1_epi16(1)));
+}
+
+/* Whether eight events are all good. The eight requests stand two bytes apart, since sixteen bytes are an event and two more. */
+static inline int block_is_good(const uint8_t *events, const uint16_t *pairs, size_t table_len)
+{
+    if (table_len == 0)
+        return 0;
+    __m128i outside = _mm_subs_epu16(_mm_loadu_si128((const __m128i *)pairs), _mm_set1_epi16((short)(table_len - 1)));
+    __m128i requests = _mm_setzero_si128();
+    for (unsigned byte = 0; byte < BLOCK * EVENT_BYTES; byte += 16) {
+        __m128i part = _mm_loadu_si128((const __m128i *)(events + byte));
+        outside = _mm_or_si128(outside, _mm_and_si128(part, *(const __m128i *)&tested_with[0][byte]));
+        requests = _mm_or_si128(requests, _mm_and_si128(part, *(const __m128i *)&tested_with[1][byte]));
+    }
+    __m128i good = _mm_and_si128(_mm_cmpeq_epi16(outside, _mm_setzero_si128()), known(requests));
+    return _mm_movemask_epi8(good) == 0xffff;
+}
+
+#else
+
+/* There is nothing to fill in where events are tested one by one. */
+static void put_tested_with(void)
+{
+}
+
+/* Whether eight events are all good. */
+static inline int block_is_good(const uint8_t *events, const uint16_t *pairs, size_t table_len)
+{
+    unsigned faults = 0;
+    for (unsigned k = 0; k < BLOCK; k++)
+        faults |= fault_of(events + k * EVENT_BYTES, pairs[k], table_len);
+    return faults == ACCEPTED;
+}
+
+#endif
+
+/* The first refusal of the events in their order, or their number. */
+static uint64_t test_events(const uint8_t *events, const uint16_t *pairs, size_t n, size_t table_len)
+{
+    size_t k = 0;
+    while (n - k >= BLOCK && block_is_good(events + k * EVENT_BYTES, pairs + k, table_len))
+        k += BLOCK;
+    for (; k < n; k++) {
+        unsigned fault = fault_of(events + k * EVENT_BYTES, pairs[k], table_len);
+        if (fault)
+            return k * 256 + fault;
+    }
+    return n * 256;
+}
+
+/* The refusal of the lowest set above 127, or 0. */
+static uint64_t test_table(const uint8_t *table, size_t table_len)
+{
+    uint8_t all = 0;
+    for (size_t pair = 0; pair < table_len; pair++)
+        all |= table[pair];
+    if (all <= ALL_STATES)
+        return 0;
+    size_t lowest = 0;
+    while (table[lowest] <= ALL_STATES)
+        lowest++;
+    return lowest * 256 + NO_SET;
+}
+
+/* Judges good events one after another; apart from its caller, whose values would take registers from it. */
+__attribute__((noinline)) static void judge_events(const uint8_t *restrict events, const uint16_t *restrict pairs, size_t n, uint8_t *restrict table,
+                         uint8_t *restrict verdicts, uint8_t *restrict duties, uint8_t *restrict afters)
+{
+    for (size_t k = 0; k < n; k++, events += EVENT_BYTES) {
+        uint64_t front = load(events), back = load(events + EVENT_BYTES - 8);
+        size_t line = at.line[(size_t)at.asked[asked_place(front)] + at.message[back & 0xffff]];
+        size_t effect = at.effect[line + at.ending[rest_place(back)]];
+        uint8_t *set = &table[pairs[k]];
+        uint32_t finding = at.finding[(size_t)*set * EFFECTS + effect];
+        *set = (uint8_t)finding;
+        afters[k] = (uint8_t)finding;
+        verdicts[k] = (uint8_t)(finding >> 8);
+        duties[k] = (uint8_t)(finding >> 16);
+    }
+}
+
+uint64_t by_table_trace(const uint8_t *events, size_t events_len, const uint16_t *pairs, size_t pairs_len, uint8_t *table,
+                        size_t table_len, uint8_t *verdicts, size_t verdicts_len, uint8_t *duties, size_t duties_len,
+                        uint8_t *afters, size_t afters_len)
+{
+    size_t n = events_len / EVENT_BYTES;
+    if (events_len != n * EVENT_BYTES || n > MOST || table_len > MOST || pairs_len != n || verdicts_len != n || duties_len != n
+        || afters_len != n)
+        return WRONG_LENGTH;
+    uint64_t outcome = test_table(table, table_len);
+    if (outcome == 0)
+        outcome = test_events(events, pairs, n, table_len);
+    if (outcome % 256 == ACCEPTED)
+        judge_events(events, pairs, n, table, verdicts, duties, afters);
+    return outcome;
+}
+
+/* The rest of an answer: what is forwarded, the tag operation, the error field. */
+struct rest {
+    unsigned forward;
+    unsigned tag_op;
+    unsigned resp_err;
+};
+
+/* The kinds of rest that some row permits, from 1. */
+static struct rest rests[RESTS];
+
+/* The states after that some row leaves, each once and not seen first. */
+static unsigned seen[SEEN] = {STATE_NOT_SEEN};
+
+/* The opcodes and Resps that rows have, from 1. */
+static uint8_t messages[MESSAGES][2];
+
+/* The effects, of which the first is nothing. */
+static struct effect effects[EFFECTS];
+
+/* How many of each there are so far. */
+static unsigned rest_count = 1, seen_count = 1, message_count = 1, effect_count = 1, line_count;
+
+/* Ends the program where the rows don't fit the tables. */
+static void must(int holds, const char *what)
+{
+    if (holds)
+        return;
+    fprintf(stderr, "by_table: %s\n", what);
+    exit(2);
+}
+
+/* The place of what was asked among all that can be, where Clean tags permit what Invalid ones do. */
+static unsigned asked_number(unsigned request, unsigned flags, unsigned tag, unsigned channel)
+{
+    unsigned kind = kind_of(request, flags >> 2);
+    return (kind * 4 + (flags & 3)) * 8 + (tag == TAG_CLEAN ? TAG_INVALID : tag) * 2 + channel;
+}
+
+/* Fills in the place of what was asked for each request, flags, tag state and channel. */
+static void put_asked(void)
+{
+    memset(at.asked, 255, sizeof at.asked);
+    for (unsigned n = 0; n < REQUESTS * 64; n++) {
+        unsigned request = n / 64, flags = n & 7, tag = n >> 3 & 3, channel = n >> 5 & 1;
+        uint8_t bytes[8] = {request_codes[request], flags & 1, flags >> 1 & 1, (uint8_t)(flags >> 2), (uint8_t)tag, (uint8_t)channel};
+        uint16_t *asked = &at.asked[asked_place(load(bytes))];
+        unsigned number = asked_number(request, flags, tag, channel) * MESSAGES;
+        must(*asked == 0xffff || *asked == number, "two things asked have one place");
+        *asked = (uint16_t)number;
+    }
+}
+
+/* Fills in the messages of all answers. */
+static void put_messages(void)
+{
+    for (unsigned response = 0; response < RESPONSES; response++) {
+        const uint8_t *codes = response_codes[response];
+        uint8_t *message = &at.message[codes[1] + 256 * codes[2]];
+        if (*message)
+            continue;
+        must(message_count < MESSAGES, "too many messages");
+        messages[message_count][0] = codes[1];
+        messages[message_count][1] = codes[2];
+        *message = (uint8_t)message_count++;
+    }
+}
+
+/* Whether some row permits the rest of an answer, whatever else there is. */
+static int some_row_permits(const struct rest *rest)
+{
+    for (unsigned n = 0; n < ROWS * KINDS * 4 * TAGS; n++) {
+        const struct row *row = &rows[n / (KINDS * 4 * TAGS)];
+        struct event event = {
+            .kind = n / (4 * TAGS) % KINDS, .ret_to_src = n & 1, .do_not_go_to_sd = n >> 1 & 1, .tag = n >> 2 & 3,
+            .response = row->response, .tag_op = (unsigned char)rest->tag_op, .resp_err = (unsigned char)rest->resp_err,
+            .forward = (unsigned char)rest->forward,
+        };
+        if (permits(row, &event))
+            return 1;
+    }
+    return 0;
+}
+
+/* Lists the kinds of rest that some row permits. */
+static void put_rests(void)
+{
+    for (unsigned n = 0; n < FORWARDS * TAG_OPS * RESP_ERRS; n++) {
+        struct rest rest = {n / (TAG_OPS * RESP_ERRS), n / RESP_ERRS % TAG_OPS, n % RESP_ERRS};
+        if (!some_row_permits(&rest))
+            continue;
+        must(rest_count < RESTS, "too many kinds of rest");
+        rests[rest_count++] = rest;
+    }
+}
+
+/* Lists the states after that some row leaves. */
+static void put_seen(void)
+{
+    unsigned left = 0;
+    for (const struct row *row = rows; row < rows + ROWS; row++)
+        left |= row->after;
+    for (unsigned state = 0; state < STATES; state++)
+        if (left & ONLY(state)) {
+            must(seen_count < SEEN, "too many states after");
+            seen[seen_count++] = state;
+        }
+}
+
+/* The place in a line of the last six bytes of an event, 0 where no row permits them. */
+static unsigned ending_of(const uint8_t *bytes)
+{
+    unsigned rest = 1, final = 0;
+    while (rest < rest_count
+           && (bytes[0] != forward_codes[rests[rest].forward] || bytes[1] != rests[rest].tag_op || bytes[2] != rests[rest].resp_err
+               || bytes[3] != (rests[rest].forward != NO_FORWARD) || bytes[4] != forward_codes[rests[rest].forward]))
+        rest++;
+    while (final < seen_count && bytes[5] != seen[final])
+        final++;
+    return rest < rest_count && final < seen_count ? rest * SEEN + final : 0;
+}
+
+/* Fills in the places in a line for all that the last six bytes can be. */
+static void put_endings(void)
+{
+    static uint8_t filled[1 << REST_BITS];
+    for (unsigned n = 0; n < 1u << REST_BITS; n++) {
+        uint8_t bytes[8] = {0, 0, n & 7, n >> 3 & 3, n >> 5 & 3, n >> 7 & 1, n >> 8 & 7, (uint8_t)(n >> 11)};
+        unsigned ending = ending_of(bytes + 2);
+        size_t place = rest_place(load(bytes));
+        must(!filled[place] || at.ending[place] == ending, "two endings have one place");
+        filled[place] = 1;
+        at.ending[place] = (uint8_t)ending;
+    }
+}
+
+/* The number of an effect, which is listed where it is new. */
+static unsigned effect_number(struct effect effect)
+{
+    if (effect.from == 0 || effect.after == 0)
+        return 0;
+    unsigned n = 1;
+    while (n < effect_count && memcmp(&effects[n], &effect, sizeof effect) != 0)
+        n++;
+    must(n < EFFECTS, "too many effects");
+    effects[n] = effect;
+    effect_count += n == effect_count;
+    return n;
+}
+
+/* What an event does whose state after was not seen; the rows leave the same states from each state before. */
+static struct effect effect_of(const struct event *event)
+{
+    struct effect effect = {0, 0, (uint8_t)duty_of(event->response), event->resp_err == NDERR ? DIRTY_STATES : 0};
+    for (const struct row *row = rows; row < rows + ROWS; row++)
+        if (permits(row, event)) {
+            must(effect.from == 0 || effect.after == row->after, "an event leaves different states");
+            effect.from |= (uint8_t)ONLY(row->before);
+            effect.after = row->after;
+        }
+    return effect;
+}
+
+/* The answer of a channel, a message and what is forwarded, or RESPONSES where there is none. */
+static unsigned response_of(unsigned channel, unsigned message, unsigned forward)
+{
+    unsigned n = 0;
+    while (n < RESPONSES
+           && (response_codes[n][0] != channel || response_codes[n][1] != messages[message][0]
+               || response_codes[n][2] != messages[message][1] || response_codes[n][3] != forward_codes[forward]))
+        n++;
+    return n;
+}
+
+/* Fills in one rest of a line of effects: the effect for each state after that can be seen. */
+static void put_effects(uint8_t *four, unsigned asked, unsigned message, const struct rest *rest)
+{
+    unsigned response = response_of(asked & 1, message, rest->forward);
+    struct event event = {
+        .kind = (unsigned char)(asked >> 5), .ret_to_src = asked >> 3 & 1, .do_not_go_to_sd = asked >> 4 & 1, .tag = asked >> 1 & 3,
+        .response = (unsigned char)response, .tag_op = (unsigned char)rest->tag_op, .resp_err = (unsigned char)rest->resp_err,
+        .forward = (unsigned char)rest->forward,
+    };
+    if (response == RESPONSES)
+        return;
+    struct effect any = effect_of(&event);
+    for (unsigned final = 0; final < seen_count; final++) {
+        struct effect effect = any;
+        if (seen[final] != STATE_NOT_SEEN)
+            effect.after &= (uint8_t)ONLY(seen[final]);
+        four[final] = (uint8_t)effect_number(effect);
+    }
+}
+
+/* Fills in the line of effects for each thing asked and each message; equal lines are kept once. */
+static void put_lines(void)
+{
+    for (unsigned place = 0; place < ASKED * MESSAGES; place++) {
+        uint8_t line[ENDINGS] = {0};
+        unsigned message = place % MESSAGES, n = 0;
+        for (unsigned rest = 1; message && message < message_count && rest < rest_count; rest++)
+            put_effects(line + rest * SEEN, place / MESSAGES, message, &rests[rest]);
+        while (n < line_count && memcmp(at.effect + n * ENDINGS, line, ENDINGS) != 0)
+            n++;
+        must(n < LINES, "too many lines of effects");
+        memcpy(at.effect + n * ENDINGS, line, ENDINGS);
+        line_count += n == line_count;
+        at.line[place] = (uint16_t)(n * ENDINGS);
+    }
+}
+
+/* Fills in what each effect leaves of each set. */
+static void put_findings(void)
+{
+    for (unsigned n = 0; n < (ALL_STATES + 1) * EFFECTS; n++) {
+        unsigned set = n / EFFECTS;
+        const struct effect *effect = &effects[n % EFFECTS];
+        if (set & effect->from)
+            at.finding[n] = effect->after | (unsigned)EXPLAINED << 8
+                | (unsigned)(set & effect->lost_from ? DUTY_LOST : effect->duty) << 16;
+        else
+            at.finding[n] = (unsigned)(set ? UNEXPLAINED : NOT_JUDGED) << 8;
+    }
+}
+
+void judges_ready(void)
+{
+    if (line_count > 0)
+        return;
+    put_tested_with();
+    put_asked();
+    put_messages();
+    put_rests();
+    put_seen();
+    put_endings();
+    put_lines();
+    put_findings();
+}

@@ -1,0 +1,420 @@
+/* The judges compared byte for byte: on the measured traces, on sweeps over all that an event can say, and on drawn traces. */
+
+#define _DEFAULT_SOURCE
+#include <signal.h>
+#include <stdio.h>
+#include <stdlib.h>
+#include <string.h>
+#include <sys/mman.h>
+#include <unistd.h>
+#include "made.h"
+#include "traces.h"
+
+/* Room for the events and the pair numbers of a trace, of which one more than allowed is tried. */
+enum { EVENTS_ROOM = (MOST + 4) * EVENT_BYTES, NUMBERS_ROOM = MOST + 4 };
+
+/* Room for each buffer that is written, and the bytes before and behind it that must stay. */
+enum { BUFFER_ROOM = MOST + 4, GUARD = 32, AREA = 4 * (BUFFER_ROOM + 2 * GUARD) };
+
+/* The buffers that are written. */
+enum { TABLE, VERDICT_BYTES, DUTY_BYTES, AFTER_BYTES, BUFFERS };
+
+/* What is lent: two things to read and four buffers, each with its own length. */
+struct lent {
+    size_t events_len;
+    size_t numbers_len;
+    size_t lens[BUFFERS];
+    uint8_t events[EVENTS_ROOM];
+    uint16_t numbers[NUMBERS_ROOM];
+    uint8_t table[BUFFER_ROOM];
+};
+
+/* What a judge gave back: its result and all that was around and in the four buffers. */
+struct left {
+    uint64_t result;
+    uint8_t area[AREA];
+};
+
+/* The trace at hand. */
+static struct lent lent;
+
+/* The names of the buffers. */
+static const char *const buffer_names[BUFFERS] = {"table", "verdicts", "duties", "after-sets"};
+
+/* The largest good value of each byte of an event. */
+static const uint8_t largest[EVENT_BYTES] = {22, 1, 1, 1, 3, 1, 31, 7, 7, 3, 3, 1, 7, 7};
+
+/* The ends of the memory that events and pair numbers are lent from, behind which nothing can be read. */
+static uint8_t *events_end, *numbers_end;
+
+/* What is being compared, for a message. */
+static const char *sweep;
+
+/* How many traces and events were compared, and how many of each outcome there were. */
+static unsigned long traces, events, refusals[REFUSALS], verdicts[VERDICTS], duties[DUTIES];
+
+/* The judge that is at work. */
+static const char *volatile at_work = "";
+
+/* Tells that a judge went past the end of what was lent, and ends the program. */
+static void past_the_end(int number)
+{
+    static const char told[] = " went past the end of what was lent\n";
+    (void)number;
+    if (write(2, "check: ", 7) < 0 || write(2, at_work, strlen(at_work)) < 0 || write(2, told, sizeof told - 1) < 0)
+        _exit(1);
+    _exit(1);
+}
+
+/* Memory of so many bytes with a page behind it that can't be touched, by its end. */
+static uint8_t *fenced(size_t bytes)
+{
+    size_t page = (size_t)sysconf(_SC_PAGESIZE), whole = (bytes + page - 1) / page * page;
+    uint8_t *start = mmap(0, whole + page, PROT_READ | PROT_WRITE, MAP_PRIVATE | MAP_ANONYMOUS, -1, 0);
+    if (start == MAP_FAILED || mprotect(start + whole, page, PROT_NONE) != 0) {
+        perror("check");
+        exit(1);
+    }
+    return start + whole;
+}
+
+/* Where a buffer starts in the area. */
+static size_t start_of(unsigned buffer)
+{
+    size_t at = GUARD + traces % 16;
+    for (unsigned n = 0; n < buffer; n++)
+        at += lent.lens[n] + GUARD;
+    return at;
+}
+
+/* The area as it is before a call: the table lent, and bytes that no answer has elsewhere. */
+static void lay_out(uint8_t *area)
+{
+    size_t used = start_of(BUFFERS);
+    for (size_t at = 0; at < used; at++)
+        area[at] = (uint8_t)(160 + at % 64);
+    memcpy(area + start_of(TABLE), lent.table, lent.lens[TABLE]);
+}
+
+/* Hands the trace to a judge. */
+static void call(const struct judge *judge, struct left *left)
+{
+    uint8_t *lent_events = events_end - lent.events_len, *start[BUFFERS];
+    uint16_t *lent_numbers = (uint16_t *)(void *)(numbers_end - lent.numbers_len * sizeof *lent_numbers);
+    memcpy(lent_events, lent.events, lent.events_len);
+    memcpy(lent_numbers, lent.numbers, lent.numbers_len * sizeof *lent_numbers);
+    lay_out(left->area);
+    for (unsigned n = 0; n < BUFFERS; n++)
+        start[n] = left->area + start_of(n);
+    at_work = judge->name;
+    left->result = judge->judge(lent_events, lent.events_len, lent_numbers, lent.numbers_len, start[TABLE], lent.lens[TABLE],
+                                start[VERDICT_BYTES], lent.lens[VERDICT_BYTES], start[DUTY_BYTES], lent.lens[DUTY_BYTES],
+                                start[AFTER_BYTES], lent.lens[AFTER_BYTES]);
+    if (memcmp(lent_events, lent.events, lent.events_len) != 0
+        || memcmp(lent_numbers, lent.numbers, lent.numbers_len * sizeof *lent_numbers) != 0) {
+        fprintf(stderr, "check: %s, trace %lu: %s wrote to what it may only read\n", sweep, traces, judge->name);
+        exit(1);
+    }
+}
+
+/* Where a byte of the area is, in words. */
+static void tell_place(size_t at)
+{
+    for (unsigned n = 0; n < BUFFERS; n++)
+        if (at >= start_of(n) && at < start_of(n) + lent.lens[n]) {
+            fprintf(stderr, "%s, byte %zu", buffer_names[n], at - start_of(n));
+            return;
+        }
+    fprintf(stderr, "outside the buffers, byte %zu", at);
+}
+
+/* Ends the program where two areas differ. */
+static void same_area(const char *one_name, const uint8_t *one, const char *other_name, const uint8_t *other)
+{
+    size_t used = start_of(BUFFERS), at = 0;
+    if (memcmp(one, other, used) == 0)
+        return;
+    while (one[at] == other[at])
+        at++;
+    fprintf(stderr, "check: %s, trace %lu: ", sweep, traces);
+    tell_place(at);
+    fprintf(stderr, ": %s has %u and %s %u\n", one_name, one[at], other_name, other[at]);
+    exit(1);
+}
+
+/* Ends the program where a judge touched bytes around the buffers, or any byte though it refused. */
+static void kept(const struct judge *judge, const struct left *left)
+{
+    static uint8_t before[AREA];
+    lay_out(before);
+    for (unsigned n = 0; n < BUFFERS && left->result % 256 == ACCEPTED; n++)
+        memcpy(before + start_of(n), left->area + start_of(n), lent.lens[n]);
+    same_area("what came", before, judge->name, left->area);
+}
+
+/* Counts the outcomes of the trace at hand. */
+static void count(const struct left *left)
+{
+    unsigned refusal = (unsigned)(left->result % 256);
+    events += lent.numbers_len;
+    refusals[refusal < REFUSALS ? refusal : 0]++;
+    for (size_t k = 0; refusal == ACCEPTED && k < lent.numbers_len; k++) {
+        verdicts[left->area[start_of(VERDICT_BYTES) + k] % VERDICTS]++;
+        duties[left->area[start_of(DUTY_BYTES) + k] % DUTIES]++;
+    }
+    traces++;
+}
+
+/* Compares the judges on the trace at hand. */
+static void compare(void)
+{
+    static struct left left[JUDGES];
+    for (unsigned n = 0; n < JUDGES; n++) {
+        call(&judges[n], &left[n]);
+        kept(&judges[n], &left[n]);
+        if (left[n].result != left[0].result) {
+            fprintf(stderr, "check: %s, trace %lu: %s gives refusal %u at %u and %s %u at %u\n", sweep, traces, judges[0].name,
+                    (unsigned)(left[0].result % 256), (unsigned)(left[0].result / 256), judges[n].name,
+                    (unsigned)(left[n].result % 256), (unsigned)(left[n].result / 256));
+            exit(1);
+        }
+        same_area(judges[0].name, left[0].area, judges[n].name, left[n].area);
+    }
+    count(&left[0]);
+}
+
+/* Gives the trace at hand the lengths that fit so many events and pairs. */
+static void fit(size_t n, size_t pairs)
+{
+    lent.events_len = n * EVENT_BYTES;
+    lent.numbers_len = n;
+    lent.lens[TABLE] = pairs;
+    lent.lens[VERDICT_BYTES] = lent.lens[DUTY_BYTES] = lent.lens[AFTER_BYTES] = n;
+}
+
+/* Makes the trace at hand a good one of so many events over so many pairs. */
+static void make_good(size_t n, size_t pairs)
+{
+    static struct trace trace;
+    make_trace(&trace, n, pairs, draw());
+    fit(n, pairs);
+    memcpy(lent.events, trace.events, lent.events_len);
+    memcpy(lent.numbers, trace.numbers, n * sizeof trace.numbers[0]);
+    memcpy(lent.table, trace.start, pairs);
+}
+
+/* A set: one state alone half of the time, now and then none, else any. */
+static uint8_t draw_set(void)
+{
+    return (uint8_t)(comes(1, 2) ? ONLY(below(STATES)) : comes(1, 16) ? 0 : below(ALL_STATES + 1));
+}
+
+/* The measured traces. */
+static void measured(void)
+{
+    static struct trace trace;
+    for (unsigned n = 0; n < SIZES; n++) {
+        make_trace(&trace, sizes[n].n, sizes[n].pairs, SEED);
+        fit(trace.n, trace.pairs);
+        memcpy(lent.events, trace.events, lent.events_len);
+        memcpy(lent.numbers, trace.numbers, sizeof trace.numbers);
+        memcpy(lent.table, trace.start, trace.pairs);
+        compare();
+    }
+}
+
+/* Each value of each byte of an event at each place among seventeen, at times with a later fault. */
+static void byte_values(void)
+{
+    for (unsigned n = 0; n < 17 * EVENT_BYTES * 256; n++) {
+        if (n % 256 == 0)
+            make_good(17, 5);
+        unsigned at = n / 256;
+        uint8_t byte = lent.events[at], *later = &lent.events[below(17 * EVENT_BYTES)], later_byte = *later;
+        if (comes(1, 4) && later > &lent.events[at])
+            *later = (uint8_t)below(256);
+        lent.events[at] = (uint8_t)n;
+        compare();
+        lent.events[at] = byte;
+        *later = later_byte;
+    }
+}
+
+/* Pair numbers below the table's length, at it and above it, at each place among seventeen. */
+static void pair_numbers(void)
+{
+    for (unsigned n = 0; n < 17 * 256; n++) {
+        make_good(17, 1 + below(40));
+        unsigned pairs = (unsigned)lent.lens[TABLE];
+        const unsigned near[] = {pairs - 1, pairs, pairs + 1, 255, 256, 4095, 4096, 32767, 32768, 65535, below(65536)};
+        lent.numbers[n % 17] = (uint16_t)near[below(sizeof near / sizeof near[0])];
+        if (comes(1, 4))
+            lent.events[below(17 * EVENT_BYTES)] = (uint8_t)below(256);
+        compare();
+    }
+}
+
+/* A set above 127 at each place of tables of up to eighty pairs, at times with another one or with a bad event. */
+static void bad_sets(void)
+{
+    for (unsigned n = 0; n < 80 * 80; n++) {
+        unsigned pairs = n / 80 + 1;
+        make_good(below(4), pairs);
+        if (n % 80 < pairs)
+            lent.table[n % 80] = (uint8_t)(128 + below(128));
+        if (comes(1, 4))
+            lent.table[below(pairs)] = (uint8_t)(128 + below(128));
+        if (comes(1, 4))
+            lent.events[0] = lent.events[1] = 255;
+        compare();
+    }
+}
+
+/* Lengths that don't fit, whatever else is wrong, and the largest that do. */
+static void lengths(void)
+{
+    static const size_t large[][2] = {{4096, 4096}, {4097, 4096}, {4096, 4097}, {4097, 4097}, {0, 4097}, {4097, 1}, {0, 0}, {3, 0}};
+    for (unsigned n = 0; n < 8; n++) {
+        make_good(large[n][0] > MOST ? MOST : large[n][0], large[n][1] > MOST ? MOST : large[n][1] ? large[n][1] : 1);
+        fit(large[n][0], large[n][1]);
+        compare();
+    }
+    for (unsigned n = 0; n < 6000; n++) {
+        make_good(below(12), 1 + below(5));
+        size_t *const each[6] = {&lent.events_len, &lent.numbers_len, &lent.lens[1], &lent.lens[2], &lent.lens[3], &lent.lens[0]};
+        size_t *one = each[n % 6];
+        *one = comes(1, 2) ? below(200) : *one + (comes(1, 2) || *one == 0 ? 1 : (size_t)-1);
+        if (comes(1, 4))
+            lent.table[0] = 255;
+        compare();
+    }
+}
+
+/* Starts a trace of sixty-four events, each on a pair of its own with a drawn set. */
+static void start_sweep(void)
+{
+    fit(64, 64);
+    for (unsigned k = 0; k < 64; k++) {
+        lent.numbers[k] = (uint16_t)k;
+        lent.table[k] = draw_set();
+    }
+}
+
+/* Every request, flag, tag state, answer, forward, tag operation and error field together, so every row and all that nearly is one. */
+static void answers(void)
+{
+    unsigned all = REQUESTS * 8 * TAGS * RESPONSES * FORWARDS * TAG_OPS * RESP_ERRS;
+    for (unsigned n = 0; n < all; n++) {
+        unsigned rest = n / (8 * TAGS * TAG_OPS * RESP_ERRS);
+        struct drawn drawn = {.request = rest % REQUESTS, .excl = n & 1, .final = comes(1, 2) ? STATE_NOT_SEEN : below(STATES + 1)};
+        drawn.event = (struct event){
+            .ret_to_src = n >> 1 & 1, .do_not_go_to_sd = n >> 2 & 1, .tag = n >> 3 & 3, .tag_op = n >> 5 & 3, .resp_err = n >> 7 & 3,
+            .response = (unsigned char)(rest / REQUESTS % RESPONSES), .forward = (unsigned char)(rest / REQUESTS / RESPONSES),
+        };
+        if (n % 64 == 0)
+            start_sweep();
+        put_event(lent.events + n % 64 * EVENT_BYTES, &drawn);
+        if (n % 64 == 63)
+            compare();
+    }
+}
+
+/* Every channel, opcode, Resp and FwdState with every forward, as the answer of an event that a row permits but for that. */
+static void messages(void)
+{
+    for (unsigned n = 0; n < 2 * 32 * 8 * 8 * 2 * 8; n++) {
+        struct drawn drawn = draw_permitted(below(STATES), ALL_STATES);
+        uint8_t *bytes = lent.events + n % 64 * EVENT_BYTES;
+        if (n % 64 == 0)
+            start_sweep();
+        put_event(bytes, &drawn);
+        bytes[FORWARDED_RESP_AT] = n & 7;
+        bytes[FORWARDED_AT] = n >> 3 & 1;
+        bytes[FWD_STATE_AT] = n >> 4 & 7;
+        bytes[RESP_AT] = n >> 7 & 7;
+        bytes[OPCODE_AT] = n >> 10 & 31;
+        bytes[CHANNEL_AT] = (uint8_t)(n >> 15);
+        if (n % 64 == 63)
+            compare();
+    }
+}
+
+/* Damages the trace at hand in one drawn way. */
+static void damage(void)
+{
+    size_t n = lent.numbers_len, pairs = lent.lens[TABLE];
+    switch (below(6)) {
+    case 0:
+        lent.events[below((unsigned)(n * EVENT_BYTES))] = (uint8_t)below(256);
+        break;
+    case 1:
+        lent.events[below((unsigned)n) * EVENT_BYTES] = (uint8_t)below(32);
+        break;
+    case 2:
+        for (size_t at = 0; at < EVENT_BYTES; at++)
+            lent.events[below((unsigned)n) * EVENT_BYTES + at] = (uint8_t)below(256);
+        break;
+    case 3:
+        lent.numbers[below((unsigned)n)] = (uint16_t)(comes(1, 2) ? pairs : below(65536));
+        break;
+    case 4:
+        lent.table[below((unsigned)pairs)] = (uint8_t)below(256);
+        break;
+    default:
+        lent.lens[below(BUFFERS)] += below(2);
+    }
+}
+
+/* Drawn short traces over few pairs, with bytes changed within their ranges, of which one in three is damaged besides. */
+static void drawn_traces(void)
+{
+    for (unsigned n = 0; n < 40000; n++) {
+        make_good(1 + below(24), 1 + below(6));
+        for (size_t pair = 0; pair < lent.lens[TABLE] && n % 2; pair++)
+            lent.table[pair] = draw_set();
+        for (size_t k = 0; k < lent.numbers_len; k++) {
+            unsigned at = 1 + below(EVENT_BYTES - 1);
+            if (comes(1, 6))
+                lent.events[k * EVENT_BYTES + at] = (uint8_t)below(largest[at] + 1u);
+        }
+        while (comes(1, 4))
+            damage();
+        compare();
+    }
+}
+
+/* Ends the program where some outcome never came. */
+static void all_came(const char *what, const unsigned long *counts, unsigned different)
+{
+    for (unsigned n = 0; n < different; n++)
+        if (counts[n] == 0) {
+            fprintf(stderr, "check: no trace had %s %u\n", what, n);
+            exit(1);
+        }
+}
+
+void check_judges(void)
+{
+    static void (*const sweeps[])(void) = {
+        measured, byte_values, pair_numbers, bad_sets, lengths, answers, messages, drawn_traces,
+    };
+    static const char *const names[] = {
+        "measured traces", "byte values", "pair numbers", "bad sets", "lengths", "answers", "messages", "drawn traces",
+    };
+    events_end = fenced(EVENTS_ROOM);
+    numbers_end = fenced(NUMBERS_ROOM * sizeof(uint16_t));
+    signal(SIGSEGV, past_the_end);
+    signal(SIGBUS, past_the_end);
+    for (unsigned n = 0; n < sizeof sweeps / sizeof sweeps[0]; n++) {
+        source = SEED + n;
+        sweep = names[n];
+        sweeps[n]();
+    }
+    signal(SIGSEGV, SIG_DFL);
+    signal(SIGBUS, SIG_DFL);
+    all_came("refusal", refusals, REFUSALS);
+    all_came("verdict", verdicts, VERDICTS);
+    all_came("duty", duties, DUTIES);
+    printf("check: the judges agree on %lu traces with %lu events; refusals 0 to 5: %lu %lu %lu %lu %lu %lu\n", traces, events,
+           refusals[0], refusals[1], refusals[2], refusals[3], refusals[4], refusals[5]);
+}

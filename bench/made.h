@@ -1,0 +1,53 @@
+/* Drawn events as an event's bytes, and the traces that are measured. */
+
+#ifndef MADE_H
+#define MADE_H
+
+#include <string.h>
+#include "draws.h"
+#include "judges.h"
+#include "wire.h"
+
+/* A trace whose lengths fit, with the sets that its pairs start from. */
+struct trace {
+    size_t n;
+    size_t pairs;
+    uint8_t events[MOST * EVENT_BYTES];
+    uint16_t numbers[MOST];
+    uint8_t start[MOST];
+};
+
+/* Writes a drawn event as its bytes. */
+static inline void put_event(uint8_t *bytes, const struct drawn *drawn)
+{
+    const struct event *event = &drawn->event;
+    bytes[REQUEST_AT] = request_codes[drawn->request];
+    bytes[RET_TO_SRC_AT] = event->ret_to_src;
+    bytes[DO_NOT_GO_TO_SD_AT] = event->do_not_go_to_sd;
+    bytes[EXCL_AT] = (uint8_t)drawn->excl;
+    bytes[TAG_AT] = event->tag;
+    memcpy(bytes + CHANNEL_AT, response_codes[event->response], sizeof response_codes[0]);
+    bytes[TAG_OP_AT] = event->tag_op;
+    bytes[RESP_ERR_AT] = event->resp_err;
+    bytes[FORWARDED_AT] = event->forward != NO_FORWARD;
+    bytes[FORWARDED_RESP_AT] = forward_codes[event->forward];
+    bytes[FINAL_AT] = (uint8_t)drawn->final;
+}
+
+/* Makes a trace of so many events over so many pairs, each from any of the seven states, in which most events are explained. */
+static inline void make_trace(struct trace *trace, size_t n, size_t pairs, uint64_t seed)
+{
+    unsigned char sets[MOST];
+    source = seed;
+    trace->n = n;
+    trace->pairs = pairs;
+    memset(trace->start, ALL_STATES, pairs);
+    memset(sets, ALL_STATES, pairs);
+    for (size_t k = 0; k < n; k++) {
+        struct drawn drawn = draw_next(sets, (unsigned)pairs, events_of_a_pair(n, (unsigned)pairs));
+        trace->numbers[k] = (uint16_t)drawn.pair;
+        put_event(trace->events + k * EVENT_BYTES, &drawn);
+    }
+}
+
+#endif

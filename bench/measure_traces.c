@@ -1,0 +1,168 @@
+/* Checks or measures the judges of whole traces: measure_traces check | time | repeat JUDGE EVENTS PAIRS TIMES. */
+
+#define _POSIX_C_SOURCE 200809L
+#include <stdio.h>
+#include <stdlib.h>
+#include <string.h>
+#include <time.h>
+#include "../include/korehyumo.h"
+#include "made.h"
+#include "traces.h"
+
+/* How many rounds are measured, of which the least counts. */
+#define ROUNDS 7
+
+/* How many nanoseconds a measurement lasts at least. */
+#define SHORTEST 50000000.0
+
+const struct judge judges[JUDGES] = {{"proved", korehyumo_trace}, {"by_table", by_table_trace}, {"by_rows", by_rows_trace}};
+
+const struct size sizes[SIZES] = {{64, 64}, {512, 64}, {4096, 64}, {4096, 512}, {4096, 4096}, {0, 4096}};
+
+/* The trace at hand. */
+static struct trace trace;
+
+/* The buffers that a judge writes. */
+static uint8_t table[MOST], verdicts[MOST], duties[MOST], afters[MOST];
+
+/* Does nothing with a trace, so that what stands around a call can be measured by itself. */
+static uint64_t nothing(const uint8_t *events, size_t events_len, const uint16_t *pairs, size_t pairs_len, uint8_t *sets,
+                        size_t sets_len, uint8_t *verdict_bytes, size_t verdicts_len, uint8_t *duty_bytes, size_t duties_len,
+                        uint8_t *after_bytes, size_t afters_len)
+{
+    (void)events, (void)pairs, (void)sets, (void)verdict_bytes, (void)duty_bytes, (void)after_bytes;
+    (void)events_len, (void)pairs_len, (void)sets_len, (void)verdicts_len, (void)duties_len, (void)afters_len;
+    return 0;
+}
+
+/* What is measured: the judges, and last what stands around a call. */
+static const struct judge measured[JUDGES + 1] = {
+    {"proved", korehyumo_trace}, {"by_table", by_table_trace}, {"by_rows", by_rows_trace}, {"around", nothing},
+};
+
+/* Judges the trace so many times, each time from the sets that it starts from; what the outputs hold is left as it is. */
+static void repeat(const struct judge *judge, unsigned long times)
+{
+    judge_of_traces *volatile call = judge->judge;
+    for (unsigned long n = 0; n < times; n++) {
+        memcpy(table, trace.start, trace.pairs);
+        call(trace.events, trace.n * EVENT_BYTES, trace.numbers, trace.n, table, trace.pairs, verdicts, trace.n, duties, trace.n,
+             afters, trace.n);
+    }
+}
+
+/* The processor time of the program so far in nanoseconds. */
+static double now(void)
+{
+    struct timespec time;
+    clock_gettime(CLOCK_PROCESS_CPUTIME_ID, &time);
+    return (double)time.tv_sec * 1e9 + (double)time.tv_nsec;
+}
+
+/* The nanoseconds that so many calls take. */
+static double nanoseconds(const struct judge *judge, unsigned long times)
+{
+    double start = now();
+    repeat(judge, times);
+    return now() - start;
+}
+
+/* How many calls take long enough to be measured. */
+static unsigned long enough(const struct judge *judge)
+{
+    unsigned long times = 1;
+    while (nanoseconds(judge, times) < SHORTEST * 1.2)
+        times *= 2;
+    return times;
+}
+
+/* Prints what a call of each judge takes on the trace at hand. */
+static void print_times(void)
+{
+    unsigned long times[JUDGES + 1];
+    double least[JUDGES + 1];
+    for (unsigned n = 0; n <= JUDGES; n++) {
+        times[n] = enough(&measured[n]);
+        least[n] = 1e18;
+    }
+    for (unsigned turn = 0; turn < ROUNDS * (JUDGES + 1); turn++) {
+        unsigned n = turn % (JUDGES + 1);
+        double call = nanoseconds(&measured[n], times[n]) / (double)times[n];
+        if (call < least[n])
+            least[n] = call;
+    }
+    for (unsigned n = 0; n <= JUDGES; n++)
+        printf("time %s %zu %zu %.3f\n", measured[n].name, trace.n, trace.pairs, least[n]);
+}
+
+/* Prints how many events of the trace at hand have each verdict. */
+static void print_verdicts(void)
+{
+    unsigned counts[VERDICTS] = {0};
+    repeat(&judges[0], 1);
+    for (size_t k = 0; k < trace.n; k++)
+        counts[verdicts[k]]++;
+    printf("verdicts %zu %zu %u %u %u\n", trace.n, trace.pairs, counts[EXPLAINED], counts[UNEXPLAINED], counts[NOT_JUDGED]);
+}
+
+/* Ends the program where a request or an answer never occurs in the trace at hand. */
+static void all_occur(void)
+{
+    unsigned requests = 0, responses = 0;
+    for (size_t k = 0; k < trace.n; k++) {
+        const uint8_t *bytes = trace.events + k * EVENT_BYTES;
+        for (unsigned n = 0; n < REQUESTS; n++)
+            requests |= (unsigned)(request_codes[n] == bytes[REQUEST_AT]) << n;
+        for (unsigned n = 0; n < RESPONSES; n++)
+            responses |= (unsigned)(memcmp(response_codes[n], bytes + CHANNEL_AT, sizeof response_codes[n]) == 0) << n;
+    }
+    if (requests == (1u << REQUESTS) - 1 && responses == (1u << RESPONSES) - 1)
+        return;
+    fprintf(stderr, "measure_traces: a request or an answer does not occur among %zu events\n", trace.n);
+    exit(1);
+}
+
+/* Measures all judges on all sizes. */
+static void measure(void)
+{
+    printf("rounds %d %.0f\n", ROUNDS, SHORTEST / 1e6);
+    for (unsigned n = 0; n < SIZES; n++) {
+        make_trace(&trace, sizes[n].n, sizes[n].pairs, SEED);
+        if (trace.n == MOST)
+            all_occur();
+        print_verdicts();
+        print_times();
+    }
+}
+
+/* Calls one judge so many times and no other, for its instructions to be counted. */
+static int repeat_one(char **words)
+{
+    make_trace(&trace, strtoul(words[1], 0, 10), strtoul(words[2], 0, 10), SEED);
+    if (strcmp(words[0], "by_table") == 0)
+        judges_ready();
+    for (unsigned n = 0; n <= JUDGES; n++)
+        if (strcmp(words[0], measured[n].name) == 0) {
+            repeat(&measured[n], strtoul(words[3], 0, 10));
+            return 0;
+        }
+    fprintf(stderr, "measure_traces: there is no judge %s\n", words[0]);
+    return 2;
+}
+
+/* Does as it is told. */
+int main(int count, char **words)
+{
+    if (count == 6 && strcmp(words[1], "repeat") == 0)
+        return repeat_one(words + 2);
+    judges_ready();
+    if (count == 2 && strcmp(words[1], "check") == 0)
+        check_judges();
+    else if (count == 2 && strcmp(words[1], "time") == 0)
+        measure();
+    else {
+        fprintf(stderr, "usage: measure_traces check | time | repeat JUDGE EVENTS PAIRS TIMES\n");
+        return 2;
+    }
+    return fflush(stdout) == 0 && !ferror(stdout) ? 0 : 1;
+}
