@@ -203,6 +203,12 @@ static void make_good(size_t n, size_t pairs)
     memcpy(lent.table, trace.start, pairs);
 }
 
+/* Puts a drawn number below a limit into a byte. */
+static void put_below(uint8_t *byte, unsigned limit)
+{
+    *byte = (uint8_t)below(limit);
+}
+
 /* A set: one state alone half of the time, now and then none, else any. */
 static uint8_t draw_set(void)
 {
@@ -249,7 +255,7 @@ static void pair_numbers(void)
         const unsigned near[] = {pairs - 1, pairs, pairs + 1, 255, 256, 4095, 4096, 32767, 32768, 65535, below(65536)};
         lent.numbers[n % 17] = (uint16_t)near[below(sizeof near / sizeof near[0])];
         if (comes(1, 4))
-            lent.events[below(17 * EVENT_BYTES)] = (uint8_t)below(256);
+            put_below(&lent.events[below(17 * EVENT_BYTES)], 256);
         compare();
     }
 }
@@ -263,7 +269,7 @@ static void bad_sets(void)
         if (n % 80 < pairs)
             lent.table[n % 80] = (uint8_t)(128 + below(128));
         if (comes(1, 4))
-            lent.table[below(pairs)] = (uint8_t)(128 + below(128));
+            lent.table[below(pairs)] = 128;
         if (comes(1, 4))
             lent.events[0] = lent.events[1] = 255;
         compare();
@@ -280,7 +286,8 @@ static void lengths(void)
         compare();
     }
     for (unsigned n = 0; n < 6000; n++) {
-        make_good(below(12), 1 + below(5));
+        size_t pairs = 1 + below(5);
+        make_good(below(12), pairs);
         size_t *const each[6] = {&lent.events_len, &lent.numbers_len, &lent.lens[1], &lent.lens[2], &lent.lens[3], &lent.lens[0]};
         size_t *one = each[n % 6];
         *one = comes(1, 2) ? below(200) : *one + (comes(1, 2) || *one == 0 ? 1 : (size_t)-1);
@@ -300,21 +307,33 @@ static void start_sweep(void)
     }
 }
 
-/* Every request, flag, tag state, answer, forward, tag operation and error field together, so every row and all that nearly is one. */
+/* The event of a number: every request, flag, tag state, answer, forward, tag operation and error field together. */
+static struct drawn numbered(unsigned n)
+{
+    unsigned rest = n / (8 * TAGS * TAG_OPS * RESP_ERRS);
+    struct drawn drawn = {.request = rest % REQUESTS, .excl = n & 1, .final = STATE_NOT_SEEN};
+    drawn.event = (struct event){
+        .ret_to_src = n >> 1 & 1, .do_not_go_to_sd = n >> 2 & 1, .tag = n >> 3 & 3, .tag_op = n >> 5 & 3, .resp_err = n >> 7 & 3,
+        .response = (unsigned char)(rest / REQUESTS % RESPONSES), .forward = (unsigned char)(rest / REQUESTS / RESPONSES),
+    };
+    return drawn;
+}
+
+/* Every row and all that nearly is one, from each state alone, and from a drawn set with a drawn state after. */
 static void answers(void)
 {
     unsigned all = REQUESTS * 8 * TAGS * RESPONSES * FORWARDS * TAG_OPS * RESP_ERRS;
-    for (unsigned n = 0; n < all; n++) {
-        unsigned rest = n / (8 * TAGS * TAG_OPS * RESP_ERRS);
-        struct drawn drawn = {.request = rest % REQUESTS, .excl = n & 1, .final = comes(1, 2) ? STATE_NOT_SEEN : below(STATES + 1)};
-        drawn.event = (struct event){
-            .ret_to_src = n >> 1 & 1, .do_not_go_to_sd = n >> 2 & 1, .tag = n >> 3 & 3, .tag_op = n >> 5 & 3, .resp_err = n >> 7 & 3,
-            .response = (unsigned char)(rest / REQUESTS % RESPONSES), .forward = (unsigned char)(rest / REQUESTS / RESPONSES),
-        };
-        if (n % 64 == 0)
+    for (unsigned n = 0; n < all * 8; n++) {
+        struct drawn drawn = numbered(n / 8);
+        unsigned state = n % 8, k = n % 64;
+        if (k == 0)
             start_sweep();
-        put_event(lent.events + n % 64 * EVENT_BYTES, &drawn);
-        if (n % 64 == 63)
+        if (state < STATES)
+            lent.table[k] = (uint8_t)ONLY(state);
+        else
+            drawn.final = below(STATES + 1);
+        put_event(lent.events + k * EVENT_BYTES, &drawn);
+        if (k == 63)
             compare();
     }
 }
@@ -342,34 +361,36 @@ static void messages(void)
 /* Damages the trace at hand in one drawn way. */
 static void damage(void)
 {
-    size_t n = lent.numbers_len, pairs = lent.lens[TABLE];
+    unsigned k = below((unsigned)lent.numbers_len), pairs = (unsigned)lent.lens[TABLE];
+    uint8_t *bytes = lent.events + k * EVENT_BYTES;
     switch (below(6)) {
     case 0:
-        lent.events[below((unsigned)(n * EVENT_BYTES))] = (uint8_t)below(256);
+        put_below(&bytes[below(EVENT_BYTES)], 256);
         break;
     case 1:
-        lent.events[below((unsigned)n) * EVENT_BYTES] = (uint8_t)below(32);
+        put_below(&bytes[REQUEST_AT], 32);
         break;
     case 2:
-        for (size_t at = 0; at < EVENT_BYTES; at++)
-            lent.events[below((unsigned)n) * EVENT_BYTES + at] = (uint8_t)below(256);
+        for (unsigned at = 0; at < EVENT_BYTES; at++)
+            put_below(&bytes[at], 256);
         break;
     case 3:
-        lent.numbers[below((unsigned)n)] = (uint16_t)(comes(1, 2) ? pairs : below(65536));
+        lent.numbers[k] = (uint16_t)(comes(1, 2) ? pairs : below(65536));
         break;
     case 4:
-        lent.table[below((unsigned)pairs)] = (uint8_t)below(256);
+        put_below(&lent.table[below(pairs)], 256);
         break;
     default:
-        lent.lens[below(BUFFERS)] += below(2);
+        lent.lens[below(BUFFERS)]++;
     }
 }
 
-/* Drawn short traces over few pairs, with bytes changed within their ranges, of which one in three is damaged besides. */
+/* Drawn short traces over few pairs, with bytes changed within their ranges, of which one in four is damaged besides. */
 static void drawn_traces(void)
 {
     for (unsigned n = 0; n < 40000; n++) {
-        make_good(1 + below(24), 1 + below(6));
+        size_t pairs = 1 + below(6);
+        make_good(1 + below(24), pairs);
         for (size_t pair = 0; pair < lent.lens[TABLE] && n % 2; pair++)
             lent.table[pair] = draw_set();
         for (size_t k = 0; k < lent.numbers_len; k++) {
