@@ -191,7 +191,8 @@ static uint64_t test_table(const uint8_t *table, size_t table_len)
 }
 
 /* Judges good events one after another; apart from its caller, whose values would take registers from it. */
-__attribute__((noinline)) static void judge_events(const uint8_t *restrict events, const uint16_t *restrict pairs, size_t n, uint8_t *restrict table,
+__attribute__((noinline))
+static void judge_events(const uint8_t *restrict events, const uint16_t *restrict pairs, size_t n, uint8_t *restrict table,
                          uint8_t *restrict verdicts, uint8_t *restrict duties, uint8_t *restrict afters)
 {
     for (size_t k = 0; k < n; k++, events += EVENT_BYTES) {

@@ -19,8 +19,8 @@ const struct judge judges[JUDGES] = {{"proved", korehyumo_trace}, {"by_table", b
 
 const struct size sizes[SIZES] = {{64, 64}, {512, 64}, {4096, 64}, {4096, 512}, {4096, 4096}, {0, 4096}};
 
-/* The trace at hand. */
-static struct trace trace;
+/* The measured traces. */
+static struct trace traces[SIZES];
 
 /* The buffers that a judge writes. */
 static uint8_t table[MOST], verdicts[MOST], duties[MOST], afters[MOST];
@@ -40,14 +40,14 @@ static const struct judge measured[JUDGES + 1] = {
     {"proved", korehyumo_trace}, {"by_table", by_table_trace}, {"by_rows", by_rows_trace}, {"around", nothing},
 };
 
-/* Judges the trace so many times, each time from the sets that it starts from; what the outputs hold is left as it is. */
-static void repeat(const struct judge *judge, unsigned long times)
+/* Judges a trace so many times, each time from the sets that it starts from; what the outputs hold is left as it is. */
+static void repeat(const struct judge *judge, const struct trace *trace, unsigned long times)
 {
     judge_of_traces *volatile call = judge->judge;
     for (unsigned long n = 0; n < times; n++) {
-        memcpy(table, trace.start, trace.pairs);
-        call(trace.events, trace.n * EVENT_BYTES, trace.numbers, trace.n, table, trace.pairs, verdicts, trace.n, duties, trace.n,
-             afters, trace.n);
+        memcpy(table, trace->start, trace->pairs);
+        call(trace->events, trace->n * EVENT_BYTES, trace->numbers, trace->n, table, trace->pairs, verdicts, trace->n, duties,
+             trace->n, afters, trace->n);
     }
 }
 
@@ -60,57 +60,59 @@ static double now(void)
 }
 
 /* The nanoseconds that so many calls take. */
-static double nanoseconds(const struct judge *judge, unsigned long times)
+static double nanoseconds(const struct judge *judge, const struct trace *trace, unsigned long times)
 {
     double start = now();
-    repeat(judge, times);
+    repeat(judge, trace, times);
     return now() - start;
 }
 
-/* How many calls take long enough to be measured. */
-static unsigned long enough(const struct judge *judge)
+/* The nanoseconds that a call takes, measured over so many calls, or over more where those don't last. */
+static double call_time(const struct judge *judge, const struct trace *trace, unsigned long *times)
 {
-    unsigned long times = 1;
-    while (nanoseconds(judge, times) < SHORTEST * 1.2)
-        times *= 2;
-    return times;
+    double lasted = nanoseconds(judge, trace, *times);
+    while (lasted < SHORTEST) {
+        *times *= 2;
+        lasted = nanoseconds(judge, trace, *times);
+    }
+    return lasted / (double)*times;
 }
 
-/* Prints what a call of each judge takes on the trace at hand. */
+/* Measures and prints what a call of each judge takes on each trace. A round goes over all traces, so that the rounds lie far apart. */
 static void print_times(void)
 {
-    unsigned long times[JUDGES + 1];
-    double least[JUDGES + 1];
-    for (unsigned n = 0; n <= JUDGES; n++) {
-        times[n] = enough(&measured[n]);
-        least[n] = 1e18;
+    enum { CELLS = SIZES * (JUDGES + 1) };
+    static unsigned long times[CELLS];
+    static double least[CELLS];
+    for (unsigned turn = 0; turn < ROUNDS * CELLS; turn++) {
+        unsigned cell = turn % CELLS;
+        times[cell] += times[cell] == 0;
+        double call = call_time(&measured[cell % (JUDGES + 1)], &traces[cell / (JUDGES + 1)], &times[cell]);
+        if (turn < CELLS || call < least[cell])
+            least[cell] = call;
     }
-    for (unsigned turn = 0; turn < ROUNDS * (JUDGES + 1); turn++) {
-        unsigned n = turn % (JUDGES + 1);
-        double call = nanoseconds(&measured[n], times[n]) / (double)times[n];
-        if (call < least[n])
-            least[n] = call;
+    for (unsigned cell = 0; cell < CELLS; cell++) {
+        const struct trace *trace = &traces[cell / (JUDGES + 1)];
+        printf("time %s %zu %zu %.3f\n", measured[cell % (JUDGES + 1)].name, trace->n, trace->pairs, least[cell]);
     }
-    for (unsigned n = 0; n <= JUDGES; n++)
-        printf("time %s %zu %zu %.3f\n", measured[n].name, trace.n, trace.pairs, least[n]);
 }
 
-/* Prints how many events of the trace at hand have each verdict. */
-static void print_verdicts(void)
+/* Prints how many events of a trace have each verdict. */
+static void print_verdicts(const struct trace *trace)
 {
     unsigned counts[VERDICTS] = {0};
-    repeat(&judges[0], 1);
-    for (size_t k = 0; k < trace.n; k++)
+    repeat(&judges[0], trace, 1);
+    for (size_t k = 0; k < trace->n; k++)
         counts[verdicts[k]]++;
-    printf("verdicts %zu %zu %u %u %u\n", trace.n, trace.pairs, counts[EXPLAINED], counts[UNEXPLAINED], counts[NOT_JUDGED]);
+    printf("verdicts %zu %zu %u %u %u\n", trace->n, trace->pairs, counts[EXPLAINED], counts[UNEXPLAINED], counts[NOT_JUDGED]);
 }
 
-/* Ends the program where a request or an answer never occurs in the trace at hand. */
-static void all_occur(void)
+/* Ends the program where a request or an answer never occurs in a trace. */
+static void all_occur(const struct trace *trace)
 {
     unsigned requests = 0, responses = 0;
-    for (size_t k = 0; k < trace.n; k++) {
-        const uint8_t *bytes = trace.events + k * EVENT_BYTES;
+    for (size_t k = 0; k < trace->n; k++) {
+        const uint8_t *bytes = trace->events + k * EVENT_BYTES;
         for (unsigned n = 0; n < REQUESTS; n++)
             requests |= (unsigned)(request_codes[n] == bytes[REQUEST_AT]) << n;
         for (unsigned n = 0; n < RESPONSES; n++)
@@ -118,7 +120,7 @@ static void all_occur(void)
     }
     if (requests == (1u << REQUESTS) - 1 && responses == (1u << RESPONSES) - 1)
         return;
-    fprintf(stderr, "measure_traces: a request or an answer does not occur among %zu events\n", trace.n);
+    fprintf(stderr, "measure_traces: a request or an answer does not occur among %zu events\n", trace->n);
     exit(1);
 }
 
@@ -127,23 +129,23 @@ static void measure(void)
 {
     printf("rounds %d %.0f\n", ROUNDS, SHORTEST / 1e6);
     for (unsigned n = 0; n < SIZES; n++) {
-        make_trace(&trace, sizes[n].n, sizes[n].pairs, SEED);
-        if (trace.n == MOST)
-            all_occur();
-        print_verdicts();
-        print_times();
+        make_trace(&traces[n], sizes[n].n, sizes[n].pairs, SEED);
+        if (traces[n].n == MOST)
+            all_occur(&traces[n]);
+        print_verdicts(&traces[n]);
     }
+    print_times();
 }
 
 /* Calls one judge so many times and no other, for its instructions to be counted. */
 static int repeat_one(char **words)
 {
-    make_trace(&trace, strtoul(words[1], 0, 10), strtoul(words[2], 0, 10), SEED);
+    make_trace(&traces[0], strtoul(words[1], 0, 10), strtoul(words[2], 0, 10), SEED);
     if (strcmp(words[0], "by_table") == 0)
         judges_ready();
     for (unsigned n = 0; n <= JUDGES; n++)
         if (strcmp(words[0], measured[n].name) == 0) {
-            repeat(&measured[n], strtoul(words[3], 0, 10));
+            repeat(&measured[n], &traces[0], strtoul(words[3], 0, 10));
             return 0;
         }
     fprintf(stderr, "measure_traces: there is no judge %s\n", words[0]);
