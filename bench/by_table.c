@@ -252,7 +252,7 @@ static void must(int holds, const char *what)
     if (holds)
         return;
     fprintf(stderr, "by_table: %s\n", what);
-    exit(2);
+    exit(1);
 }
 
 /* The place of what was asked among all that can be, where Clean tags permit what Invalid ones do. */

@@ -48,7 +48,7 @@ static const uint8_t largest[EVENT_BYTES] = {22, 1, 1, 1, 3, 1, 31, 7, 7, 3, 3, 
 static uint8_t *events_end, *numbers_end;
 
 /* What is being compared, for a message. */
-static const char *sweep;
+static const char *volatile sweep = "";
 
 /* How many traces and events were compared, and how many of each outcome there were. */
 static unsigned long traces, events, refusals[REFUSALS], verdicts[VERDICTS], duties[DUTIES];
@@ -59,10 +59,11 @@ static const char *volatile at_work = "";
 /* Tells that a judge went past the end of what was lent, and ends the program. */
 static void past_the_end(int number)
 {
-    static const char told[] = " went past the end of what was lent\n";
+    const char *const words[] = {"check: ", sweep, ": ", at_work, " went past the end of what was lent\n"};
     (void)number;
-    if (write(2, "check: ", 7) < 0 || write(2, at_work, strlen(at_work)) < 0 || write(2, told, sizeof told - 1) < 0)
-        _exit(1);
+    for (unsigned n = 0; n < sizeof words / sizeof words[0]; n++)
+        if (write(2, words[n], strlen(words[n])) < 0)
+            _exit(1);
     _exit(1);
 }
 
