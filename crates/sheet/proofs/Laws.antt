@@ -20,7 +20,7 @@ use Rattle.entries.specs.Entries.{entryOf}
 use Rattle.entries.specs.declared.Entry.{Entry}
 use Rattle.replies.specs.Laid.{Laid, laid, lay, layAll}
 use Rattle.replies.specs.Replies.{decimal, answerLine, refusedLine, answerTexts, refusalTexts}
-use Rattle.replies.proofs.Laws.{lay-fits, lay-all, decimal-short, concat-answer, concat-refusal, answer-short}
+use Rattle.replies.proofs.Laws.{lay-fits, lay-all, length-in, decimal-short, concat-answer, concat-refusal, answer-short}
 use Rattle.lines.specs.Lines.{crlf}
 use Rattle.lines.specs.Seen.{tooLong, reach, lineEnd}
 use Rattle.lines.proofs.Parting.{reach-within}
@@ -94,12 +94,6 @@ put-front : (at : ℕ) (out s : List ℕ) → at ≤ length out → take (at + l
 put-front at out s h =
     take-at (take at out ++ s) (drop (at + length s) out) (at + length s) (length-append (take at out) s ∙ ap (λ n. n + length s) (length-front at out h))
 
-put-long : (at : ℕ) (out s : List ℕ) → at + length s ≤ length out → length (take at out ++ s ++ drop (at + length s) out) ≡ length out
-put-long at out s h =
-    length-append (take at out ++ s) (drop (at + length s) out)
-    ∙ ap₂ (λ (m n : ℕ). m + n) (length-append (take at out) s ∙ ap (λ n. n + length s) (length-front at out (omega (arith, h)))) (length-drop (at + length s) out)
-    ∙ omega (arith, h)
-
 held-same : {rest rest′ table table′ text text′ : List ℕ} {lines lines′ : ℕ} {going going′ : Bool}
     → rest ≡ rest′ → lines ≡ lines′ → table ≡ table′ → text ≡ text′ → going ≡ going′
     → _≡_ {A = Held} (record { rest = rest; lines = lines; table = table; text = text; going = going })
@@ -160,7 +154,7 @@ module _ {ended : Bool} {piece out₀ : List ℕ} {h₀ : Held} {table out : Lis
   b = on .answers-so
 
   long′ : length out′ ≡ length out
-  long′ = ap length (b .out-so) ∙ put-long put out (t .text) (b .fits-so)
+  long′ = ap length (b .out-so) ∙ length-in put out (t .text) (b .fits-so)
 
   further : drop (put + length (t .text)) out ≡ drop (put + length (t .text)) out₀
   further = sym (drop-drop (length (t .text)) put out) ∙ ap (drop (length (t .text))) (e .tail) ∙ drop-drop (length (t .text)) put out₀
