@@ -122,7 +122,7 @@ uint64_t korehyumo_event(const uint8_t *event, size_t event_len,
  * Lent and written: `table`, a set of states for each pair, as they are before the first event;
  * `verdicts`, `duties` and `afters`, a byte for each event. What the last three hold before doesn't
  * matter.
- * Result: n times 256 for an accepted trace; else the refusal's number and place.
+ * Result: n times 256 for an accepted trace; else a refusal, 1 to 5 of the table above, at its place.
  * Accepted: table[p] is the set of exactly the states in which some permitted history of pair p
  * ends; verdicts[k], duties[k] and afters[k] are event k's verdict, the duty that it handed
  * over (0 where it isn't explained), and the set of its pair after it. The table is then the
