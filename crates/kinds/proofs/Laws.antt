@@ -10,7 +10,7 @@ use lib.ListN.{length, take, drop, drop-of-length-le, length-drop}
 use lib.Seq.{take-nil, take-all}
 use lib.Dec.{eqb}
 use Rattle.kinds.specs.Tests.{_∈?_}
-use Rattle.kinds.specs.Places.{eventIn}
+use Rattle.kinds.specs.Places.{eventLength, eventIn}
 
 -- a chain of `|` is the test of a list
 or-1 : (a : Bool) → a ≡ a || false
@@ -82,14 +82,15 @@ pub and-6 : (a b c d e f : Bool) → a && b && c && d && e && f ≡ a && (b && (
 and-6 true b c d e f = and-5 b c d e f
 and-6 false b c d e f = refl
 
--- an event past the end is empty, one that the end cuts is what is left, any other is 14 bytes
-pub event-past : (s : List ℕ) (k : ℕ) → length s ≤ k * 14 → [] ≡ eventIn s k
-event-past s k h = sym (ap (take 14) (drop-of-length-le s h) ∙ take-nil 14)
+-- an event past the end is empty, one that the end cuts is what is left, any other is whole
+pub event-past : (s : List ℕ) (k : ℕ) → length s ≤ k * eventLength → [] ≡ eventIn s k
+event-past s k h = sym (ap (take eventLength) (drop-of-length-le s h) ∙ take-nil eventLength)
 
-pub event-cut : (s : List ℕ) (k : ℕ) → length s - k * 14 < 14 → take (length s - k * 14) (drop (k * 14) s) ≡ eventIn s k
+pub event-cut : (s : List ℕ) (k : ℕ) → length s - k * eventLength < eventLength
+    → take (length s - k * eventLength) (drop (k * eventLength) s) ≡ eventIn s k
 event-cut s k h =
-    take-all (length s - k * 14) (drop (k * 14) s) (simp length-drop (omega arith))
-    ∙ sym (take-all 14 (drop (k * 14) s) (simp length-drop (omega arith)))
+    take-all (length s - k * eventLength) (drop (k * eventLength) s) (simp length-drop (omega arith))
+    ∙ sym (take-all eventLength (drop (k * eventLength) s) (simp length-drop (omega arith)))
 
-pub event-whole : (s : List ℕ) (k : ℕ) → take (k * 14 + 14 - k * 14) (drop (k * 14) s) ≡ eventIn s k
-event-whole s k = ap (λ (n : ℕ). take n (drop (k * 14) s)) (add-sub-cancel-left (k * 14) 14)
+pub event-whole : (s : List ℕ) (k : ℕ) → take (k * eventLength + eventLength - k * eventLength) (drop (k * eventLength) s) ≡ eventIn s k
+event-whole s k = ap (λ (n : ℕ). take n (drop (k * eventLength) s)) (add-sub-cancel-left (k * eventLength) eventLength)

@@ -29,6 +29,10 @@ SD = 6
 abbrev pub states : List ℕ
 states = I ∷ UC ∷ UCE ∷ UD ∷ UDP ∷ SC ∷ SD ∷ []
 
+-- the set of all seven: no set is above it
+abbrev pub allStates : ℕ
+allStates = 127
+
 -- a line in one of these has to be written back by somebody
 abbrev pub dirty : ℕ → Bool
 dirty s = s ∈? (UD ∷ UDP ∷ SD ∷ [])

@@ -2,13 +2,27 @@
 ghost use mathlib.Core.Path.{_≡_};
 ghost use Rattle.kinds.specs.Codes.{dirty, requests, respPD, fwdPD};
 ghost use Rattle.kinds.specs.Tests.{_∈?_};
-ghost use Rattle.kinds.specs.Answers.{wire, hasData, answerResp, answerFwd};
+ghost use Rattle.kinds.specs.Answers.{forwardWire, wire, hasData, answerResp, answerFwd};
 ghost use Rattle.kinds.specs.Places.{setIn, pairIn, eventIn};
 ghost use lib.Dec.{ltb};
 ghost use lib.ListN.{length, set};
 
+pub mod place;
+
 // An event is this many bytes.
 pub const EVENT_BYTES: usize = 14;
+
+// A trace has at most this many events.
+pub const MOST_EVENTS: usize = 4096;
+
+// A table of sets has at most this many pairs; a sheet has just as many.
+pub const MOST_PAIRS: usize = 4096;
+
+// The highest number of a pair on a sheet.
+pub const HIGHEST_PAIR: u32 = 4095;
+
+// The set of all seven states: no set is above it.
+pub const ALL_STATES: u8 = 127;
 
 // The state of a line in a cache.
 pub struct LineState(pub u8);
@@ -185,6 +199,18 @@ impl FwdState {
 pub enum Forward {
     NoForward,
     CompData(FwdState),
+}
+
+impl Forward {
+    // What the bus shows of it: whether data is forwarded, and its Resp.
+    pub fn wire(self) -> [u8; 2]
+        ensures { λ r. ⌜ r ≡ forwardWire self ⌝ }
+    {
+        match self {
+            Forward::NoForward => [0, 0],
+            Forward::CompData(f) => [1, f.0],
+        }
+    }
 }
 
 // The snoopee's answer to Home, with what it forwarded inside it.

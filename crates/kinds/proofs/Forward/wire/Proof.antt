@@ -1,0 +1,20 @@
+-- `kinds::Forward::wire` meets its contract: each arm of the match is a case of `forwardWire`.
+-- Assumes nothing.
+use borrow.Author.Needs.{needs}
+use Rattle.kinds.proofs.Forward.wire.Statement.{statement}
+use Rattle.kinds.proofs.Forward.wire.Tie as tie
+
+enum-told : tie.Need-enum-told
+enum-told c = search needs
+
+enum-known-self : tie.Need-enum-known-self
+enum-known-self c = search needs
+
+returns : tie.Need-returns
+returns c = cc
+
+returns-2 : tie.Need-returns-2
+returns-2 c = cc
+
+pub wire-spec : {M : Type 1} → statement M
+wire-spec = tie.close (tie.spec enum-told enum-known-self returns returns-2)
