@@ -1,12 +1,14 @@
--- Laws of tests over lists: what `any` finds, what `all` grants, when two tests are the same, and the seven states one by one.
+-- Laws of tests over lists: what `any` finds, what `all` grants, when two tests or two lists are the same, and the seven states one by one.
 -- Assumes nothing.
-use mathlib.Core.Path.{_≡_, refl, sym, _∙_, ap}
+use mathlib.Core.Path.{_≡_, refl, sym, _∙_, ap, ap₂}
 use mathlib.Core.Bool.{Bool, true, false, _&&_, _||_, false≢true}
 use mathlib.Core.List.{List, [], _∷_, _++_, map}
 use Prim.Native.Nat.{ℕ, zero, suc, _<_}
 use native.Mathlib.Omega.{arith}
+use borrow.Author.Tests.{eqb-true}
+use lib.Dec.{eqb}
 use lib.ListN.{getD}
-use Rattle.kinds.specs.Tests.{any, all}
+use Rattle.kinds.specs.Tests.{any, all, same, _∈?_}
 use Rattle.kinds.specs.Codes.{I, UC, UCE, UD, UDP, SC, SD, states}
 
 -- the element stands in the list
@@ -95,3 +97,17 @@ module _ {ℓ} {A : Type ℓ} where
       or-assoc : (a b c : Bool) → a || (b || c) ≡ a || b || c
       or-assoc true b c = refl
       or-assoc false b c = refl
+
+-- what each of a list passes, a number that is one of them passes
+pub one-of : (p : ℕ → Bool) (n : ℕ) (ns : List ℕ) → n ∈? ns ≡ true → all p ns ≡ true → p n ≡ true
+one-of p n ns h k =
+    let f = any-found (eqb n) ns h in
+    ap p (eqb-true n (f .one) (f .passes)) ∙ all-at p k (f .inside)
+
+-- two lists that are the same number by number are equal
+pub same-equal : (xs ys : List ℕ) → same xs ys ≡ true → xs ≡ ys
+same-equal [] [] h = refl
+same-equal [] (y ∷ ys) h = absurd (false≢true h)
+same-equal (x ∷ xs) [] h = absurd (false≢true h)
+same-equal (x ∷ xs) (y ∷ ys) h =
+    ap₂ _∷_ (eqb-true x y (and-left (eqb x y) (same xs ys) h)) (same-equal xs ys (and-right (eqb x y) (same xs ys) h))
