@@ -7,29 +7,44 @@ use Prim.Native.Nat.{ℕ}
 use lib.Dec.{eqb}
 use lib.ListN.{getD}
 use Rattle.kinds.specs.Tests.{_∈?_, same, any}
-use Rattle.kinds.specs.Codes.{UD, SD, OK, DERR, opInvalid, opTransfer, opUpdate, tagInvalid, tagClean, tagDirty, tagNotSeen, tags}
+use Rattle.kinds.specs.Codes.{UD, UDP, SD, OK, DERR, opInvalid, opTransfer, opUpdate, tagInvalid, tagClean, tagDirty, tagNotSeen, tags, respPD, fwdPD}
 use Rattle.kinds.specs.declared.Answer.{Answer}
 use Rattle.kinds.specs.declared.Answer.the-variants.{SnpResp, SnpRespData, SnpRespDataPtl}
 use Rattle.kinds.specs.declared.Forward.the-variants.{NoForward, CompData}
-use Rattle.kinds.specs.Answers.{wire}
+use Rattle.kinds.specs.Answers.{wire, hasData, answerResp, answerFwd}
 use Rattle.kinds.proofs.Laws.{one-of-1, one-of-2, and-6, or-3}
 use Rattle.rows.specs.declared.Table.{Table}
-use Rattle.rows.specs.Permitted.{rulesOf, tagged, someTag}
-use Rattle.rows.specs.Event.{tagOf, seen}
+use Rattle.rows.specs.Permitted.{rulesOf, okOrDerr, byTags, fits, asked, tagsAllow, tagged, someTag}
+use Rattle.rows.specs.Event.{requestOf, retToSrcOf, doNotGoToSDOf, exclOf, tagOf, tagOpOf, seen}
+
+-- what a rule says of a table, it says of one that is found to be that table
+pub told : (rule : Table → Bool) {T U : Table} {r : Bool} → T ≡ U → r ≡ rule U → r ≡ rule T
+told rule h k = k ∙ ap rule (sym h)
 
 -- errors, by whether the answer has data
-pub ok-or-derr : (n : ℕ) (b : Bool) → cond b (eqb n OK || eqb n DERR) (eqb n OK) ≡ n ∈? cond b (OK ∷ DERR ∷ []) (OK ∷ [])
-ok-or-derr n true = one-of-2 n OK DERR
-ok-or-derr n false = one-of-1 n OK
+pub ok-or-derr : (n : ℕ) (a : Answer) (h r : Bool) → h ≡ hasData a → r ≡ cond h (eqb n OK || eqb n DERR) (eqb n OK) → r ≡ n ∈? okOrDerr a
+ok-or-derr n a h r hh hr = hr ∙ ap (λ (b : Bool). cond b (eqb n OK || eqb n DERR) (eqb n OK)) hh ∙ each (hasData a)
+  where
+    each : (b : Bool) → cond b (eqb n OK || eqb n DERR) (eqb n OK) ≡ n ∈? cond b (OK ∷ DERR ∷ []) (OK ∷ [])
+    each true = one-of-2 n OK DERR
+    each false = one-of-1 n OK
 
 -- TagOps, by Dirty tags, PD and UDP
-pub by-tags : (n : ℕ) (d p u : Bool)
-    → cond d (cond p (eqb n opUpdate) (eqb n opTransfer)) (cond u (eqb n opInvalid) (eqb n opInvalid || eqb n opTransfer))
-    ≡ n ∈? cond d (cond p (opUpdate ∷ []) (opTransfer ∷ [])) (cond u (opInvalid ∷ []) (opInvalid ∷ opTransfer ∷ []))
-by-tags n true true u = one-of-1 n opUpdate
-by-tags n true false u = one-of-1 n opTransfer
-by-tags n false p true = one-of-1 n opInvalid
-by-tags n false p false = one-of-2 n opInvalid opTransfer
+pub by-tags : (n t s : ℕ) (a : Answer) (m : ℕ) (p x y r : Bool) → m ≡ answerResp a → p ≡ respPD m
+    → x ≡ cond p (eqb n opUpdate) (eqb n opTransfer) → y ≡ cond (eqb s UDP) (eqb n opInvalid) (eqb n opInvalid || eqb n opTransfer)
+    → r ≡ cond (eqb t tagDirty) x y → r ≡ n ∈? byTags t s a
+by-tags n t s a m p x y r hm hp hx hy hr =
+    hr
+    ∙ ap₂ (cond (eqb t tagDirty)) (hx ∙ ap (λ (b : Bool). cond b (eqb n opUpdate) (eqb n opTransfer)) (hp ∙ ap respPD hm)) hy
+    ∙ each (eqb t tagDirty) (respPD (answerResp a)) (eqb s UDP)
+  where
+    each : (d q u : Bool)
+        → cond d (cond q (eqb n opUpdate) (eqb n opTransfer)) (cond u (eqb n opInvalid) (eqb n opInvalid || eqb n opTransfer))
+        ≡ n ∈? cond d (cond q (opUpdate ∷ []) (opTransfer ∷ [])) (cond u (opInvalid ∷ []) (opInvalid ∷ opTransfer ∷ []))
+    each true true u = one-of-1 n opUpdate
+    each true false u = one-of-1 n opTransfer
+    each false q true = one-of-1 n opInvalid
+    each false q false = one-of-2 n opInvalid opTransfer
 
 -- six bytes against an answer's six
 pub same-wire : (x₀ x₁ x₂ x₃ x₄ x₅ : ℕ) (a : Answer) (w : List ℕ) → w ≡ wire a
@@ -54,18 +69,29 @@ same-wire x₀ x₁ x₂ x₃ x₄ x₅ a w h =
     at-wire (SnpRespData r (CompData f)) = six 1 6 (r .0) (f .0) 1 (f .0)
     at-wire (SnpRespDataPtl r) = six 1 5 (r .0) 0 0 0
 
+-- the four tests of the snoop
+pub asked-by : (e : List ℕ) (T : Table) (ret : ℕ) (marked : Bool) (n : ℕ) (x y z : Bool)
+    → x ≡ requestOf e ∈? rulesOf T .asks → n ≡ rulesOf T .excl → y ≡ fits n (exclOf e) → z ≡ fits ret (retToSrcOf e)
+    → x && y && z && not (marked && eqb (doNotGoToSDOf e) 1) ≡ asked e T ret marked
+unfolding asked
+asked-by e T ret marked n x y z hx hn hy hz =
+    ap (λ (b : Bool). b && not (marked && eqb (doNotGoToSDOf e) 1)) (ap₂ _&&_ (ap₂ _&&_ hx (hy ∙ ap (λ (m : ℕ). fits m (exclOf e)) hn)) hz)
+
 -- Dirty tags, by the state before and what is forwarded
-pub tags-allow : (d : Bool) (s : ℕ) (p : Bool) → not d || ((eqb s UD || eqb s SD) && not p) ≡ not d || ((s ∈? (UD ∷ SD ∷ [])) && not p)
-tags-allow d s p = ap (λ (b : Bool). not d || (b && not p)) (one-of-2 s UD SD)
+pub tags-allow : (t s : ℕ) (a : Answer) (m : ℕ) (p : Bool) → m ≡ answerFwd a → p ≡ fwdPD m
+    → not (eqb t tagDirty) || ((eqb s UD || eqb s SD) && not p) ≡ tagsAllow t s a
+tags-allow t s a m p hm hp = ap₂ (λ (x y : Bool). not (eqb t tagDirty) || (x && not y)) (one-of-2 s UD SD) (hp ∙ ap fwdPD hm)
 
--- what a table's rule says, said of a table that is found to be that one
-pub of-table : (T U : Table) (n t s : ℕ) (a : Answer) (r : Bool) → T ≡ U → r ≡ n ∈? rulesOf U .onData t s a → r ≡ n ∈? rulesOf T .onData t s a
-of-table T U n t s a r h k = k ∙ ap (λ (W : Table). n ∈? rulesOf W .onData t s a) (sym h)
-
--- a TagOp, with data and without
-pub tag-op : (n : ℕ) (d : Bool) (xs : List ℕ) → cond d (n ∈? xs) (eqb n opInvalid) ≡ n ∈? cond d xs (opInvalid ∷ [])
-tag-op n true xs = refl
-tag-op n false xs = one-of-1 n opInvalid
+-- the tags and the TagOp, with data and without
+pub tagged-by : (e : List ℕ) (t : ℕ) (T : Table) (s : ℕ) (a : Answer) (h d f x : Bool) → h ≡ hasData a
+    → d ≡ tagOpOf e ∈? rulesOf T .onData t s a → f ≡ cond h d (eqb (tagOpOf e) opInvalid) → x ≡ tagsAllow t s a → x && f ≡ tagged e t T s a
+unfolding tagged
+tagged-by e t T s a h d f x hh hd hf hx =
+    ap₂ _&&_ hx (hf ∙ ap₂ (λ (u v : Bool). cond u v (eqb (tagOpOf e) opInvalid)) hh hd ∙ each (hasData a) (rulesOf T .onData t s a))
+  where
+    each : (b : Bool) (ns : List ℕ) → cond b (tagOpOf e ∈? ns) (eqb (tagOpOf e) opInvalid) ≡ tagOpOf e ∈? cond b ns (opInvalid ∷ [])
+    each true ns = refl
+    each false ns = one-of-1 (tagOpOf e) opInvalid
 
 -- one of the three tag states
 pub any-tag : (p : ℕ → Bool) → p tagInvalid || p tagClean || p tagDirty ≡ any p tags

@@ -9,6 +9,7 @@ use lib.Dec.{eqb}
 abbrev pub byte : List ℕ → ℕ → ℕ
 byte e i = getD e i 0
 
+-- Where each field stands: no other file of definitions says it.
 abbrev pub requestOf : List ℕ → ℕ
 requestOf e = byte e 0
 
@@ -24,9 +25,11 @@ exclOf e = byte e 3
 abbrev pub tagOf : List ℕ → ℕ
 tagOf e = byte e 4
 
--- channel, opcode, Resp, FwdState, forwarded data present, its Resp
-abbrev pub answerOf : List ℕ → List ℕ
-answerOf e = byte e 5 ∷ byte e 6 ∷ byte e 7 ∷ byte e 8 ∷ byte e 11 ∷ byte e 12 ∷ []
+abbrev pub channelOf : List ℕ → ℕ
+channelOf e = byte e 5
+
+abbrev pub opcodeOf : List ℕ → ℕ
+opcodeOf e = byte e 6
 
 abbrev pub respOf : List ℕ → ℕ
 respOf e = byte e 7
@@ -40,8 +43,20 @@ tagOpOf e = byte e 9
 abbrev pub respErrOf : List ℕ → ℕ
 respErrOf e = byte e 10
 
+-- forwarded data present
+abbrev pub forwardedOf : List ℕ → ℕ
+forwardedOf e = byte e 11
+
+-- its Resp
+abbrev pub forwardedRespOf : List ℕ → ℕ
+forwardedRespOf e = byte e 12
+
 abbrev pub afterOf : List ℕ → ℕ
 afterOf e = byte e 13
+
+-- the answer on the bus: channel, opcode, Resp, FwdState, and what is forwarded
+abbrev pub answerOf : List ℕ → List ℕ
+answerOf e = channelOf e ∷ opcodeOf e ∷ respOf e ∷ fwdStateOf e ∷ forwardedOf e ∷ forwardedRespOf e ∷ []
 
 -- x is what was seen, or nothing was seen
 abbrev pub seen : ℕ → ℕ → ℕ → Bool

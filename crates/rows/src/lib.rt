@@ -6,6 +6,7 @@ use kinds::Request;
 use kinds::RespErr;
 use kinds::TagOp;
 use kinds::TagState;
+use kinds::place;
 ghost use mathlib.Core.Path.{_≡_};
 ghost use mathlib.Core.Bool.{cond};
 ghost use mathlib.Core.List.{[], _∷_};
@@ -14,8 +15,6 @@ ghost use Rattle.kinds.specs.Codes.{tagNotSeen, opInvalid, opTransfer, opUpdate
 ghost use Rattle.kinds.specs.Answers.{wire};
 ghost use Rattle.rows.specs.Event.{byte, seen, answerOf, tagOf};
 ghost use Rattle.rows.specs.Permitted.{rulesOf, okOrDerr, byTags, tagsAllow, asked, answered, tagged, someTag, fits};
-
-pub mod place;
 
 // The printed tables, and the row of NDERR.
 pub enum Table {
@@ -96,11 +95,12 @@ impl Table {
     fn errors(self, answer: Answer, error: RespErr) -> bool
         ensures { λ r. ⌜ r ≡ error .0 ∈? rulesOf self .errors answer ⌝ }
     {
+        let usual = ok_or_derr(answer, error);
         match self {
-            Table::B46 => ok_or_derr(answer, error),
-            Table::B57 => ok_or_derr(answer, error),
-            Table::B59 => ok_or_derr(answer, error),
-            Table::B60 => ok_or_derr(answer, error),
+            Table::B46 => usual,
+            Table::B57 => usual,
+            Table::B59 => usual,
+            Table::B60 => usual,
             Table::NdErr => nderr(error),
         }
     }
@@ -109,11 +109,12 @@ impl Table {
     fn on_data(self, tag: TagState, before: LineState, answer: Answer, op: TagOp) -> bool
         ensures { λ r. ⌜ r ≡ op .0 ∈? rulesOf self .onData (tag .0) (before .0) answer ⌝ }
     {
+        let usual = by_tags(tag, before, answer, op);
         match self {
             Table::B46 => up_to_update(op),
-            Table::B57 => by_tags(tag, before, answer, op),
-            Table::B59 => by_tags(tag, before, answer, op),
-            Table::B60 => by_tags(tag, before, answer, op),
+            Table::B57 => usual,
+            Table::B59 => usual,
+            Table::B60 => usual,
             Table::NdErr => false,
         }
     }

@@ -1,5 +1,7 @@
 -- `rows::answered` meets its contract: both halves are the callees' own words.
 -- Assumes nothing.
+use mathlib.Core.Path.{ap₂}
+use mathlib.Core.Bool.{_&&_}
 use Rattle.rows.specs.Permitted.{answered}
 use borrow.Author.Needs.{needs}
 use Rattle.rows.proofs.answered.Statement.{statement}
@@ -16,7 +18,7 @@ errors-requires c κs = search needs
 
 returns : tie.Need-returns
 unfolding answered
-returns c = cc
+returns c = ap₂ _&&_ (c .before .before .same-answer .ensures) (c .errors .ensures)
 
 pub answered-spec : {M : Type 1} → statement M
 answered-spec =

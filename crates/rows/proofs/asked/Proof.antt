@@ -1,6 +1,7 @@
 -- `rows::asked` meets its contract: each part is a callee's own words.
 -- Assumes nothing.
-use Rattle.rows.specs.Permitted.{asked}
+use Rattle.rows.proofs.Laws.{asked-by}
+use denote.Ref.{now}
 use borrow.Author.Needs.{needs}
 use Rattle.rows.proofs.asked.Statement.{statement}
 use Rattle.rows.proofs.asked.Tie as tie
@@ -30,8 +31,9 @@ element-copy-out-result : tie.Need-element-copy-out-result
 element-copy-out-result c = search needs
 
 returns : tie.Need-returns
-unfolding asked
-returns c = cc
+returns c =
+    asked-by (now (c .before .before .before .before .before .before .before .before .args .e)) (c .before .before .before .before .before .before .before .before .args .table) (c .before .before .before .before .before .before .before .before .args .ret) (c .before .before .before .before .before .before .before .before .args .marked) (c .before .before .before .before .before .excl .result) (c .before .before .before .before .before .before .asks .result) (c .before .before .before .fits2 .result) (c .before .fits3 .result)
+    (c .before .before .before .before .before .before .asks .ensures) (c .before .before .before .before .before .excl .ensures) (c .before .before .before .fits2 .ensures) (c .before .fits3 .ensures)
 
 pub asked-spec : {M : Type 1} → statement M
 asked-spec =

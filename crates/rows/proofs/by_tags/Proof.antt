@@ -1,9 +1,6 @@
 -- `rows::by_tags` meets its contract: the choices of the code are those of `byTags`.
 -- Assumes nothing.
 use Rattle.rows.proofs.Laws.{by-tags}
-use Rattle.kinds.specs.Answers.{answerResp}
-use Rattle.kinds.specs.Codes.{respPD}
-use lib.Dec.{eqb}
 use borrow.Author.Needs.{needs}
 use Rattle.rows.proofs.by_tags.Statement.{statement}
 use Rattle.rows.proofs.by_tags.Tie as tie
@@ -24,7 +21,9 @@ pick-requires-3 : tie.Need-pick-requires-3
 pick-requires-3 c κs = search needs
 
 returns : tie.Need-returns
-returns c = cc (by-tags (c .before .before .before .before .before .before .before .before .before .before .before .before .args .op .0) (eqb (c .before .before .before .before .before .before .before .before .before .before .before .before .args .tag .0) 2) (respPD (answerResp (c .before .before .before .before .before .before .before .before .before .before .before .before .args .answer))) (eqb (c .before .before .before .before .before .before .before .before .before .before .before .before .args .before .0) 4))
+returns c =
+    by-tags (c .before .before .before .before .before .before .before .before .before .before .before .before .args .op .0) (c .before .before .before .before .before .before .before .before .before .before .before .before .args .tag .0) (c .before .before .before .before .before .before .before .before .before .before .before .before .args .before .0) (c .before .before .before .before .before .before .before .before .before .before .before .before .args .answer) (c .before .before .before .before .before .before .before .before .resp .result .0) (c .before .before .before .before .before .before .before .passes-dirty .result) (c .before .before .before .before .before .before .pick .result) (c .before .before .before .pick2 .result) (c .pick3 .result)
+    (c .before .before .before .before .before .before .before .before .resp .ensures) (c .before .before .before .before .before .before .before .passes-dirty .ensures) (c .before .before .before .before .before .before .pick .ensures) (c .before .before .before .pick2 .ensures) (c .pick3 .ensures)
 
 pub by-tags-spec : {M : Type 1} → statement M
 by-tags-spec =

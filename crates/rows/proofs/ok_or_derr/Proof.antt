@@ -1,7 +1,6 @@
 -- `rows::ok_or_derr` meets its contract.
 -- Assumes nothing.
 use Rattle.rows.proofs.Laws.{ok-or-derr}
-use Rattle.kinds.specs.Answers.{hasData}
 use borrow.Author.Needs.{needs}
 use Rattle.rows.proofs.ok_or_derr.Statement.{statement}
 use Rattle.rows.proofs.ok_or_derr.Tie as tie
@@ -13,7 +12,7 @@ pick-requires : tie.Need-pick-requires
 pick-requires c κs = search needs
 
 returns : tie.Need-returns
-returns c = cc (ok-or-derr (c .before .before .before .before .before .before .args .error .0) (hasData (c .before .before .before .before .before .before .args .answer)))
+returns c = ok-or-derr (c .before .before .before .before .before .before .args .error .0) (c .before .before .before .before .before .before .args .answer) (c .before .has-data .result) (c .pick .result) (c .before .has-data .ensures) (c .pick .ensures)
 
 pub ok-or-derr-spec : {M : Type 1} → statement M
 ok-or-derr-spec = tie.close (tie.spec has-data-requires pick-requires returns)

@@ -1,7 +1,7 @@
 -- `rows::same_answer` meets its contract: six bytes against the six of the answer.
 -- Assumes nothing.
 use Rattle.rows.proofs.Laws.{same-wire}
-use lib.ListN.{getD}
+use Rattle.rows.specs.Event.{channelOf, opcodeOf, respOf, fwdStateOf, forwardedOf, forwardedRespOf}
 use denote.Ref.{now}
 use borrow.Author.Needs.{needs}
 use Rattle.rows.proofs.same_answer.Statement.{statement}
@@ -47,7 +47,9 @@ array-read-result-6 : tie.Need-array-read-result-6
 array-read-result-6 c = search needs
 
 returns : tie.Need-returns
-returns c = same-wire (getD (now (c .before .before .before .before .before .before .before .args .e)) 5 0) (getD (now (c .before .before .before .before .before .before .before .args .e)) 6 0) (getD (now (c .before .before .before .before .before .before .before .args .e)) 7 0) (getD (now (c .before .before .before .before .before .before .before .args .e)) 8 0) (getD (now (c .before .before .before .before .before .before .before .args .e)) 11 0) (getD (now (c .before .before .before .before .before .before .before .args .e)) 12 0) (c .before .before .before .before .before .before .before .args .answer) (c .before .before .before .before .before .before .wire .result) (c .before .before .before .before .before .before .wire .ensures)
+returns c =
+    let e = now (c .before .before .before .before .before .before .before .args .e) in
+    same-wire (channelOf e) (opcodeOf e) (respOf e) (fwdStateOf e) (forwardedOf e) (forwardedRespOf e) (c .before .before .before .before .before .before .before .args .answer) (c .before .before .before .before .before .before .wire .result) (c .before .before .before .before .before .before .wire .ensures)
 
 pub same-answer-spec : {M : Type 1} → statement M
 same-answer-spec =

@@ -1,9 +1,6 @@
 -- `rows::tagged` meets its contract.
 -- Assumes nothing.
-use Rattle.rows.proofs.Laws.{tag-op}
-use Rattle.rows.specs.Permitted.{tagged, rulesOf}
-use Rattle.kinds.specs.Answers.{hasData}
-use lib.ListN.{getD}
+use Rattle.rows.proofs.Laws.{tagged-by}
 use denote.Ref.{now}
 use borrow.Author.Needs.{needs}
 use Rattle.rows.proofs.tagged.Statement.{statement}
@@ -28,8 +25,9 @@ tags-allow-requires : tie.Need-tags-allow-requires
 tags-allow-requires c κs = search needs
 
 returns : tie.Need-returns
-unfolding tagged
-returns c = cc (tag-op (getD (now (c .before .before .before .before .before .before .before .args .e)) 9 0) (hasData (c .before .before .before .before .before .before .before .args .answer)) (rulesOf (c .before .before .before .before .before .before .before .args .table) .onData (c .before .before .before .before .before .before .before .args .tag .0) (c .before .before .before .before .before .before .before .args .before .0) (c .before .before .before .before .before .before .before .args .answer)))
+returns c =
+    tagged-by (now (c .before .before .before .before .before .before .before .args .e)) (c .before .before .before .before .before .before .before .args .tag .0) (c .before .before .before .before .before .before .before .args .table) (c .before .before .before .before .before .before .before .args .before .0) (c .before .before .before .before .before .before .before .args .answer) (c .before .before .before .before .before .has-data .result) (c .before .before .before .before .on-data .result) (c .before .pick .result) (c .tags-allow .result)
+    (c .before .before .before .before .before .has-data .ensures) (c .before .before .before .before .on-data .ensures) (c .before .pick .ensures) (c .tags-allow .ensures)
 
 pub tagged-spec : {M : Type 1} → statement M
 tagged-spec =

@@ -1,6 +1,9 @@
 -- `rows::Table::asks` meets its contract: each arm tests the list of its table.
 -- Assumes nothing.
+use Rattle.kinds.specs.Tests.{_∈?_}
 use Rattle.kinds.proofs.Laws.{one-of-1, one-of-2, one-of-4}
+use Rattle.rows.specs.Permitted.{rulesOf}
+use Rattle.rows.proofs.Laws.{told}
 use borrow.Author.Needs.{needs}
 use Rattle.rows.proofs.Table.asks.Statement.{statement}
 use Rattle.rows.proofs.Table.asks.Tie as tie
@@ -24,19 +27,19 @@ known-requires : tie.Need-known-requires
 known-requires c κs = search needs
 
 returns : tie.Need-returns
-returns c = cc (one-of-4 (c .before .before .before .before .before .before .args .request .0) 1 2 4 21)
+returns c = told (λ T. c .before .before .before .before .before .before .args .request .0 ∈? rulesOf T .asks) (c .before .before .before .before .enum-told .given .1) (one-of-4 (c .before .before .before .before .before .before .args .request .0) 1 2 4 21)
 
 returns-2 : tie.Need-returns-2
-returns-2 c = cc (one-of-2 (c .before .before .before .before .args .request .0) 18 20)
+returns-2 c = told (λ T. c .before .before .before .before .args .request .0 ∈? rulesOf T .asks) (c .before .before .enum-told2 .given .1) (one-of-2 (c .before .before .before .before .args .request .0) 18 20)
 
 returns-3 : tie.Need-returns-3
-returns-3 c = cc (one-of-1 (c .before .before .before .args .request .0) 22)
+returns-3 c = told (λ T. c .before .before .before .args .request .0 ∈? rulesOf T .asks) (c .before .enum-told3 .given .1) (one-of-1 (c .before .before .before .args .request .0) 22)
 
 returns-4 : tie.Need-returns-4
-returns-4 c = cc (one-of-1 (c .before .before .before .args .request .0) 22)
+returns-4 c = told (λ T. c .before .before .before .args .request .0 ∈? rulesOf T .asks) (c .before .enum-told4 .given .1) (one-of-1 (c .before .before .before .args .request .0) 22)
 
 returns-5 : tie.Need-returns-5
-returns-5 c = cc
+returns-5 c = told (λ T. c .before .before .before .args .request .0 ∈? rulesOf T .asks) (c .before .enum-told5 .given .1) (c .known .ensures)
 
 pub asks-spec : {M : Type 1} → statement M
 asks-spec =
