@@ -2,35 +2,45 @@
 -- Assumes nothing.
 use mathlib.Core.Path.{_≡_, refl, sym, _∙_, ap, ap₂, subst⁻¹}
 use mathlib.Core.Bool.{Bool, true, false, cond, not, _&&_, false≢true}
-use mathlib.Core.List.{List, [], _∷_}
-use Prim.Native.Nat.{ℕ, _<_, _≤_}
+use mathlib.Core.List.{List, [], _∷_, _++_}
+use Prim.Native.Nat.{ℕ, zero, suc, _+_, _/_, _%_, _<_, _≤_}
+use native.Mathlib.Nat.{add-zero, zero-add, add-suc, suc-add}
+use native.Mathlib.Numerals.{add-one}
 use native.Mathlib.Omega.{arith}
 use borrow.Author.Tests.{ne-eqb, ltb-true, ltb-false}
 use lib.Bits.{bitAnd}
-use lib.Dec.{ltb}
-use lib.ListN.{getD}
-use Rattle.kinds.specs.Codes.{stateNotSeen}
+use lib.Dec.{eqb, ltb}
+use lib.ListN.{length, getD, set, take}
+use lib.Seq.{take-all, take-suc-set}
+use Rattle.kinds.specs.Codes.{stateNotSeen, allStates, NDERR, respPD, fwdPD}
+use Rattle.kinds.specs.Places.{eventLength}
+use Rattle.kinds.specs.declared.Answer.{Answer}
 use Rattle.kinds.specs.declared.Answer.the-variants.{SnpResp, SnpRespData, SnpRespDataPtl}
 use Rattle.kinds.proofs.Lists.{each-state}
 use Rattle.rows.specs.Permitted.{asked, answered, someTag}
+use Rattle.rows.specs.declared.Table.{Table}
 use Rattle.rows.specs.declared.Table.the-variants.{NdErr}
-use Rattle.sets.specs.Sets.{setOf}
-use Rattle.rows.specs.Event.{byte, seen}
-use Rattle.steps.specs.Code.{tableAt, forwardAt, answerAt, eventBytes, rowFits, rowAdds}
+use Rattle.sets.specs.Sets.{setOf, holdsDirty}
+use Rattle.rows.specs.Event.{byte, requestOf, channelOf, opcodeOf, respOf, fwdStateOf, respErrOf, seen}
+use Rattle.steps.specs.Steps.{duty, noDuty, Home, Requester, lost}
+use Rattle.steps.specs.Code.{bytesFrom, eventBytes, mark, at-before, at-ret, at-table, at-resp, at-fwd, at-message, columnAt, tableAt, forwardAt, answerAt, rowAt, rowFits, rowAdds, tablesOf, messageOf, rowKey, wireKey, eventKey}
 use Rattle.steps.specs.declared.Row as code
 use Rattle.kinds.specs.declared.Forward.{Forward}
 
+abbrev weights : List ℕ
+weights = 1 ∷ 2 ∷ 4 ∷ 8 ∷ 16 ∷ 32 ∷ 64 ∷ allStates ∷ []
+
 -- the set of the states after that were seen: by one of the seven, by 7 for not seen, by no other number
-pub seen-at : (n : ℕ) → n < 8 → getD (1 ∷ 2 ∷ 4 ∷ 8 ∷ 16 ∷ 32 ∷ 64 ∷ 127 ∷ []) n 0 ≡ setOf (seen stateNotSeen n)
+pub seen-at : (n : ℕ) → n < 8 → getD weights n 0 ≡ setOf (seen stateNotSeen n)
 unfolding setOf
 seen-at n h = go (ltb n 7) refl
   where
-    go : (b : Bool) → ltb n 7 ≡ b → getD (1 ∷ 2 ∷ 4 ∷ 8 ∷ 16 ∷ 32 ∷ 64 ∷ 127 ∷ []) n 0 ≡ setOf (seen stateNotSeen n)
-    go true k = each-state (λ m. getD (1 ∷ 2 ∷ 4 ∷ 8 ∷ 16 ∷ 32 ∷ 64 ∷ 127 ∷ []) m 0 ≡ setOf (seen stateNotSeen m)) refl refl refl refl refl refl refl n (ltb-true n 7 k)
+    go : (b : Bool) → ltb n 7 ≡ b → getD weights n 0 ≡ setOf (seen stateNotSeen n)
+    go true k = each-state (λ m. getD weights m 0 ≡ setOf (seen stateNotSeen m)) refl refl refl refl refl refl refl n (ltb-true n 7 k)
     go false k = last n (omega (arith, ltb-false n 7 k))
       where
-        last : (m : ℕ) → m ≡ 7 → getD (1 ∷ 2 ∷ 4 ∷ 8 ∷ 16 ∷ 32 ∷ 64 ∷ 127 ∷ []) m 0 ≡ setOf (seen stateNotSeen m)
-        last m e = subst⁻¹ (λ (i : ℕ). getD (1 ∷ 2 ∷ 4 ∷ 8 ∷ 16 ∷ 32 ∷ 64 ∷ 127 ∷ []) i 0 ≡ setOf (seen stateNotSeen i)) e refl
+        last : (m : ℕ) → m ≡ 7 → getD weights m 0 ≡ setOf (seen stateNotSeen m)
+        last m e = subst⁻¹ (λ (i : ℕ). getD weights i 0 ≡ setOf (seen stateNotSeen i)) e refl
 
 pub seen-past : (n : ℕ) → 8 ≤ n → 0 ≡ setOf (seen stateNotSeen n)
 unfolding setOf
@@ -45,13 +55,33 @@ table-else n a b c d = simp (ne-eqb n 0 a, ne-eqb n 1 b, ne-eqb n 2 c, ne-eqb n 
 pub answer-else : (m r f : ℕ) → (m ≡ 0 → ⊥) → (m ≡ 1 → ⊥) → SnpRespDataPtl (record { 0 = r }) ≡ answerAt m r f
 answer-else m r f a b = simp (ne-eqb m 0 a, ne-eqb m 1 b)
 
--- fourteen bytes, one by one
-pub fourteen : (e : List ℕ) (x₀ x₁ x₂ x₃ x₄ x₅ x₆ x₇ x₈ x₉ x₁₀ x₁₁ x₁₂ x₁₃ : ℕ)
-    → x₀ ≡ byte e 0 → x₁ ≡ byte e 1 → x₂ ≡ byte e 2 → x₃ ≡ byte e 3 → x₄ ≡ byte e 4 → x₅ ≡ byte e 5 → x₆ ≡ byte e 6
-    → x₇ ≡ byte e 7 → x₈ ≡ byte e 8 → x₉ ≡ byte e 9 → x₁₀ ≡ byte e 10 → x₁₁ ≡ byte e 11 → x₁₂ ≡ byte e 12 → x₁₃ ≡ byte e 13
-    → x₀ ∷ x₁ ∷ x₂ ∷ x₃ ∷ x₄ ∷ x₅ ∷ x₆ ∷ x₇ ∷ x₈ ∷ x₉ ∷ x₁₀ ∷ x₁₁ ∷ x₁₂ ∷ x₁₃ ∷ [] ≡ eventBytes e
-fourteen e x₀ x₁ x₂ x₃ x₄ x₅ x₆ x₇ x₈ x₉ x₁₀ x₁₁ x₁₂ x₁₃ h₀ h₁ h₂ h₃ h₄ h₅ h₆ h₇ h₈ h₉ h₁₀ h₁₁ h₁₂ h₁₃ =
-    ap₂ _∷_ h₀ (ap₂ _∷_ h₁ (ap₂ _∷_ h₂ (ap₂ _∷_ h₃ (ap₂ _∷_ h₄ (ap₂ _∷_ h₅ (ap₂ _∷_ h₆ (ap₂ _∷_ h₇ (ap₂ _∷_ h₈ (ap₂ _∷_ h₉ (ap₂ _∷_ h₁₀ (ap₂ _∷_ h₁₁ (ap₂ _∷_ h₁₂ (ap₂ _∷_ h₁₃ refl)))))))))))))
+-- one byte more is read
+bytes-snoc : (e : List ℕ) (i n : ℕ) → bytesFrom e i (suc n) ≡ bytesFrom e i n ++ (byte e (i + n) ∷ [])
+bytes-snoc e i zero = ap (λ (k : ℕ). byte e k ∷ []) (sym (add-zero i))
+bytes-snoc e i (suc n) = ap (λ (l : List ℕ). byte e i ∷ l) (bytes-snoc e (suc i) n ∙ ap (λ (k : ℕ). bytesFrom e (suc i) n ++ (byte e k ∷ [])) (suc-add i n ∙ sym (add-suc i n)))
+
+pub bytes-turn : (e bytes : List ℕ) (i b : ℕ) → i < length bytes → b ≡ byte e i → take i bytes ≡ bytesFrom e 0 i → take (i + 1) (set bytes i b) ≡ bytesFrom e 0 (i + 1)
+bytes-turn e bytes i b h p q =
+    ap (λ (k : ℕ). take k (set bytes i b)) (add-one i)
+    ∙ take-suc-set bytes i b h
+    ∙ ap₂ (λ (l : List ℕ) (x : ℕ). l ++ (x ∷ [])) q (p ∙ ap (byte e) (sym (zero-add i)))
+    ∙ sym (ap (bytesFrom e 0) (add-one i) ∙ bytes-snoc e 0 i)
+
+-- all bytes are read
+pub bytes-end : (e bytes : List ℕ) (i : ℕ) → length bytes ≡ eventLength → eventLength ≤ i → i ≤ eventLength → take i bytes ≡ bytesFrom e 0 i → bytes ≡ eventBytes e
+bytes-end e bytes i h k l q =
+    let is : i ≡ eventLength = omega arith in
+    sym (take-all i bytes (omega arith)) ∙ q ∙ ap (bytesFrom e 0) is
+
+-- a row by its columns
+pub row-parts : (w t b m r f ret : ℕ) (T : Table) (a : Answer) → t ≡ columnAt w at-table → T ≡ tableAt t → b ≡ columnAt w at-before → m ≡ columnAt w at-message
+    → r ≡ columnAt w at-resp → f ≡ columnAt w at-fwd → a ≡ answerAt m r f → ret ≡ columnAt w at-ret
+    → _≡_ {A = code.Row} (record { table = T; before = record { 0 = b }; ret = ret; answer = a; after = w % mark; marked = eqb (w / mark % 2) 1 }) (rowAt w)
+unfolding rowAt
+row-parts w t b m r f ret T a ht hT hb hm hr hf ha hret =
+    ap₂ (λ (x : Table) (y : ℕ). record { table = x; before = record { 0 = y }; ret = ret; answer = a; after = w % mark; marked = eqb (w / mark % 2) 1 }) (hT ∙ ap tableAt ht) hb
+    ∙ ap₂ (λ (x : ℕ) (y : Answer). record { table = tableAt (columnAt w at-table); before = record { 0 = columnAt w at-before }; ret = x; answer = y; after = w % mark; marked = eqb (w / mark % 2) 1 }) hret
+    (ha ∙ ap₂ (λ (x y : ℕ). answerAt x y f) hm hr ∙ ap (answerAt (columnAt w at-message) (columnAt w at-resp)) hf)
 
 pub answer-rsp : (m r f : ℕ) (g : Forward) → m ≡ 0 → g ≡ forwardAt f → SnpResp (record { 0 = r }) g ≡ answerAt m r f
 answer-rsp m r f g h k = ap (SnpResp (record { 0 = r })) k ∙ sym (ap (λ (n : ℕ). answerAt n r f) h)
@@ -91,3 +121,20 @@ two-choices s t a b d x r h k = k ∙ ap (cond s a) h
 -- what the row adds, by whether it fits
 pub adds : (e : List ℕ) (among : ℕ) (r : code.Row) (b : Bool) (v : ℕ) → b ≡ rowFits e r → v ≡ cond b (bitAnd (r .after) among) 0 → v ≡ rowAdds e among r
 adds e among r b v h k = k ∙ ap (λ (x : Bool). cond x (bitAnd (r .after) among) 0) h
+
+-- the duty, each choice from the one before
+pub duty-by : (e : List ℕ) (before r f x : ℕ) (home requester held : Bool) (d₁ d₂ d : ℕ) → r ≡ respOf e → home ≡ respPD r → f ≡ fwdStateOf e → requester ≡ fwdPD f
+    → x ≡ respErrOf e → held ≡ holdsDirty before → d₁ ≡ cond (eqb x NDERR && held) lost noDuty → d₂ ≡ cond requester Requester d₁ → d ≡ cond home Home d₂ → d ≡ duty e before
+unfolding duty
+duty-by e before r f x home requester held d₁ d₂ d hr hh hf hq hx hs h₁ h₂ h =
+    h
+    ∙ ap₂ (λ (b : Bool) (n : ℕ). cond b Home n) (hh ∙ ap respPD hr)
+    (h₂
+    ∙ ap₂ (λ (b : Bool) (n : ℕ). cond b Requester n) (hq ∙ ap fwdPD hf)
+    (h₁ ∙ ap₂ (λ (n : ℕ) (b : Bool). cond (eqb n NDERR && b) lost noDuty) hx hs))
+
+-- the upper columns, from those of the tables and the message
+pub key-by : (e : List ℕ) (tables message key : ℕ) → tables ≡ tablesOf (requestOf e) (respErrOf e) → message ≡ messageOf (channelOf e) (opcodeOf e)
+    → key ≡ rowKey tables message (respOf e) (fwdStateOf e) → key ≡ eventKey e
+unfolding wireKey
+key-by e tables message key ht hm h = h ∙ ap₂ (λ (x y : ℕ). rowKey x y (respOf e) (fwdStateOf e)) ht hm

@@ -26,7 +26,7 @@ use Rattle.kinds.specs.Answers.{SnpResp-I, wire}
 use Rattle.rows.specs.Permitted.{asked, answered, tagged, permitted, someTag}
 use Rattle.steps.specs.Steps.{steps, setAfter, setsAfter}
 use Rattle.rows.proofs.ByRows.{Permits, permitted-row, row-permitted}
-use Rattle.steps.specs.Code.{codeOf, rowAt, eventBytes, rowFits, withRow, wireKey}
+use Rattle.steps.specs.Code.{codeOf, rowCount, at-key, rowAt, eventBytes, rowFits, withRow, wireKey}
 
 -- the row leads from s to s′, under some tag state and with a state after that was seen
 by : List ℕ → ℕ → ℕ → Row → Bool
@@ -94,7 +94,7 @@ walk-one e rs r h = set-state (reach e rs) (reach e (rs ++ (r ∷ []))) (r .befo
     elsewhere : (s : ℕ) → s ≢ r .before → bitOr (reach e rs s) 0 ≡ reach e (rs ++ (r ∷ [])) s
     elsewhere s n = ap (λ (t : Bool). bitOr (reach e rs s) (cond (t && rowFits e (codeOf r)) more 0)) (sym (ne-eqb s (r .before) n)) ∙ added e rs r s
 
--- the code reads an event's fourteen bytes and no others
+-- the code reads an event's own bytes and no others
 same-bytes : (e : List ℕ) (s s′ : ℕ) (r : Row) → by (eventBytes e) s s′ r ≡ by e s s′ r
 unfolding by rowFits asked answered someTag tagged
 same-bytes e s s′ r = refl
@@ -179,9 +179,9 @@ getD-In d [] i h = absurd (not-suc-le-zero h)
 getD-In d (x ∷ xs) zero h = here
 getD-In d (x ∷ xs) (suc i) h = there (getD-In d xs i (le-of-suc-le-suc h))
 
-seventy-three : length rows ≡ 73
+rows-counted : length rows ≡ rowCount
 unfolding rows
-seventy-three = refl
+rows-counted = refl
 
 states-before : all (λ r. ltb (r .before) 7) rows ≡ true
 unfolding rows
@@ -205,7 +205,7 @@ half NdErr = 2
 
 -- the upper columns of a word are its table's and its answer's
 unfoldable pub keyed : ℕ → Bool
-keyed w = eqb (w / 2 ^ 17) (wireKey (half (rowAt w .table)) (wire (rowAt w .answer)))
+keyed w = eqb (w / 2 ^ at-key) (wireKey (half (rowAt w .table)) (wire (rowAt w .answer)))
 
 -- the code's table is the printed one, and the upper columns of each word are as they should be
 pub record Printed (ws : List ℕ) : Type 0 where
@@ -221,20 +221,20 @@ word-row {ws} i h =
     ∙ List·getD-map codeOf rows i no-row
 
 -- the state before of a word's row is one of the seven
-pub word-before : {ws : List ℕ} (i : ℕ) (r : code.Row) → Printed ws → i < 73 → r ≡ rowAt (getD ws i 0) → r .before .0 < 7
+pub word-before : {ws : List ℕ} (i : ℕ) (r : code.Row) → Printed ws → i < rowCount → r ≡ rowAt (getD ws i 0) → r .before .0 < 7
 word-before i r h l k =
     subst (λ (x : code.Row). x .before .0 < 7) (sym (k ∙ word-row i h))
-    (ltb-true (getD rows i no-row .before) 7 (all-at (λ x. ltb (x .before) 7) states-before (getD-In no-row rows i (subst (λ (n : ℕ). i < n) (sym seventy-three) l))))
+    (ltb-true (getD rows i no-row .before) 7 (all-at (λ x. ltb (x .before) 7) states-before (getD-In no-row rows i (subst (λ (n : ℕ). i < n) (sym rows-counted) l))))
 
 -- a turn of the walk
 pub walk-turn : (e : List ℕ) {ws : List ℕ} (i : ℕ) (b : List ℕ) (among : ℕ) (r : code.Row) (sets next : List ℕ)
-    → Printed ws → i < 73 → b ≡ eventBytes e → among ≡ setOf (seen stateNotSeen (afterOf b)) → r ≡ rowAt (getD ws i 0)
+    → Printed ws → i < rowCount → b ≡ eventBytes e → among ≡ setOf (seen stateNotSeen (afterOf b)) → r ≡ rowAt (getD ws i 0)
     → sets ≡ walked (eventBytes e) (take i rows) → next ≡ withRow b among r sets → next ≡ walked (eventBytes e) (take (i + 1) rows)
 walk-turn e i b among r sets next h l hb ha hr hs hn =
     hn ∙ rewritten ∙ walk-one (eventBytes e) (take i rows) (getD rows i no-row) small ∙ ap (walked (eventBytes e)) (sym (ap (λ (n : ℕ). take n rows) (add-one i) ∙ take-suc rows i no-row inside))
   where
     inside : i < length rows
-    inside = subst (λ (n : ℕ). i < n) (sym seventy-three) l
+    inside = subst (λ (n : ℕ). i < n) (sym rows-counted) l
 
     small : getD rows i no-row .before < 7
     small = ltb-true (getD rows i no-row .before) 7 (all-at (λ x. ltb (x .before) 7) states-before (getD-In no-row rows i inside))
@@ -246,5 +246,5 @@ walk-turn e i b among r sets next h l hb ha hr hs hn =
         ∙ ap₂ (withRow (eventBytes e) (setOf (seen stateNotSeen (afterOf (eventBytes e))))) (hr ∙ word-row i h) hs
 
 -- the walk is over
-pub walk-end : (e : List ℕ) (i : ℕ) (sets : List ℕ) → 73 ≤ i → sets ≡ walked (eventBytes e) (take i rows) → sets ≡ setsAfter e
-walk-end e i sets h k = k ∙ ap (walked (eventBytes e)) (take-all i rows (subst (λ (n : ℕ). n ≤ i) (sym seventy-three) h)) ∙ walk-all e
+pub walk-end : (e : List ℕ) (i : ℕ) (sets : List ℕ) → rowCount ≤ i → sets ≡ walked (eventBytes e) (take i rows) → sets ≡ setsAfter e
+walk-end e i sets h k = k ∙ ap (walked (eventBytes e)) (take-all i rows (subst (λ (n : ℕ). n ≤ i) (sym rows-counted) h)) ∙ walk-all e

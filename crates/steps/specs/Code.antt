@@ -1,11 +1,12 @@
 -- What the code's own parts compute, in the words of the rows. Nobody has to believe this file: the claims above it don't name it.
-use Prim.Native.Nat.{ℕ, _+_, _*_, _/_, _%_, _^_}
+use Prim.Native.Nat.{ℕ, zero, suc, _+_, _-_, _*_, _/_, _%_, _^_}
 use mathlib.Core.Bool.{Bool, cond, _&&_}
 use mathlib.Core.List.{List, [], _∷_}
 use lib.ListN.{getD, set}
 use lib.Bits.{bitAnd, bitOr}
 use lib.Dec.{eqb}
 use Rattle.kinds.specs.Tests.{_∈?_}
+use Rattle.kinds.specs.Places.{eventLength}
 use Rattle.kinds.specs.Codes.{RSP, op-SnpRespDataPtl, NDERR, SnpPreferUniqueFwd}
 use Rattle.kinds.specs.declared.Answer.{Answer}
 use Rattle.kinds.specs.declared.Answer.the-variants.{SnpResp, SnpRespData, SnpRespDataPtl}
@@ -19,32 +20,51 @@ use Rattle.rows.specs.Event.{byte, requestOf, answerOf, respErrOf}
 use Rattle.rows.specs.Rows.{Row}
 use Rattle.rows.specs.Permitted.{asked, answered, someTag}
 
--- an event's fourteen bytes
+-- n bytes of an event from place i on, and all of them
+abbrev pub bytesFrom : List ℕ → ℕ → ℕ → List ℕ
+bytesFrom e i zero = []
+bytesFrom e i (suc n) = byte e i ∷ bytesFrom e (suc i) n
+
 abbrev pub eventBytes : List ℕ → List ℕ
-eventBytes e =
-    byte e 0 ∷
-    byte e 1 ∷
-    byte e 2 ∷
-    byte e 3 ∷
-    byte e 4 ∷
-    byte e 5 ∷
-    byte e 6 ∷
-    byte e 7 ∷
-    byte e 8 ∷
-    byte e 9 ∷
-    byte e 10 ∷
-    byte e 11 ∷
-    byte e 12 ∷
-    byte e 13 ∷
-    []
+eventBytes e = bytesFrom e 0 eventLength
 
 -- a printed row in the code's kinds
 abbrev pub codeOf : Row → code.Row
 codeOf r = record { table = r .table; before = record { 0 = r .before }; ret = r .ret; answer = r .answer; after = setOf (λ s. s ∈? r .after); marked = r .marked }
 
--- the three bits at a place of a word
+-- how many rows there are
+abbrev pub rowCount : ℕ
+rowCount = 73
+
+-- Where the columns stand in a word, four bits each; below them all lies the set of states after, and over it the mark.
+abbrev pub mark : ℕ
+mark = 128
+
+abbrev pub at-before : ℕ
+at-before = 8
+
+abbrev pub at-ret : ℕ
+at-ret = 12
+
+abbrev pub at-table : ℕ
+at-table = 16
+
+abbrev pub at-resp : ℕ
+at-resp = 20
+
+abbrev pub at-fwd : ℕ
+at-fwd = 24
+
+abbrev pub at-message : ℕ
+at-message = 28
+
+-- from here up lie the columns of table (but for its lowest bit), Resp, FwdState and message
+abbrev pub at-key : ℕ
+at-key = at-table + 1
+
+-- the column at a place of a word
 abbrev pub columnAt : ℕ → ℕ → ℕ
-columnAt w place = w / 2 ^ place % 8
+columnAt w place = w / 2 ^ place % 16
 
 abbrev pub tableAt : ℕ → Table
 tableAt n = cond (eqb n 0) B46 (cond (eqb n 1) B57 (cond (eqb n 2) B59 (cond (eqb n 3) B60 NdErr)))
@@ -59,12 +79,12 @@ answerAt m r f = cond (eqb m 0) (SnpResp (record { 0 = r }) (forwardAt f)) (cond
 unfoldable pub rowAt : ℕ → code.Row
 rowAt w =
     record {
-      table = tableAt (columnAt w 16);
-      before = record { 0 = columnAt w 8 };
-      ret = columnAt w 12;
-      answer = answerAt (columnAt w 28) (columnAt w 20) (columnAt w 24);
-      after = w % 128;
-      marked = eqb (w / 128 % 2) 1;
+      table = tableAt (columnAt w at-table);
+      before = record { 0 = columnAt w at-before };
+      ret = columnAt w at-ret;
+      answer = answerAt (columnAt w at-message) (columnAt w at-resp) (columnAt w at-fwd);
+      after = w % mark;
+      marked = eqb (w / mark % 2) 1;
     }
 
 -- the row is the event's, whatever the state before
@@ -89,7 +109,8 @@ messageOf channel opcode = cond (eqb channel RSP) 0 (cond (eqb opcode op-SnpResp
 
 -- the upper columns of a word as one number
 abbrev pub rowKey : ℕ → ℕ → ℕ → ℕ → ℕ
-rowKey tables message resp forward = tables + 8 * resp + 128 * forward + 2048 * message
+rowKey tables message resp forward =
+    tables + 2 ^ (at-resp - at-key) * resp + 2 ^ (at-fwd - at-key) * forward + 2 ^ (at-message - at-key) * message
 
 -- the same by the tables and by an answer on the bus
 unfoldable pub wireKey : ℕ → List ℕ → ℕ

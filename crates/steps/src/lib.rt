@@ -1,4 +1,5 @@
 // What one event can do to a line: the walk along the rows to the states after, and the duty.
+use kinds::ALL_STATES;
 use kinds::Answer;
 use kinds::Channel;
 use kinds::Duty;
@@ -10,8 +11,8 @@ use kinds::Opcode;
 use kinds::Request;
 use kinds::Resp;
 use kinds::RespErr;
+use kinds::place;
 use rows::Table;
-use rows::place;
 ghost use mathlib.Core.Path.{_≡_};
 ghost use Prim.Native.Nat.{_<_};
 ghost use Rattle.kinds.specs.Codes.{stateNotSeen};
@@ -33,12 +34,12 @@ pub struct Row {
     pub marked: bool,
 }
 
-// The three bits at a place of a word.
+// The column at a place of a word.
 fn column(word: u32, place: u32) -> u8
     requires { ⌜ place < 32 ⌝ }
     ensures { λ r. ⌜ r ≡ columnAt word place ⌝ }
 {
-    ((word >> place) % 8) as u8
+    ((word >> place) % printed::COLUMN) as u8
 }
 
 // The table of a column.
@@ -121,7 +122,7 @@ fn row_adds(e: &[u8; EVENT_BYTES], among: u8, row: Row) -> u8
 fn seen_states(after: LineState) -> u8
     ensures { λ r. ⌜ r ≡ setOf (seen stateNotSeen (after .0)) ⌝ }
 {
-    let weights: [u8; 8] = [1, 2, 4, 8, 16, 32, 64, 127];
+    let weights: [u8; 8] = [1, 2, 4, 8, 16, 32, 64, ALL_STATES];
     let at = after.0 as usize;
     if at < 8 { weights[at] } else { 0 }
 }
@@ -130,22 +131,14 @@ fn seen_states(after: LineState) -> u8
 fn event_bytes(event: &[u8]) -> [u8; EVENT_BYTES]
     ensures { λ r. ⌜ r ≡ eventBytes (now (event .entry)) ⌝ }
 {
-    [
-        rows::byte_at(event, 0),
-        rows::byte_at(event, 1),
-        rows::byte_at(event, 2),
-        rows::byte_at(event, 3),
-        rows::byte_at(event, 4),
-        rows::byte_at(event, 5),
-        rows::byte_at(event, 6),
-        rows::byte_at(event, 7),
-        rows::byte_at(event, 8),
-        rows::byte_at(event, 9),
-        rows::byte_at(event, 10),
-        rows::byte_at(event, 11),
-        rows::byte_at(event, 12),
-        rows::byte_at(event, 13),
-    ]
+    let mut bytes = [0u8; EVENT_BYTES];
+    let mut i: usize = 0;
+    while i < EVENT_BYTES {
+        let byte = rows::byte_at(event, i);
+        bytes[i] = byte;
+        i += 1;
+    }
+    bytes
 }
 
 // The column of the table, halved: B4.59 and B4.60 are for SnpPreferUniqueFwd, and NDERR has rows of its own.

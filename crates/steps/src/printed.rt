@@ -3,7 +3,7 @@ use kinds::FwdState;
 use kinds::LineState;
 use kinds::Resp;
 
-// Where the columns stand in a word, three bits each; the set of states after lies below them all.
+// Where the columns stand in a word, four bits each; the set of states after lies below them all.
 pub const BEFORE_AT: u32 = 8;
 
 pub const RET_AT: u32 = 12;
@@ -15,6 +15,9 @@ pub const RESP_AT: u32 = 20;
 pub const FWD_AT: u32 = 24;
 
 pub const MESSAGE_AT: u32 = 28;
+
+// A column is below this.
+pub const COLUMN: u32 = 16;
 
 // From here up lie the columns of table (but for its lowest bit), Resp, FwdState and message, and what each weighs there.
 pub const KEY_AT: u32 = TABLE_AT + 1;

@@ -1,6 +1,7 @@
 -- `steps::duty` meets its contract: the choices of the code are those of `duty`.
 -- Assumes nothing.
-use Rattle.steps.specs.Steps.{duty}
+use Rattle.steps.proofs.Laws.{duty-by}
+use denote.Ref.{now}
 use borrow.Author.Needs.{needs}
 use Rattle.steps.proofs.duty.Statement.{statement}
 use Rattle.steps.proofs.duty.Tie as tie
@@ -33,8 +34,9 @@ choose-requires-3 : tie.Need-choose-requires-3
 choose-requires-3 c κs = search needs
 
 returns : tie.Need-returns
-unfolding duty
-returns c = cc
+returns c =
+    duty-by (now (c .before .before .before .before .before .before .before .before .before .before .before .args .event)) (c .before .before .before .before .before .before .before .before .before .before .before .args .before) (c .before .before .before .before .before .before .before .before .before .byte-at .result) (c .before .before .before .before .before .before .before .byte-at2 .result) (c .before .before .before .before .before .byte-at3 .result) (c .before .before .before .before .before .before .before .before .passes-dirty .result) (c .before .before .before .before .before .before .passes-dirty2 .result) (c .before .before .before .holds-dirty .result) (c .before .before .choose .result) (c .before .choose2 .result) (c .choose3 .result)
+    (c .before .before .before .before .before .before .before .before .before .byte-at .ensures) (c .before .before .before .before .before .before .before .before .passes-dirty .ensures) (c .before .before .before .before .before .before .before .byte-at2 .ensures) (c .before .before .before .before .before .before .passes-dirty2 .ensures) (c .before .before .before .before .before .byte-at3 .ensures) (c .before .before .before .holds-dirty .ensures) (c .before .before .choose .ensures) (c .before .choose2 .ensures) (c .choose3 .ensures)
 
 pub duty-spec : {M : Type 1} → statement M
 duty-spec =

@@ -1,74 +1,55 @@
--- `steps::event_bytes` meets its contract: fourteen bytes, each as `byte` has it.
+-- `steps::event_bytes` meets its contract. The invariant: the first `i` bytes are read, and there is room for all. The measure is the bytes that are left.
 -- Assumes nothing.
-use Rattle.steps.proofs.Laws.{fourteen}
+use mathlib.Core.Path.{_≡_, refl, _∙_}
+use Prim.Native.Nat.{_≤_, _-_}
+use native.Mathlib.Omega.{arith}
+use lib.ListN.{length, take, length-set}
+use Rattle.kinds.specs.Places.{eventLength}
+use Rattle.steps.specs.Code.{bytesFrom}
+use Rattle.steps.proofs.Laws.{bytes-turn, bytes-end}
 use denote.Ref.{now}
 use borrow.Author.Needs.{needs}
 use Rattle.steps.proofs.event_bytes.Statement.{statement}
 use Rattle.steps.proofs.event_bytes.Tie as tie
 
-byte-at-requires : tie.Need-byte-at-requires
+abbrev Inv-loop : tie.InvT-loop
+Inv-loop event bytes₀ i₀ bytes i = (i ≤ eventLength) × (length bytes ≡ eventLength) × (take i bytes ≡ bytesFrom event 0 i)
+
+abbrev μ-loop : tie.MeasureT-loop
+μ-loop event bytes₀ i₀ bytes i = eventLength - i
+
+loop-holds : tie.Need-loop-holds Inv-loop μ-loop
+loop-holds c = (omega arith, refl, refl)
+
+byte-at-requires : tie.Need-byte-at-requires Inv-loop μ-loop
 byte-at-requires c κs = search needs
 
-byte-at-requires-2 : tie.Need-byte-at-requires-2
-byte-at-requires-2 c κs = search needs
+array-write-bytes : tie.Need-array-write-bytes Inv-loop μ-loop
+array-write-bytes c = omega arith
 
-byte-at-requires-3 : tie.Need-byte-at-requires-3
-byte-at-requires-3 c κs = search needs
+add-i : tie.Need-add-i Inv-loop μ-loop
+add-i c = omega arith
 
-byte-at-requires-4 : tie.Need-byte-at-requires-4
-byte-at-requires-4 c κs = search needs
+loop-less : tie.Need-loop-less Inv-loop μ-loop
+loop-less c = omega arith
 
-byte-at-requires-5 : tie.Need-byte-at-requires-5
-byte-at-requires-5 c κs = search needs
+loop-again : tie.Need-loop-again Inv-loop μ-loop
+loop-again c =
+    (omega arith, length-set (c .before .before .loop .bytes) (c .before .before .loop .i) (c .byte-at .result) ∙ c .before .before .loop .inv .1, bytes-turn (now (c .before .before .before .before .args .event)) (c .before .before .loop .bytes) (c .before .before .loop .i) (c .byte-at .result) (omega arith) (c .byte-at .ensures) (c .before .before .loop .inv .2))
 
-byte-at-requires-6 : tie.Need-byte-at-requires-6
-byte-at-requires-6 c κs = search needs
-
-byte-at-requires-7 : tie.Need-byte-at-requires-7
-byte-at-requires-7 c κs = search needs
-
-byte-at-requires-8 : tie.Need-byte-at-requires-8
-byte-at-requires-8 c κs = search needs
-
-byte-at-requires-9 : tie.Need-byte-at-requires-9
-byte-at-requires-9 c κs = search needs
-
-byte-at-requires-10 : tie.Need-byte-at-requires-10
-byte-at-requires-10 c κs = search needs
-
-byte-at-requires-11 : tie.Need-byte-at-requires-11
-byte-at-requires-11 c κs = search needs
-
-byte-at-requires-12 : tie.Need-byte-at-requires-12
-byte-at-requires-12 c κs = search needs
-
-byte-at-requires-13 : tie.Need-byte-at-requires-13
-byte-at-requires-13 c κs = search needs
-
-byte-at-requires-14 : tie.Need-byte-at-requires-14
-byte-at-requires-14 c κs = search needs
-
-returns : tie.Need-returns
-returns c = fourteen (now (c .before .before .before .before .before .before .before .before .before .before .before .before .before .before .before .args .event))
-    (c .before .before .before .before .before .before .before .before .before .before .before .before .before .byte-at .result) (c .before .before .before .before .before .before .before .before .before .before .before .before .byte-at2 .result) (c .before .before .before .before .before .before .before .before .before .before .before .byte-at3 .result) (c .before .before .before .before .before .before .before .before .before .before .byte-at4 .result) (c .before .before .before .before .before .before .before .before .before .byte-at5 .result) (c .before .before .before .before .before .before .before .before .byte-at6 .result) (c .before .before .before .before .before .before .before .byte-at7 .result) (c .before .before .before .before .before .before .byte-at8 .result) (c .before .before .before .before .before .byte-at9 .result) (c .before .before .before .before .byte-at10 .result) (c .before .before .before .byte-at11 .result) (c .before .before .byte-at12 .result) (c .before .byte-at13 .result) (c .byte-at14 .result)
-    (c .before .before .before .before .before .before .before .before .before .before .before .before .before .byte-at .ensures) (c .before .before .before .before .before .before .before .before .before .before .before .before .byte-at2 .ensures) (c .before .before .before .before .before .before .before .before .before .before .before .byte-at3 .ensures) (c .before .before .before .before .before .before .before .before .before .before .byte-at4 .ensures) (c .before .before .before .before .before .before .before .before .before .byte-at5 .ensures) (c .before .before .before .before .before .before .before .before .byte-at6 .ensures) (c .before .before .before .before .before .before .before .byte-at7 .ensures) (c .before .before .before .before .before .before .byte-at8 .ensures) (c .before .before .before .before .before .byte-at9 .ensures) (c .before .before .before .before .byte-at10 .ensures) (c .before .before .before .byte-at11 .ensures) (c .before .before .byte-at12 .ensures) (c .before .byte-at13 .ensures) (c .byte-at14 .ensures)
+returns : tie.Need-returns Inv-loop μ-loop
+returns c = bytes-end (now (c .before .before .before .args .event)) (c .before .loop .bytes) (c .before .loop .i) (c .before .loop .inv .1) (c .loop-test .left) (c .before .loop .inv .0) (c .before .loop .inv .2)
 
 pub event-bytes-spec : {M : Type 1} → statement M
 event-bytes-spec =
     tie.close
     (tie.spec
+    Inv-loop
+    μ-loop
+    loop-holds
     byte-at-requires
-    byte-at-requires-2
-    byte-at-requires-3
-    byte-at-requires-4
-    byte-at-requires-5
-    byte-at-requires-6
-    byte-at-requires-7
-    byte-at-requires-8
-    byte-at-requires-9
-    byte-at-requires-10
-    byte-at-requires-11
-    byte-at-requires-12
-    byte-at-requires-13
-    byte-at-requires-14
+    array-write-bytes
+    add-i
+    loop-less
+    loop-again
     returns)

@@ -1,6 +1,7 @@
 -- `steps::event_key` meets its contract: each column is read off the event.
 -- Assumes nothing.
-use Rattle.steps.specs.Code.{wireKey}
+use Rattle.steps.proofs.Laws.{key-by}
+use denote.Ref.{now}
 use borrow.Author.Needs.{needs}
 use Rattle.steps.proofs.event_key.Statement.{statement}
 use Rattle.steps.proofs.event_key.Tie as tie
@@ -33,8 +34,7 @@ row-key-requires : tie.Need-row-key-requires
 row-key-requires c κs = search needs
 
 returns : tie.Need-returns
-unfolding wireKey
-returns c = cc
+returns c = key-by (now (c .before .before .before .before .before .before .before .before .before .args .e)) (c .before .before .before .before .before .before .tables-of .result) (c .before .before .before .message-of .result) (c .row-key .result) (c .before .before .before .before .before .before .tables-of .ensures) (c .before .before .before .message-of .ensures) (c .row-key .ensures)
 
 pub event-key-spec : {M : Type 1} → statement M
 event-key-spec =

@@ -1,6 +1,6 @@
 -- `steps::row_of` meets its contract: each column is read off the word.
 -- Assumes nothing.
-use Rattle.steps.specs.Code.{rowAt}
+use Rattle.steps.proofs.Laws.{row-parts}
 use borrow.Author.Needs.{needs}
 use Rattle.steps.proofs.row_of.Statement.{statement}
 use Rattle.steps.proofs.row_of.Tie as tie
@@ -33,8 +33,9 @@ column-requires-6 : tie.Need-column-requires-6
 column-requires-6 c κs = search needs
 
 returns : tie.Need-returns
-unfolding rowAt
-returns c = cc
+returns c =
+    row-parts (c .before .before .before .before .before .before .before .before .args .word) (c .before .before .before .before .before .before .before .column .result) (c .before .before .before .before .before .column2 .result) (c .before .before .before .before .column3 .result) (c .before .before .before .column4 .result) (c .before .before .column5 .result) (c .column6 .result) (c .before .before .before .before .before .before .table-of .result) (c .before .answer-of .result)
+    (c .before .before .before .before .before .before .before .column .ensures) (c .before .before .before .before .before .before .table-of .ensures) (c .before .before .before .before .before .column2 .ensures) (c .before .before .before .before .column3 .ensures) (c .before .before .before .column4 .ensures) (c .before .before .column5 .ensures) (c .before .answer-of .ensures) (c .column6 .ensures)
 
 pub row-of-spec : {M : Type 1} → statement M
 row-of-spec =

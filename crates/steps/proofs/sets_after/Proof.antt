@@ -9,7 +9,7 @@ use lib.ListN.{take}
 use denote.Ref.{now}
 use Rattle.sets.specs.Sets.{setOf}
 use Rattle.rows.specs.Rows.{rows}
-use Rattle.steps.specs.Code.{rowAt, eventBytes, wireKey}
+use Rattle.steps.specs.Code.{rowCount, rowAt, eventBytes, wireKey}
 use Rattle.steps.proofs.Walk.{Printed, half, keyed, walked, walk-none, word-before, walk-end}
 use Rattle.steps.proofs.Passing.{pass-turn, add-turn}
 use Rattle.steps.proofs.sets_after.Statement.{statement}
@@ -17,10 +17,10 @@ use Rattle.steps.proofs.sets_after.Tie as tie
 
 abbrev Inv-loop : tie.InvT-loop
 Inv-loop event e among key words sets₀ i₀ sets i =
-    (i ≤ 73) × Printed words × (sets ≡ walked (eventBytes event) (take i rows))
+    (i ≤ rowCount) × Printed words × (sets ≡ walked (eventBytes event) (take i rows))
 
 abbrev μ-loop : tie.MeasureT-loop
-μ-loop event e among key words sets₀ i₀ sets i = 73 - i
+μ-loop event e among key words sets₀ i₀ sets i = rowCount - i
 
 event-bytes-requires : tie.Need-event-bytes-requires Inv-loop μ-loop
 event-bytes-requires c κs = search needs
