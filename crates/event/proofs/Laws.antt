@@ -9,12 +9,14 @@ use borrow.Author.Tests.{eq-eqb, ne-eqb}
 use lib.Dec.{eqb, ltb}
 use lib.ListN.{length, getD, drop, drop-of-length-le}
 use lib.Seq.{drop-cons}
+use Rattle.kinds.specs.Tests.{_∈?_}
 use Rattle.kinds.specs.Codes.{states}
+use Rattle.kinds.specs.Places.{eventLength}
 use Rattle.kinds.specs.declared.Refusal.{Refusal}
-use Rattle.rows.specs.Event.{byte}
+use Rattle.rows.specs.Event.{byte, requestOf}
 use Rattle.steps.specs.Steps.{duty, noDuty, setAfter, setsAfter, dutyAlone}
 use Rattle.event.specs.declared.Judgment.{Judgment}
-use Rattle.event.specs.Refusals.{Issue, below, refusalAlone}
+use Rattle.event.specs.Refusals.{Issue, issueE, below, fault, refusalAlone}
 use Rattle.event.specs.Alone.{sevenZeros, acceptedAlone, refusedAlone, judgedAlone}
 
 and-assoc : (a b c : Bool) → a && b && c ≡ a && (b && c)
@@ -37,6 +39,17 @@ below-turn e ls k fine b h p q =
 -- every byte is tested
 pub below-end : (e ls : List ℕ) (k : ℕ) (fine : Bool) → length ls ≤ k → fine && below e (suc k) (drop k ls) ≡ below e 1 ls → fine ≡ below e 1 ls
 below-end e ls k fine h q = sym (and-true fine) ∙ ap (λ (l : List ℕ). fine && below e (suc k) l) (sym (drop-of-length-le ls h)) ∙ q
+
+-- every byte of an event has its limit, but for the request
+pub limits-whole : suc (length (issueE .limits)) ≡ eventLength
+limits-whole = refl
+
+-- the refusal for the bytes, each choice from the one before
+pub fault-by : (e : List ℕ) (b : ℕ) (fine known : Bool) (q r : ℕ) → fine ≡ below e 1 (issueE .limits) → b ≡ requestOf e → known ≡ b ∈? issueE .requests
+    → q ≡ cond known 0 5 → r ≡ cond fine q 4 → r ≡ fault issueE e
+unfolding fault
+fault-by e b fine known q r hf hb hk hq hr =
+    hr ∙ ap₂ (λ (x : Bool) (n : ℕ). cond x n 4) hf (hq ∙ ap (λ (x : Bool). cond x 0 5) (hk ∙ ap (λ (n : ℕ). n ∈? issueE .requests) hb))
 
 -- seven numbers, one a state
 pub seven : (f : ℕ → ℕ) (x₀ x₁ x₂ x₃ x₄ x₅ x₆ : ℕ)

@@ -3,7 +3,7 @@ use kinds::Duty;
 use kinds::EVENT_BYTES;
 use kinds::Refusal;
 use kinds::Request;
-use rows::place;
+use kinds::place;
 ghost use mathlib.Core.Path.{_≡_};
 ghost use mathlib.Core.Bool.{cond};
 ghost use mathlib.Core.List.{map};
@@ -14,7 +14,7 @@ ghost use Rattle.event.specs.Refusals.{issueE, below, fault, refusalAlon
 ghost use Rattle.event.specs.Alone.{judgedAlone};
 
 // Below which number each byte of an event is, from byte 1 on.
-const LIMITS: [u8; 13] = [
+const LIMITS: [u8; EVENT_BYTES - 1] = [
     // RetToSrc, DoNotGoToSD, excl
     2,
     2,

@@ -1,5 +1,9 @@
 -- `event::duty_from` meets its contract.
 -- Assumes nothing.
+use mathlib.Core.Path.{_∙_, ap}
+use mathlib.Core.Bool.{cond}
+use lib.Dec.{eqb}
+use Rattle.steps.specs.Steps.{noDuty}
 use borrow.Author.Needs.{needs}
 use Rattle.event.proofs.duty_from.Statement.{statement}
 use Rattle.event.proofs.duty_from.Tie as tie
@@ -11,7 +15,7 @@ choose-requires : tie.Need-choose-requires
 choose-requires c κs = search needs
 
 returns : tie.Need-returns
-returns c = cc
+returns c = c .choose .ensures ∙ ap (cond (eqb (c .before .before .before .args .after) 0) noDuty) (c .before .duty .ensures)
 
 pub duty-from-spec : {M : Type 1} → statement M
 duty-from-spec = tie.close (tie.spec duty-requires choose-requires returns)

@@ -1,12 +1,15 @@
 -- `event::fault` meets its contract: the choices of the code are those of `fault`.
 -- Assumes nothing.
-use Rattle.event.specs.Refusals.{fault}
+use mathlib.Core.Path.{ap}
+use Prim.Native.Nat.{ℕ, _-_}
+use Rattle.event.proofs.Laws.{limits-whole, fault-by}
+use denote.Ref.{now}
 use borrow.Author.Needs.{needs}
 use Rattle.event.proofs.fault.Statement.{statement}
 use Rattle.event.proofs.fault.Tie as tie
 
 slice-aggregate-in-range : tie.Need-slice-aggregate-in-range
-slice-aggregate-in-range c = search needs
+slice-aggregate-in-range c = ap (λ (n : ℕ). n - 1) limits-whole
 
 in-range-requires : tie.Need-in-range-requires
 in-range-requires c κs = search needs
@@ -24,8 +27,9 @@ choose-requires-2 : tie.Need-choose-requires-2
 choose-requires-2 c κs = search needs
 
 returns : tie.Need-returns
-unfolding fault
-returns c = cc
+returns c =
+    fault-by (now (c .before .before .before .before .before .before .before .args .event)) (c .before .before .before .byte-at .result) (c .before .before .before .before .in-range .result) (c .before .before .known .result) (c .before .choose .result) (c .choose2 .result)
+    (c .before .before .before .before .in-range .ensures) (c .before .before .before .byte-at .ensures) (c .before .before .known .ensures) (c .before .choose .ensures) (c .choose2 .ensures)
 
 pub fault-spec : {M : Type 1} → statement M
 fault-spec =
