@@ -27,6 +27,7 @@ use Rattle.steps.specs.Code.{bytesFrom, eventBytes, mark, at-before, at-
 use Rattle.steps.specs.declared.Row as code
 use Rattle.kinds.specs.declared.Forward.{Forward}
 
+-- the sets of the states after that were seen, as the code has them: the seven states one by one, and all of them
 abbrev weights : List ℕ
 weights = 1 ∷ 2 ∷ 4 ∷ 8 ∷ 16 ∷ 32 ∷ 64 ∷ allStates ∷ []
 

@@ -10,7 +10,7 @@ use lib.Bits.{bitAnd, bitOr, or-zero-r}
 use lib.ListN.{getD, set, take}
 use lib.Seq.{set-getD}
 use Rattle.kinds.specs.Tests.{all, _∈?_}
-use Rattle.kinds.specs.Codes.{stateNotSeen, NDERR, SnpPreferUniqueFwd}
+use Rattle.kinds.specs.Codes.{stateNotSeen, NDERR}
 use Rattle.kinds.specs.Answers.{wire}
 use Rattle.kinds.proofs.Lists.{one-of, and-left, and-right}
 use Rattle.sets.specs.Sets.{setOf}
@@ -21,7 +21,7 @@ use Rattle.rows.specs.declared.Table.the-variants.{B46, B57, B59, B60, NdErr}
 use Rattle.rows.specs.Permitted.{asked, answered, someTag, rulesOf}
 use Rattle.rows.proofs.Parts.{isNdErr, asked-so, answered-so}
 use Rattle.steps.specs.declared.Row as code
-use Rattle.steps.specs.Code.{rowCount, at-key, rowAt, eventBytes, rowFits, rowAdds, withRow, tablesOf, wireKey, eventKey}
+use Rattle.steps.specs.Code.{rowCount, at-key, rowAt, eventBytes, rowFits, rowAdds, withRow, tablesIf, tablesOf, wireKey, eventKey}
 use Rattle.steps.proofs.Walk.{half, keyed, Printed, walked, walk-turn}
 
 -- what holds of every word holds of word i, and past the end of 0
@@ -43,13 +43,10 @@ word-key w h = eqb-true (w / 2 ^ at-key) (wireKey (half (rowAt w .table)) (wire 
 tables-half : (e : List ℕ) (T : Table) → requestOf e ∈? rulesOf T .asks ≡ true → eqb (respErrOf e) NDERR ≡ isNdErr T → tablesOf (requestOf e) (respErrOf e) ≡ half T
 unfolding half isNdErr
 tables-half e T h k =
-    ap (λ (b : Bool). tables b (requestOf e)) k
-    ∙ eqb-true (tables (isNdErr T) (requestOf e)) (half T) (one-of (λ n. eqb (tables (isNdErr T) n) (half T)) (requestOf e) (rulesOf T .asks) h (each T))
+    ap (λ (b : Bool). tablesIf b (requestOf e)) k
+    ∙ eqb-true (tablesIf (isNdErr T) (requestOf e)) (half T) (one-of (λ n. eqb (tablesIf (isNdErr T) n) (half T)) (requestOf e) (rulesOf T .asks) h (each T))
   where
-    tables : Bool → ℕ → ℕ
-    tables b request = cond b 2 (cond (eqb request SnpPreferUniqueFwd) 1 0)
-
-    each : (U : Table) → all (λ n. eqb (tables (isNdErr U) n) (half U)) (rulesOf U .asks) ≡ true
+    each : (U : Table) → all (λ n. eqb (tablesIf (isNdErr U) n) (half U)) (rulesOf U .asks) ≡ true
     each B46 = refl
     each B57 = refl
     each B59 = refl

@@ -36,10 +36,11 @@ codeOf r = record { table = r .table; before = record { 0 = r .before }; ret = r
 abbrev pub rowCount : ℕ
 rowCount = 73
 
--- Where the columns stand in a word, four bits each; below them all lies the set of states after, and over it the mark.
+-- the weight of the mark in a word; below it lies the set of states after
 abbrev pub mark : ℕ
 mark = 128
 
+-- Where the columns stand in a word, four bits each.
 abbrev pub at-before : ℕ
 at-before = 8
 
@@ -99,9 +100,12 @@ rowAdds e among r = cond (rowFits e r) (bitAnd (r .after) among) 0
 unfoldable pub withRow : List ℕ → ℕ → code.Row → List ℕ → List ℕ
 withRow e among r sets = set sets (r .before .0) (bitOr (getD sets (r .before .0) 0) (rowAdds e among r))
 
--- the column of the tables that an event can be from, halved
+-- the column of the tables that an event can be from, halved: by whether its error is NDERR, and its request
+abbrev pub tablesIf : Bool → ℕ → ℕ
+tablesIf nderr request = cond nderr 2 (cond (eqb request SnpPreferUniqueFwd) 1 0)
+
 abbrev pub tablesOf : ℕ → ℕ → ℕ
-tablesOf request error = cond (eqb error NDERR) 2 (cond (eqb request SnpPreferUniqueFwd) 1 0)
+tablesOf request error = tablesIf (eqb error NDERR) request
 
 -- the column of a message, by its channel and opcode
 abbrev pub messageOf : ℕ → ℕ → ℕ
