@@ -4,7 +4,7 @@
 use mathlib.Core.Path.{_≡_, sym, _∙_, ap, subst}
 use mathlib.Core.Logic.{_↔_}
 use mathlib.Core.List.{List}
-use Prim.Native.Nat.{ℕ, _<_, _/_, _%_}
+use Prim.Native.Nat.{ℕ, _<_, _/_, _%_, _^_}
 -- the definitions that the theorems name
 use Rattle.event.specs.Refusals.{issueE}
 use Rattle.event.specs.Alone.{judgedAlone}
@@ -16,7 +16,7 @@ use Rattle.korehyumo.specs.Calls.{inOne, EventCall, eventTold, TraceCall
 -- their proofs
 use Rattle.trace.proofs.Given.{given, gives}
 use Rattle.trace.proofs.Whole.{judged-outcome}
-use Rattle.korehyumo.proofs.Laws.{number-in, place-in, same-outcome, number-alone, number-of-trace}
+use Rattle.korehyumo.proofs.Laws.{number-in, place-in, one-below, same-outcome, place-alone, number-alone, place-of-trace, number-of-trace}
 
 -- ONE OUTCOME: any two outcomes that a call's claim allows are equal, the result and every byte that it may write.
 pub one-event-call : (bytes : List ℕ) (c c′ : EventCall)
@@ -38,6 +38,13 @@ trace-number l = number-in _ (judged issueE l .outcome .place) (number-of-trace 
 
 pub trace-place : (l : Lent) → traceTold (judged issueE l) .result / 256 ≡ judged issueE l .outcome .place
 trace-place l = place-in _ (judged issueE l .outcome .place) (number-of-trace issueE l)
+
+-- The result is below 2 to the 32.
+pub event-fits : (bytes : List ℕ) → eventTold (judgedAlone issueE bytes) .result < 2 ^ 32
+event-fits bytes = one-below _ (judgedAlone issueE bytes .place) (number-alone issueE bytes) (place-alone issueE bytes)
+
+pub trace-fits : (l : Lent) → traceTold (judged issueE l) .result < 2 ^ 32
+trace-fits l = one-below _ (judged issueE l .outcome .place) (number-of-trace issueE l) (place-of-trace issueE l)
 
 -- DEMAND 1: the result is a number and a place in one exactly when the refusal table gives them.
 pub result-given : (l : Lent) (number place : ℕ) → number < 256 → traceTold (judged issueE l) .result ≡ inOne number place ↔ Given issueE l number place

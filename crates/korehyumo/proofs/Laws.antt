@@ -3,7 +3,7 @@
 use mathlib.Core.Path.{_≡_, sym, _∙_, ap, ap₂, subst}
 use mathlib.Core.Bool.{Bool, true, false, cond}
 use mathlib.Core.List.{List}
-use Prim.Native.Nat.{ℕ, _<_, _≤_, _/_, _%_}
+use Prim.Native.Nat.{ℕ, _<_, _/_, _%_, _^_}
 use native.Mathlib.Omega.{arith}
 use lib.Arith.{digits-div, digits-mod}
 use lib.Dec.{eqb}
@@ -16,12 +16,12 @@ use Rattle.event.specs.Alone.{acceptedAlone, refusedAlone, judgedAlone}
 use Rattle.event.specs.declared.Judgment.{Judgment}
 use Rattle.trace.specs.declared.Outcome.{Outcome}
 use Rattle.trace.specs.Lent.{Lent, Left, left}
-use Rattle.trace.specs.Refusals.{outcome, most}
+use Rattle.trace.specs.Refusals.{outcome}
 use Rattle.trace.specs.Given.{Given, accepted, bad-lengths, bad-set, bad-pair, bad-byte, bad-request}
 use Rattle.trace.specs.Judged.{judged}
 use Rattle.trace.proofs.Given.{given}
 use Rattle.trace.proofs.Whole.{judged-outcome}
-use Rattle.korehyumo.specs.Calls.{inOne, eventCall, eventTold, traceCall, traceTold}
+use Rattle.korehyumo.specs.Calls.{placesEnd, inOne, eventCall, eventTold, traceCall, traceTold}
 
 -- the number and the place are read back out of the two in one
 pub number-in : (number place : ℕ) → number < 256 → inOne number place % 256 ≡ number
@@ -40,12 +40,17 @@ same-outcome o number place small small′ h =
     (sym (number-in (o .refusal .0) (o .place) small) ∙ ap (λ (n : ℕ). n % 256) h ∙ number-in number place small′)
     (sym (place-in (o .refusal .0) (o .place) small) ∙ ap (λ (n : ℕ). n / 256) h ∙ place-in number place small′)
 
+-- the two in one fit 32 bits
+pub one-below : (number place : ℕ) → number < 256 → place < placesEnd → inOne number place < 2 ^ 32
+unfolding inOne
+one-below number place h k = omega arith
+
 -- one event alone: its place and its number are small
-pub place-alone : (issue : Issue) (e : List ℕ) → judgedAlone issue e .place ≤ most
+pub place-alone : (issue : Issue) (e : List ℕ) → judgedAlone issue e .place < placesEnd
 unfolding judgedAlone
 place-alone issue e = go (eqb (refusalAlone issue e) 0)
   where
-    go : (b : Bool) → cond b (acceptedAlone e) (refusedAlone (refusalAlone issue e)) .place ≤ most
+    go : (b : Bool) → cond b (acceptedAlone e) (refusedAlone (refusalAlone issue e)) .place < placesEnd
     go true = omega arith
     go false = omega arith
 
@@ -75,8 +80,8 @@ number-alone issue e = go (eqb (refusalAlone issue e) 0) (alone-below issue e)
     go false h = h
 
 -- a whole trace: of every row of the refusal table the place and the number are small
-place-of-row : {issue : Issue} {l : Lent} {number place : ℕ} → Given issue l number place → place ≤ most
-place-of-row (accepted g) = g .fits .few-events
+place-of-row : {issue : Issue} {l : Lent} {number place : ℕ} → Given issue l number place → place < placesEnd
+place-of-row (accepted g) = omega (arith, g .fits .few-events)
 place-of-row (bad-lengths n) = omega arith
 place-of-row (bad-set f a b n) = omega (arith, f .few-pairs, b)
 place-of-row (bad-pair g b n) = omega (arith, g .fits .few-events, b)
@@ -91,8 +96,8 @@ number-of-row (bad-pair g b n) = omega arith
 number-of-row (bad-byte g b p n) = omega arith
 number-of-row (bad-request g b p c n) = omega arith
 
-pub place-of-trace : (issue : Issue) (l : Lent) → judged issue l .outcome .place ≤ most
-place-of-trace issue l = subst (λ (o : Outcome). o .place ≤ most) (sym (judged-outcome issue l)) (place-of-row (given issue l))
+pub place-of-trace : (issue : Issue) (l : Lent) → judged issue l .outcome .place < placesEnd
+place-of-trace issue l = subst (λ (o : Outcome). o .place < placesEnd) (sym (judged-outcome issue l)) (place-of-row (given issue l))
 
 pub number-of-trace : (issue : Issue) (l : Lent) → judged issue l .outcome .refusal .0 < 256
 number-of-trace issue l = subst (λ (o : Outcome). o .refusal .0 < 256) (sym (judged-outcome issue l)) (number-of-row (given issue l))

@@ -4,6 +4,10 @@ use mathlib.Core.List.{List}
 use Rattle.event.specs.declared.Judgment.{Judgment}
 use Rattle.trace.specs.Lent.{Left}
 
+-- every place is below this, so that place and number in one are below 2 to the 32
+abbrev pub placesEnd : ℕ
+placesEnd = 16777216
+
 -- a refusal's number and its place in one: the place times 256, plus the number
 unfoldable pub inOne : ℕ → ℕ → ℕ
 inOne number place = place * 256 + number

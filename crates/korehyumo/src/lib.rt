@@ -1,17 +1,16 @@
 // The judge for other languages: one event alone and a whole trace, as functions that a C program links. What include/korehyumo.h says in
 // words is what the claims here say.
-ghost use Prim.Native.Nat.{_≤_};
+ghost use Prim.Native.Nat.{_<_};
 ghost use mathlib.Core.Path.{_≡_};
 ghost use Rattle.event.specs.Refusals.{issueE};
 ghost use Rattle.event.specs.Alone.{judgedAlone};
 ghost use Rattle.trace.specs.Lent.{lent};
-ghost use Rattle.trace.specs.Refusals.{most};
 ghost use Rattle.trace.specs.Judged.{judged};
-ghost use Rattle.korehyumo.specs.Calls.{inOne, eventCall, eventTold, traceCall, traceTold};
+ghost use Rattle.korehyumo.specs.Calls.{placesEnd, inOne, eventCall, eventTold, traceCall, traceTold};
 
 // A refusal's number and its place in one.
 fn in_one(number: u8, place: usize) -> u64
-    requires { ⌜ place ≤ most ⌝ }
+    requires { ⌜ place < placesEnd ⌝ }
     ensures { λ r. ⌜ r ≡ inOne number place ⌝ }
 {
     (place as u64) * 256 + (number as u64)

@@ -9,12 +9,13 @@ use borrow.Author.Tests.{lt-ltb, le-ltb, ltb-true, ltb-false, eqb-true, eqb-fals
 use lib.Dec.{eqb, ltb}
 use lib.ListN.{length}
 use Rattle.kinds.specs.Tests.{_∈?_}
+use Rattle.kinds.specs.Codes.{allStates}
 use Rattle.kinds.specs.Places.{setIn, pairIn, eventIn}
 use Rattle.rows.specs.Event.{requestOf}
 use Rattle.event.specs.Refusals.{Issue, below, fault}
 use Rattle.trace.specs.declared.Outcome.{Outcome}
 use Rattle.trace.specs.Lent.{Lent, count}
-use Rattle.trace.specs.Refusals.{outcome, lengthsFit, firstFrom, badSet, lowestBadSet, faultAt, badEvent, firstBadEvent, outcomeOf}
+use Rattle.trace.specs.Refusals.{outcome, lengthsFit, firstFrom, badSetAt, lowestBadSet, faultAt, badEvent, firstBadEvent, outcomeOf}
 use Rattle.trace.specs.Given.{Fits, SetGood, EventGood, GoodSoFar, Given, accepted, bad-lengths, bad-set, bad-pair, bad-byte, bad-request}
 use Rattle.trace.proofs.Laws.{fits, fit, refused-lengths, refused-set, left-to-events, refused-event, no-event}
 
@@ -130,9 +131,9 @@ module _ (issue : Issue) (l : Lent) where
   good-not-bad : (k : ℕ) → EventGood issue l k → bad k ≡ false
   good-not-bad k g = ap (λ (n : ℕ). not (eqb n 0)) (good-event issue l k g)
 
-  -- a set that isn't above 127 is good, and a good one isn't above
-  set-of : (p : ℕ) → badSet (l .table) p ≡ false → SetGood l p
-  set-of p h = ltb-false 127 (setIn (l .table) p) h
+  -- a set that isn't bad is good
+  set-of : (p : ℕ) → badSetAt (l .table) p ≡ false → SetGood l p
+  set-of p h = ltb-false allStates (setIn (l .table) p) h
 
   -- THE ROW OF THE OUTCOME: it is given.
   pub given : Given issue l (outcomeOf issue l .refusal .0) (outcomeOf issue l .place)
@@ -142,7 +143,7 @@ module _ (issue : Issue) (l : Lent) where
       at o h g = subst (λ (x : Outcome). Given issue l (x .refusal .0) (x .place)) h g
 
       sets : (a : ltb (lowestBadSet (l .table)) (length (l .table)) ≡ false) → (p : ℕ) → p < length (l .table) → SetGood l p
-      sets a p k = set-of p (before-first (badSet (l .table)) 0 (length (l .table)) p (omega arith) (omega (arith, ltb-false (lowestBadSet (l .table)) (length (l .table)) a)))
+      sets a p k = set-of p (before-first (badSetAt (l .table)) 0 (length (l .table)) p (omega arith) (omega (arith, ltb-false (lowestBadSet (l .table)) (length (l .table)) a)))
 
       reached : (k : ℕ) → Fits l → ltb (lowestBadSet (l .table)) (length (l .table)) ≡ false → k ≤ firstBad → GoodSoFar issue l k
       reached k f a h =
@@ -156,9 +157,9 @@ module _ (issue : Issue) (l : Lent) where
           let k = ltb-true low (length (l .table)) q in
           at (outcome 2 low) (refused-set issue l true low (sym p) refl refl k)
           (bad-set (fits l p)
-          (λ i h. set-of i (before-first (badSet (l .table)) 0 (length (l .table)) i (omega arith) h))
+          (λ i h. set-of i (before-first (badSetAt (l .table)) 0 (length (l .table)) i (omega arith) h))
           k
-          (λ g. absurd (omega (arith, g, ltb-true 127 (setIn (l .table) low) (first-passes (badSet (l .table)) 0 (length (l .table)) (omega arith))))))
+          (λ g. absurd (omega (arith, g, ltb-true allStates (setIn (l .table) low) (first-passes (badSetAt (l .table)) 0 (length (l .table)) (omega arith))))))
       go true false true p q r =
           let f = fits l p in
           let k = ltb-true firstBad (length (l .pairs)) r in
@@ -175,10 +176,10 @@ module _ (issue : Issue) (l : Lent) where
           (no-event issue (l .events) (l .pairs) (l .table) firstBad refl k))
           (accepted (reached (count l) f q (omega (arith, f .pairs-fit))))
 
-  -- the events are reached: no set is above 127
+  -- the events are reached: no set is bad
   table-good : {k : ℕ} → GoodSoFar issue l k → lowestBadSet (l .table) ≡ length (l .table)
   table-good r =
-      first-none (badSet (l .table)) 0 (length (l .table)) (λ p a b. le-ltb 127 (setIn (l .table) p) (r .sets-good p (omega arith)))
+      first-none (badSetAt (l .table)) 0 (length (l .table)) (λ p a b. le-ltb allStates (setIn (l .table) p) (r .sets-good p (omega arith)))
       ∙ zero-add (length (l .table))
 
   -- event k is the first that is refused
@@ -204,10 +205,10 @@ module _ (issue : Issue) (l : Lent) where
       go false h = refused-lengths issue l false (sym h) refl
   gives (bad-set {p} f least h n) =
       refused-set issue l true p (sym (fit l f)) refl
-      (sym (first-is (badSet (l .table)) 0 (length (l .table)) p (omega arith) (omega arith) (λ j a b. le-ltb 127 (setIn (l .table) j) (least j b)) (above (badSet (l .table) p) refl)))
+      (sym (first-is (badSetAt (l .table)) 0 (length (l .table)) p (omega arith) (omega arith) (λ j a b. le-ltb allStates (setIn (l .table) j) (least j b)) (above (badSetAt (l .table) p) refl)))
       h
     where
-      above : (b : Bool) → badSet (l .table) p ≡ b → b ≡ true
+      above : (b : Bool) → badSetAt (l .table) p ≡ b → b ≡ true
       above true q = refl
       above false q = absurd (n (set-of p q))
   gives (bad-pair {k} r h n) =

@@ -10,7 +10,7 @@ use native.Mathlib.Omega.{arith}
 use borrow.Author.Tests.{lt-ltb, le-ltb, le-leb, leb-true, eqb-true, eq-eqb, ne-eqb, not-true, not-false}
 use lib.Dec.{eqb, leb, ltb}
 use lib.ListN.{length}
-use Rattle.kinds.specs.Places.{eventLength, pairIn, eventIn}
+use Rattle.kinds.specs.Places.{eventLength, mostEvents, mostPairs, pairIn, eventIn}
 use Rattle.kinds.proofs.Lists.{and-left, and-right, and-both}
 use Rattle.event.specs.Refusals.{Issue, fault}
 use Rattle.trace.specs.declared.Outcome.{Outcome}
@@ -20,7 +20,7 @@ use Rattle.trace.specs.Lent.{Lent, left, count}
 use Rattle.trace.specs.Given.{Fits}
 use Rattle.trace.specs.Judged.{accepts, acceptedLeft, refusedLeft, judged}
 use Rattle.trace.specs.Turns.{Room, AllJudged}
-use Rattle.trace.specs.Refusals.{outcome, most, lengthsFit, firstFrom, lowestBadSet, faultAt, firstBadEvent, byEvents, outcomeOf}
+use Rattle.trace.specs.Refusals.{outcome, lengthsFit, firstFrom, badSet, lowestBadSet, faultAt, firstBadEvent, byEvents, outcomeOf}
 
 -- one less is left
 pub minus-suc : (n k : ℕ) → k < n → n - k ≡ suc (n - suc k)
@@ -64,8 +64,8 @@ module _ (l : Lent) where
   unfolding lengthsFit
   fits h =
       let a₁ = eqb (length (l .events) % eventLength) 0 in
-      let a₂ = a₁ && leb (count l) most in
-      let a₃ = a₂ && leb (length (l .table)) most in
+      let a₂ = a₁ && leb (count l) mostEvents in
+      let a₃ = a₂ && leb (length (l .table)) mostPairs in
       let a₄ = a₃ && eqb (length (l .pairs)) (count l) in
       let a₅ = a₄ && eqb (length (l .verdicts)) (count l) in
       let a₆ = a₅ && eqb (length (l .duties)) (count l) in
@@ -73,11 +73,11 @@ module _ (l : Lent) where
       let h₅ = and-left a₅ (eqb (length (l .duties)) (count l)) h₆ in
       let h₄ = and-left a₄ (eqb (length (l .verdicts)) (count l)) h₅ in
       let h₃ = and-left a₃ (eqb (length (l .pairs)) (count l)) h₄ in
-      let h₂ = and-left a₂ (leb (length (l .table)) most) h₃ in
+      let h₂ = and-left a₂ (leb (length (l .table)) mostPairs) h₃ in
       record {
-        whole = eqb-true (length (l .events) % eventLength) 0 (and-left a₁ (leb (count l) most) h₂);
-        few-events = leb-true (count l) most (and-right a₁ (leb (count l) most) h₂);
-        few-pairs = leb-true (length (l .table)) most (and-right a₂ (leb (length (l .table)) most) h₃);
+        whole = eqb-true (length (l .events) % eventLength) 0 (and-left a₁ (leb (count l) mostEvents) h₂);
+        few-events = leb-true (count l) mostEvents (and-right a₁ (leb (count l) mostEvents) h₂);
+        few-pairs = leb-true (length (l .table)) mostPairs (and-right a₂ (leb (length (l .table)) mostPairs) h₃);
         pairs-fit = eqb-true (length (l .pairs)) (count l) (and-right a₃ (eqb (length (l .pairs)) (count l)) h₄);
         verdicts-fit = eqb-true (length (l .verdicts)) (count l) (and-right a₄ (eqb (length (l .verdicts)) (count l)) h₅);
         duties-fit = eqb-true (length (l .duties)) (count l) (and-right a₅ (eqb (length (l .duties)) (count l)) h₆);
@@ -92,8 +92,8 @@ module _ (l : Lent) where
       (and-both
       (and-both
       (and-both
-      (and-both (eq-eqb (length (l .events) % eventLength) 0 (f .whole)) (le-leb (count l) most (f .few-events)))
-      (le-leb (length (l .table)) most (f .few-pairs)))
+      (and-both (eq-eqb (length (l .events) % eventLength) 0 (f .whole)) (le-leb (count l) mostEvents (f .few-events)))
+      (le-leb (length (l .table)) mostPairs (f .few-pairs)))
       (eq-eqb (length (l .pairs)) (count l) (f .pairs-fit)))
       (eq-eqb (length (l .verdicts)) (count l) (f .verdicts-fit)))
       (eq-eqb (length (l .duties)) (count l) (f .duties-fit)))
@@ -107,12 +107,9 @@ fault-chain issue events pairs table k p inside e f x h₁ h₂ h₃ h₄ h₅ =
     h₅
     ∙ ap₂ (λ (b : Bool) (n : ℕ). cond b n 3) (h₂ ∙ ap (λ (n : ℕ). ltb n (length table)) h₁) (h₄ ∙ ap (fault issue) h₃)
 
--- a set is bad where it is above 127
-pub bad-set : (x n : ℕ) → x ≡ n → 127 < x → ltb 127 n ≡ true
-bad-set x n h k = lt-ltb 127 n (omega arith)
-
-pub good-set : (x n : ℕ) → x ≡ n → x ≤ 127 → ltb 127 n ≡ false
-good-set x n h k = le-ltb 127 n (omega arith)
+-- what is found of a set that was read is so of the set
+pub set-tested : (x n : ℕ) (b found : Bool) → x ≡ n → b ≡ badSet x → b ≡ found → badSet n ≡ found
+set-tested x n b found h k t = ap badSet (sym h) ∙ sym k ∙ t
 
 -- an event is bad where its refusal isn't 0
 pub bad : (x n : ℕ) → x ≡ n → (x ≡ 0 → ⊥) → not (eqb n 0) ≡ true
@@ -159,10 +156,10 @@ module _ (issue : Issue) (l : Lent) where
       ∙ sym (by-stages true false (sym h ∙ not-false fit k) (ap (λ (i : ℕ). ltb i (length (l .table))) (sym q) ∙ le-ltb p (length (l .table)) b))
 
   -- there are few pairs and few events where the lengths fit
-  pub few-sets : (fit-test : Bool) → fit-test ≡ lengthsFit l → not fit-test ≡ false → length (l .table) ≤ most
+  pub few-sets : (fit-test : Bool) → fit-test ≡ lengthsFit l → not fit-test ≡ false → length (l .table) ≤ mostPairs
   few-sets fit-test h k = fits l (sym h ∙ not-false fit-test k) .few-pairs
 
-  pub few-pair-numbers : (fit-test : Bool) → fit-test ≡ lengthsFit l → not fit-test ≡ false → length (l .pairs) ≤ most
+  pub few-pair-numbers : (fit-test : Bool) → fit-test ≡ lengthsFit l → not fit-test ≡ false → length (l .pairs) ≤ mostEvents
   few-pair-numbers fit-test h k = let f = fits l (sym h ∙ not-false fit-test k) in omega (arith, f .pairs-fit, f .few-events)
 
   -- an accepted trace has lengths that fit

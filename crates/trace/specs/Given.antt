@@ -4,25 +4,25 @@ use mathlib.Core.Path.{_≡_}
 use mathlib.Core.Bool.{true}
 use lib.ListN.{length}
 use Rattle.kinds.specs.Tests.{_∈?_}
-use Rattle.kinds.specs.Places.{eventLength, setIn, pairIn, eventIn}
+use Rattle.kinds.specs.Codes.{allStates}
+use Rattle.kinds.specs.Places.{eventLength, mostEvents, mostPairs, setIn, pairIn, eventIn}
 use Rattle.rows.specs.Event.{requestOf}
 use Rattle.event.specs.Refusals.{Issue, below}
 use Rattle.trace.specs.Lent.{Lent, count}
-use Rattle.trace.specs.Refusals.{most}
 
--- row 1 names nothing: whole events, at most 4,096 events and pairs, and pair numbers, verdicts, duties and after-sets n long
+-- row 1 names nothing: whole events, not too many events or pairs, and pair numbers, verdicts, duties and after-sets n long
 pub record Fits (l : Lent) : Type 0 where
   pub whole : length (l .events) % eventLength ≡ 0
-  pub few-events : count l ≤ most
-  pub few-pairs : length (l .table) ≤ most
+  pub few-events : count l ≤ mostEvents
+  pub few-pairs : length (l .table) ≤ mostPairs
   pub pairs-fit : length (l .pairs) ≡ count l
   pub verdicts-fit : length (l .verdicts) ≡ count l
   pub duties-fit : length (l .duties) ≡ count l
   pub afters-fit : length (l .afters) ≡ count l
 
--- row 2 doesn't name pair p: its set isn't above 127
+-- row 2 doesn't name pair p: its set isn't above 127, that of all seven states
 abbrev pub SetGood : Lent → ℕ → Type 0
-SetGood l p = setIn (l .table) p ≤ 127
+SetGood l p = setIn (l .table) p ≤ allStates
 
 -- row 3 doesn't name event k: its pair number is below the table's length
 abbrev pub PairGood : Lent → ℕ → Type 0

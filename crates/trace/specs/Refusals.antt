@@ -4,7 +4,8 @@ use mathlib.Core.Bool.{Bool, cond, not, _&&_}
 use mathlib.Core.List.{List}
 use lib.Dec.{eqb, leb, ltb}
 use lib.ListN.{length}
-use Rattle.kinds.specs.Places.{eventLength, setIn, pairIn, eventIn}
+use Rattle.kinds.specs.Codes.{allStates}
+use Rattle.kinds.specs.Places.{eventLength, mostEvents, mostPairs, setIn, pairIn, eventIn}
 use Rattle.event.specs.Refusals.{Issue, fault}
 use Rattle.trace.specs.declared.Outcome.{Outcome}
 use Rattle.trace.specs.Lent.{Lent, count}
@@ -13,16 +14,12 @@ use Rattle.trace.specs.Lent.{Lent, count}
 abbrev pub outcome : ℕ → ℕ → Outcome
 outcome number place = record { refusal = record { 0 = number }; place = place }
 
--- at most this many events, and at most this many pairs
-abbrev pub most : ℕ
-most = 4096
-
 -- the event bytes are whole events, not too many, the table isn't too long, and every other buffer is as long as there are events
 unfoldable pub lengthsFit : Lent → Bool
 lengthsFit l =
     eqb (length (l .events) % eventLength) 0
-    && leb (count l) most
-    && leb (length (l .table)) most
+    && leb (count l) mostEvents
+    && leb (length (l .table)) mostPairs
     && eqb (length (l .pairs)) (count l)
     && eqb (length (l .verdicts)) (count l)
     && eqb (length (l .duties)) (count l)
@@ -33,9 +30,13 @@ abbrev pub firstFrom : (ℕ → Bool) → ℕ → ℕ → ℕ
 firstFrom p k zero = k
 firstFrom p k (suc n) = cond (p k) k (firstFrom p (suc k) n)
 
--- a set above 127
-abbrev pub badSet : List ℕ → ℕ → Bool
-badSet table p = ltb 127 (setIn table p)
+-- a set above 127, that of all seven states; the empty set isn't bad: that pair is already lost
+abbrev pub badSet : ℕ → Bool
+badSet states = ltb allStates states
+
+-- a pair whose set is bad
+abbrev pub badSetAt : List ℕ → ℕ → Bool
+badSetAt table p = badSet (setIn table p)
 
 -- 3 for a pair number that is not below the table's length, then the fault of the event's bytes, else 0
 unfoldable pub faultAt : Issue → List ℕ → List ℕ → List ℕ → ℕ → ℕ
@@ -47,7 +48,7 @@ badEvent issue events pairs table k = not (eqb (faultAt issue events pairs table
 
 -- the lowest pair whose set is bad, or how many pairs there are
 abbrev pub lowestBadSet : List ℕ → ℕ
-lowestBadSet table = firstFrom (badSet table) 0 (length table)
+lowestBadSet table = firstFrom (badSetAt table) 0 (length table)
 
 -- the first event that is bad, or how many events there are
 abbrev pub firstBadEvent : Issue → List ℕ → List ℕ → List ℕ → ℕ

@@ -3,15 +3,14 @@ use Prim.Native.Nat.{ℕ, _≤_}
 use mathlib.Core.Path.{_≡_}
 use mathlib.Core.List.{List}
 use lib.ListN.{length, set}
-use Rattle.kinds.specs.Places.{setIn, pairIn, eventIn}
+use Rattle.kinds.specs.Places.{mostEvents, setIn, pairIn, eventIn}
 use Rattle.verdicts.specs.Verdicts.{after, verdict, dutyByte, finding}
 use Rattle.verdicts.specs.declared.Finding.{Finding}
-use Rattle.trace.specs.Refusals.{most}
 use Rattle.trace.specs.Events.{eventAt, eventsFrom, moved, run, outputs}
 
 -- room for a byte of each event
 pub record Room (pairs verdicts duties afters : List ℕ) : Type 0 where
-  pub few : length pairs ≤ most
+  pub few : length pairs ≤ mostEvents
   pub verdicts-fit : length verdicts ≡ length pairs
   pub duties-fit : length duties ≡ length pairs
   pub afters-fit : length afters ≡ length pairs

@@ -1,23 +1,21 @@
 // A whole trace judged: whatever is lent, its refusal with every buffer as it came, or every event's verdict, duty and set.
+use kinds::ALL_STATES;
 use kinds::EVENT_BYTES;
 use kinds::EventNumber;
+use kinds::MOST_EVENTS;
+use kinds::MOST_PAIRS;
 use kinds::PairNumber;
 use kinds::Refusal;
 use verdicts::Finding;
 ghost use Prim.Native.Nat.{_≤_};
 ghost use mathlib.Core.Path.{_≡_};
 ghost use lib.ListN.{length};
+ghost use Rattle.kinds.specs.Places.{mostEvents, mostPairs};
 ghost use Rattle.event.specs.Refusals.{issueE};
 ghost use Rattle.trace.specs.Lent.{lent, left};
-ghost use Rattle.trace.specs.Refusals.{lengthsFit, most, lowestBadSet, faultAt, firstBadEvent, byEvents, outcomeOf};
+ghost use Rattle.trace.specs.Refusals.{lengthsFit, badSet, lowestBadSet, faultAt, firstBadEvent, byEvents, outcomeOf};
 ghost use Rattle.trace.specs.Judged.{judged};
 ghost use Rattle.trace.specs.Turns.{Room, OnTable, OneJudged, AllJudged};
-
-// At most this many events, and at most this many pairs.
-const MOST: usize = 4096;
-
-// The largest set: all seven states.
-const ALL_STATES: u8 = 127;
 
 // A number of the refusal table, and its place: how many events there are, 0 for the lengths, the pair of a set, or the event.
 pub struct Outcome {
@@ -40,23 +38,30 @@ fn lengths_fit(
 {
     let n = events.len() / EVENT_BYTES;
     (events.len() % EVENT_BYTES == 0)
-        & (n <= MOST)
-        & (table.len() <= MOST)
+        & (n <= MOST_EVENTS)
+        & (table.len() <= MOST_PAIRS)
         & (pairs.len() == n)
         & (verdicts.len() == n)
         & (duties.len() == n)
         & (afters.len() == n)
 }
 
-// The lowest pair whose set is above 127, or how many pairs there are.
+// Whether a set is above 127, that of all seven states. The empty set isn't: that pair is already lost.
+fn bad_set(states: u8) -> bool
+    ensures { λ r. ⌜ r ≡ badSet states ⌝ }
+{
+    states > ALL_STATES
+}
+
+// The lowest pair whose set is bad, or how many pairs there are.
 fn lowest_bad_set(table: &[u8]) -> usize
-    requires { ⌜ length (now table) ≤ most ⌝ }
+    requires { ⌜ length (now table) ≤ mostPairs ⌝ }
     ensures { λ r. ⌜ r ≡ lowestBadSet (now (table .entry)) ⌝ }
 {
     let mut p: usize = 0;
     while p < table.len() {
         let states = PairNumber(p as u16).set_in(table);
-        if states > ALL_STATES {
+        if bad_set(states) {
             return p;
         }
         p += 1;
@@ -77,7 +82,7 @@ fn fault_at(k: EventNumber, events: &[u8], pairs: &[u16], table: &[u8]) -> Refus
 
 // The first event that is refused, or how many events there are.
 fn first_bad_event(events: &[u8], pairs: &[u16], table: &[u8]) -> EventNumber
-    requires { ⌜ length (now pairs) ≤ most ⌝ }
+    requires { ⌜ length (now pairs) ≤ mostEvents ⌝ }
     ensures { λ r. ⌜ r .0 ≡ firstBadEvent issueE (now (events .entry)) (now (pairs .entry)) (now (table .entry)) ⌝ }
 {
     let mut k: u32 = 0;
@@ -94,7 +99,7 @@ fn first_bad_event(events: &[u8], pairs: &[u16], table: &[u8]) -> EventNumber
 
 // The outcome of the events, where the lengths fit and the table is good.
 fn by_events(events: &[u8], pairs: &[u16], table: &[u8]) -> Outcome
-    requires { ⌜ length (now pairs) ≤ most ⌝ }
+    requires { ⌜ length (now pairs) ≤ mostEvents ⌝ }
     ensures { λ r. ⌜ r ≡ byEvents issueE (now (events .entry)) (now (pairs .entry)) (now (table .entry)) ⌝ }
 {
     let first = first_bad_event(events, pairs, table);

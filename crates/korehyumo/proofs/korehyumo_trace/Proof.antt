@@ -1,10 +1,10 @@
 -- `korehyumo::korehyumo_trace` meets its contract.
 -- Assumes nothing.
 use mathlib.Core.Path.{sym, subst}
-use Prim.Native.Nat.{_≤_}
+use Prim.Native.Nat.{_<_}
 use Rattle.event.specs.Refusals.{issueE}
 use Rattle.trace.specs.Lent.{Left}
-use Rattle.trace.specs.Refusals.{most}
+use Rattle.korehyumo.specs.Calls.{placesEnd}
 use Rattle.korehyumo.proofs.Laws.{place-of-trace, trace-told}
 use borrow.Author.Needs.{needs}
 use Rattle.korehyumo.proofs.korehyumo_trace.Statement.{statement}
@@ -14,7 +14,7 @@ judge-trace-requires : tie.Need-judge-trace-requires
 judge-trace-requires c κs = search needs
 
 in-one-requires : tie.Need-in-one-requires
-in-one-requires c κs = subst (λ (l : Left). l .outcome .place ≤ most) (sym (c .before .before .before .before .before .before .before .before .judge-trace .ensures)) (place-of-trace issueE _)
+in-one-requires c κs = subst (λ (l : Left). l .outcome .place < placesEnd) (sym (c .before .before .before .before .before .before .before .before .judge-trace .ensures)) (place-of-trace issueE _)
 
 same-length : tie.Need-same-length
 same-length c = search needs

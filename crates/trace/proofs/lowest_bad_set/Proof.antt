@@ -1,24 +1,25 @@
 -- `trace::lowest_bad_set` meets its contract: no set before p is bad. The measure is what is left of the table.
 -- Assumes nothing.
+use mathlib.Core.Bool.{true, false}
 use Prim.Native.Nat.{_-_}
 use native.Mathlib.Omega.{arith}
 use borrow.Author.Needs.{needs}
 use denote.Ref.{now}
 use lib.ListN.{length}
 use Rattle.kinds.specs.Places.{setIn}
-use Rattle.trace.specs.Refusals.{badSet}
-use Rattle.trace.proofs.Laws.{First, first-start, first-here, first-next, first-end, bad-set, good-set}
+use Rattle.trace.specs.Refusals.{badSetAt}
+use Rattle.trace.proofs.Laws.{First, first-start, first-here, first-next, first-end, set-tested}
 use Rattle.trace.proofs.lowest_bad_set.Statement.{statement}
 use Rattle.trace.proofs.lowest_bad_set.Tie as tie
 
 abbrev Inv-loop : tie.InvT-loop
-Inv-loop table p₀ p = First (badSet table) (length table) p
+Inv-loop table p₀ p = First (badSetAt table) (length table) p
 
 abbrev μ-loop : tie.MeasureT-loop
 μ-loop table p₀ p = length table - p
 
 loop-holds : tie.Need-loop-holds Inv-loop μ-loop
-loop-holds c = first-start (badSet (now (c .before .args .table))) (length (now (c .before .args .table)))
+loop-holds c = first-start (badSetAt (now (c .before .args .table))) (length (now (c .before .args .table)))
 
 cast-t6 : tie.Need-cast-t6 Inv-loop μ-loop
 cast-t6 c = omega (arith, c .before .before .before .pre)
@@ -26,8 +27,11 @@ cast-t6 c = omega (arith, c .before .before .before .pre)
 set-in-requires : tie.Need-set-in-requires Inv-loop μ-loop
 set-in-requires c κs = search needs
 
+bad-set-requires : tie.Need-bad-set-requires Inv-loop μ-loop
+bad-set-requires c κs = search needs
+
 returns : tie.Need-returns Inv-loop μ-loop
-returns c = first-here (c .before .before .before .loop .inv) (c .before .before .loop-test .taken) (bad-set (c .before .set-in .result) (setIn (now (c .before .before .before .before .before .args .table)) (c .before .before .before .loop .p)) (c .before .set-in .ensures) (c .if1 .taken))
+returns c = first-here (c .before .before .before .before .loop .inv) (c .before .before .before .loop-test .taken) (set-tested (c .before .before .set-in .result) (setIn (now (c .before .before .before .before .before .before .args .table)) (c .before .before .before .before .loop .p)) (c .before .bad-set .result) true (c .before .before .set-in .ensures) (c .before .bad-set .ensures) (c .if1 .taken))
 
 add-p : tie.Need-add-p Inv-loop μ-loop
 add-p c = omega arith
@@ -36,7 +40,7 @@ loop-less : tie.Need-loop-less Inv-loop μ-loop
 loop-less c = omega arith
 
 loop-again : tie.Need-loop-again Inv-loop μ-loop
-loop-again c = first-next (c .before .before .before .loop .inv) (c .before .before .loop-test .taken) (good-set (c .before .set-in .result) (setIn (now (c .before .before .before .before .before .args .table)) (c .before .before .before .loop .p)) (c .before .set-in .ensures) (c .if1 .left))
+loop-again c = first-next (c .before .before .before .before .loop .inv) (c .before .before .before .loop-test .taken) (set-tested (c .before .before .set-in .result) (setIn (now (c .before .before .before .before .before .before .args .table)) (c .before .before .before .before .loop .p)) (c .before .bad-set .result) false (c .before .before .set-in .ensures) (c .before .bad-set .ensures) (c .if1 .left))
 
 returns-2 : tie.Need-returns-2 Inv-loop μ-loop
 returns-2 c = first-end (c .before .loop .inv) (c .loop-test .left)
@@ -50,6 +54,7 @@ lowest-bad-set-spec =
     loop-holds
     cast-t6
     set-in-requires
+    bad-set-requires
     returns
     add-p
     loop-less
