@@ -1,17 +1,50 @@
--- The judge's duty byte for a state before: the duty where a step exists, 0 where none does.
+-- The judge's answer to one event: its number, its sets, and its duty byte for a state before, which is the duty where a step exists and 0 where none does.
 -- Assumes nothing.
-use mathlib.Core.Path.{_≡_, refl, _∙_, ap}
+use mathlib.Core.Path.{_≡_, refl, sym, _∙_, ap, subst}
 use mathlib.Core.Bool.{Bool, true, false, cond}
-use mathlib.Core.List.{List, map}
-use Prim.Native.Nat.{ℕ, _^_, _<_}
-use borrow.Author.Tests.{ne-eqb, eq-eqb}
+use mathlib.Core.List.{List, [], _∷_, map}
+use Prim.Native.Nat.{ℕ, zero, suc, _^_, _<_}
+use borrow.Author.Tests.{ne-eqb, eq-eqb, eqb-true}
 use lib.Dec.{eqb}
 use lib.ListN.{getD}
 use Rattle.kinds.specs.Codes.{states}
-use Rattle.sets.proofs.Laws.{setOf-holds, setOf-empty}
+use Rattle.sets.proofs.Laws.{setOf-holds, setOf-empty, setOf-below}
 use Rattle.steps.specs.Steps.{Step, steps, setAfter, duty, noDuty, dutyAlone}
 use Rattle.steps.proofs.Stepping.{permitted-before, permitted-after, steps-step, step-steps}
 use Rattle.kinds.proofs.Lists.{at-state}
+use Rattle.event.specs.declared.Judgment.{Judgment}
+use Rattle.event.specs.Refusals.{issueE, refusalAlone}
+use Rattle.event.specs.Alone.{acceptedAlone, refusedAlone, judgedAlone}
+
+-- the answer, by whether the event is accepted
+pub answer-alone : (e : List ℕ) (b : Bool) → eqb (refusalAlone issueE e) 0 ≡ b → judgedAlone issueE e ≡ cond b (acceptedAlone e) (refusedAlone (refusalAlone issueE e))
+unfolding judgedAlone
+answer-alone e b h = ap (λ (x : Bool). cond x (acceptedAlone e) (refusedAlone (refusalAlone issueE e))) h
+
+-- what holds of both answers holds of the one that is given
+pub by-answer : (e : List ℕ) (P : Judgment → Type 0) → P (acceptedAlone e) → P (refusedAlone (refusalAlone issueE e)) → P (judgedAlone issueE e)
+by-answer e P accepted refused = go (eqb (refusalAlone issueE e) 0) refl
+  where
+    go : (b : Bool) → eqb (refusalAlone issueE e) 0 ≡ b → P (judgedAlone issueE e)
+    go true h = subst P (sym (answer-alone e true h)) accepted
+    go false h = subst P (sym (answer-alone e false h)) refused
+
+pub number-alone : (e : List ℕ) → judgedAlone issueE e .refusal .0 ≡ refusalAlone issueE e
+number-alone e = go (eqb (refusalAlone issueE e) 0) refl
+  where
+    go : (b : Bool) → eqb (refusalAlone issueE e) 0 ≡ b → judgedAlone issueE e .refusal .0 ≡ refusalAlone issueE e
+    go true h = ap (λ (j : Judgment). j .refusal .0) (answer-alone e true h) ∙ sym (eqb-true (refusalAlone issueE e) 0 h)
+    go false h = ap (λ (j : Judgment). j .refusal .0) (answer-alone e false h)
+
+-- what holds of 0 and of every f x holds at each place of a list of them, and past its end
+pub each-at : (P : ℕ → Type 0) (f : ℕ → ℕ) (xs : List ℕ) → P 0 → ((x : ℕ) → P (f x)) → (s : ℕ) → P (getD (map f xs) s 0)
+each-at P f [] z each s = z
+each-at P f (x ∷ xs) z each zero = each x
+each-at P f (x ∷ xs) z each (suc s) = each-at P f xs z each s
+
+pub set-after-below : (e : List ℕ) (s : ℕ) → setAfter e s < 128
+unfolding setAfter
+set-after-below e s = setOf-below (steps e s)
 
 -- a step makes the set after not empty
 set-of-step : (e : List ℕ) (s s′ : ℕ) → Step e s s′ → eqb (setAfter e s) 0 ≡ false

@@ -1,7 +1,7 @@
 -- What comes back from an accepted trace, event by event and pair by pair, in terms of the sets that histories leave.
 -- Assumes nothing.
 use mathlib.Core.Path.{_≡_, refl, sym, _∙_, ap, subst}
-use mathlib.Core.Logic.{_↔_, _⊎_, inl, inr, ⊎-elim}
+use mathlib.Core.Logic.{_↔_, _⊎_, ⊎-elim}
 use mathlib.Core.Bool.{Bool, true, false, cond, not, _&&_}
 use Prim.Native.Nat.{ℕ, suc, _<_}
 use native.Mathlib.Omega.{arith}
@@ -129,15 +129,11 @@ module _ (l : Lent) (ok : Accepted l) where
 
     -- DEMAND 2'S CLAUSE in a trace
     pub handed-over : (s s′ : ℕ) → HistoryTo l (pairOf l k) k s → Step (eventOf l k) s s′ → dirty s ≡ true → dirty s′ ≡ false → nonDataError (eventOf l k) ≡ false
-        → (HomeHolds (eventOf l k) × (dutyAt l k ≡ Home)) ⊎ (RequesterHolds (eventOf l k) × (dutyAt l k ≡ Requester))
+        → HomeHolds (eventOf l k) (dutyAt l k) ⊎ RequesterHolds (eventOf l k) (dutyAt l k)
     handed-over s s′ h p d d′ n =
-        ⊎-elim
-        (λ w. inl (w, byte ∙ w .says m))
-        (λ w. inr (w, byte ∙ w .says m))
-        (exactly-one (eventOf l k) (dirty s) (dirty s′) (law (eventOf l k) (p .tag) s s′ (p .by-rows)) d d′ n)
-      where
-        byte : dutyAt l k ≡ duty (eventOf l k) m
-        byte = explained-byte (passes-explained s s′ h p)
+        subst (λ (x : ℕ). HomeHolds (eventOf l k) x ⊎ RequesterHolds (eventOf l k) x)
+        (sym (explained-byte (passes-explained s s′ h p)))
+        (exactly-one (eventOf l k) (dirty s) (dirty s′) (law (eventOf l k) (p .tag) s s′ (p .by-rows)) d d′ n m)
 
     -- a non-data error on an explained event: the byte asks whether a history reaches it with a Dirty line
     error-at : (s s′ : ℕ) → HistoryTo l (pairOf l k) k s → Step (eventOf l k) s s′ → nonDataError (eventOf l k) ≡ true → dutyAt l k ≡ cond (holdsDirty m) lost noDuty
@@ -177,8 +173,8 @@ module _ (l : Lent) (ok : Accepted l) where
         go false false q r =
             absurd
             (⊎-elim
-            (λ w. let wrong : _≡_ {A = ℕ} noDuty Home = sym z ∙ w .1 in absurd (omega arith))
-            (λ w. let wrong : _≡_ {A = ℕ} noDuty Requester = sym z ∙ w .1 in absurd (omega arith))
+            (λ w. let wrong : _≡_ {A = ℕ} noDuty Home = sym z ∙ w .says in absurd (omega arith))
+            (λ w. let wrong : _≡_ {A = ℕ} noDuty Requester = sym z ∙ w .says in absurd (omega arith))
             (handed-over s s′ h p d q r))
 
     -- a byte of 1 or 2: every history through the event gives up a Dirty line there, without a non-data error
@@ -208,7 +204,9 @@ module _ (l : Lent) (ok : Accepted l) where
             ∙ ap (λ (x : Bool). a && not x && not (nonDataError (eventOf l k))) r
             ∙ ap (λ (x : Bool). a && not b && not x) n
             ∙ z)
-            .says n m)
+            m
+            .says
+            ∙ ap (λ (x : Bool). cond (x && holdsDirty m) lost noDuty) n)
             (λ w. absurd (omega arith))
             (λ w. absurd (omega arith))
 

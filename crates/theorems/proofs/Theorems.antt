@@ -1,19 +1,19 @@
 -- The theorems. Whoever believes the checker reads this file, the definitions that it names, and the `ensures` of `event::judge_event`,
 -- which says that the judge's answer to any bytes is `judgedAlone issueE` of them.
 -- Assumes nothing.
-use mathlib.Core.Path.{_≡_, refl, sym, _∙_, ap}
+use mathlib.Core.Path.{_≡_, refl, sym, _∙_, ap, subst}
 use mathlib.Core.Logic.{_↔_, _⊎_}
-use mathlib.Core.Bool.{Bool, true, false, cond, not, _&&_, false≢true}
+use mathlib.Core.Bool.{true, false, cond, not, _&&_, false≢true}
 use mathlib.Core.List.{List}
 use Prim.Native.Nat.{ℕ, _^_, _<_}
 use native.Mathlib.Omega.{arith}
 use borrow.Author.Tests.{eq-eqb, ne-eqb}
 use lib.Dec.{eqb}
-use lib.ListN.{getD}
+use lib.ListN.{length, getD}
 use Rattle.kinds.specs.Tests.{all}
-use Rattle.kinds.specs.Codes.{I, UC, UD, SC, dirty, Resp-SC, Resp-SC-PD, NDERR, OK, opInvalid, tagInvalid, SnpClean, SnpShared, SnpCleanFwd, SnpPreferUniqueFwd}
+use Rattle.kinds.specs.Codes.{I, UC, UD, SC, states, dirty, Resp-SC, Resp-SC-PD, NDERR, OK, opInvalid, tagInvalid, SnpClean, SnpShared, SnpCleanFwd, SnpPreferUniqueFwd}
 use Rattle.kinds.specs.Answers.{SnpResp-I, SnpResp-SC, SnpRespData-SC-PD, SnpRespData-SC-Fwded-SD-PD, SnpResp-SC-Fwded-SC}
-use Rattle.sets.specs.Sets.{setOf, bit}
+use Rattle.sets.specs.Sets.{setOf, bit, holdsDirty}
 use Rattle.rows.specs.Rows.{rows}
 use Rattle.rows.specs.Permitted.{asked, answered, tagged, permitted}
 use Rattle.steps.specs.Steps.{Step, steps, setAfter, setsAfter, duty, noDuty, Home, Requester, lost}
@@ -27,10 +27,11 @@ use Rattle.kinds.specs.declared.PairNumber.{PairNumber}
 use Rattle.event.specs.declared.Judgment.{Judgment}
 use Rattle.event.specs.Refusals.{issueE, fault, refusalAlone}
 use Rattle.event.specs.Alone.{acceptedAlone, refusedAlone, judgedAlone}
+use Rattle.theorems.specs.Alone.{AcceptedEvent, setFrom, dutyFrom}
 use Rattle.theorems.specs.Notebook.{event, entries, right}
 use Rattle.theorems.specs.Duties.{nonDataError, HomeHolds, RequesterHolds, NobodyTold, DataIsDuty, SCIsKept, B60Alone, NderrFromUDIllegal}
-use Rattle.theorems.proofs.Told.{law, only, only-number, exactly-one, nobody, lost-alone, byte-exactly}
-use Rattle.theorems.proofs.Judged.{duty-of-step, duty-of-none}
+use Rattle.theorems.proofs.Told.{law, only, only-number, exactly-one, nobody, nobody-alone, lost-alone, byte-exactly}
+use Rattle.theorems.proofs.Judged.{answer-alone, by-answer, number-alone, each-at, set-after-below, duty-of-step, duty-of-none}
 
 -- DEMAND 1, ONE EVENT: any two outcomes that the claim of `event::judge_event` allows are equal.
 pub one-outcome : (bytes : List ℕ) (r r′ : Judgment) → r ≡ judgedAlone issueE bytes → r′ ≡ judgedAlone issueE bytes → r ≡ r′
@@ -55,64 +56,97 @@ one-fwd-state = only-number (λ k. k .0) (λ n. record { 0 = n }) (λ k. refl)
 pub one-pair-number : (claimed : ℕ) (r r′ : PairNumber) → r .0 ≡ claimed → r′ .0 ≡ claimed → r ≡ r′
 one-pair-number = only-number (λ k. k .0) (λ n. record { 0 = n }) (λ k. refl)
 
+-- The number is the event's refusal.
+pub number-answer : (e : List ℕ) → judgedAlone issueE e .refusal .0 ≡ refusalAlone issueE e
+number-answer e = number-alone e
+
 -- What is accepted is answered with place 1, its seven sets and its seven duties.
-pub accepted-answer : (e : List ℕ) → refusalAlone issueE e ≡ 0 → judgedAlone issueE e ≡ acceptedAlone e
-unfolding judgedAlone
-accepted-answer e h = ap (λ (b : Bool). cond b (acceptedAlone e) (refusedAlone (refusalAlone issueE e))) (eq-eqb (refusalAlone issueE e) 0 h)
+pub accepted-answer : (e : List ℕ) → AcceptedEvent e → judgedAlone issueE e ≡ acceptedAlone e
+accepted-answer e h = answer-alone e true (eq-eqb (refusalAlone issueE e) 0 (sym (number-alone e) ∙ h))
 
 -- What is refused is answered with its number, place 0, seven empty sets and duties 0.
-pub refused-answer : (e : List ℕ) → (refusalAlone issueE e ≡ 0 → ⊥) → judgedAlone issueE e ≡ refusedAlone (refusalAlone issueE e)
-unfolding judgedAlone
-refused-answer e h = ap (λ (b : Bool). cond b (acceptedAlone e) (refusedAlone (refusalAlone issueE e))) (ne-eqb (refusalAlone issueE e) 0 h)
+pub refused-answer : (e : List ℕ) → (AcceptedEvent e → ⊥) → judgedAlone issueE e ≡ refusedAlone (refusalAlone issueE e)
+refused-answer e h = answer-alone e false (ne-eqb (refusalAlone issueE e) 0 (λ z. h (number-alone e ∙ z)))
+
+-- Whatever the bytes, there are seven sets and seven duties.
+pub seven-answered : (e : List ℕ) → (length (judgedAlone issueE e .sets) ≡ 7) × (length (judgedAlone issueE e .duties) ≡ 7)
+seven-answered e = by-answer e (λ j. (length (j .sets) ≡ 7) × (length (j .duties) ≡ 7)) (refl, refl) (refl, refl)
+
+-- Each set holds some of the seven states and nothing more.
+pub sets-below : (e : List ℕ) (s : ℕ) → setFrom e s < 128
+sets-below e s =
+    by-answer e (λ j. getD (j .sets) s 0 < 128)
+    (each-at (λ m. m < 128) (setAfter e) states (omega arith) (set-after-below e) s)
+    (each-at (λ m. m < 128) (λ n. 0) states (omega arith) (λ x. omega arith) s)
+
+-- Where the event is refused each set is empty and each duty 0.
+pub refused-empty : (e : List ℕ) → (AcceptedEvent e → ⊥) → (s : ℕ) → (setFrom e s ≡ 0) × (dutyFrom e s ≡ noDuty)
+refused-empty e h s =
+    let zero-at = each-at (λ m. m ≡ 0) (λ n. 0) states refl (λ x. refl) s in (
+      ap (λ (j : Judgment). getD (j .sets) s 0) (refused-answer e h) ∙ zero-at,
+      ap (λ (j : Judgment). getD (j .duties) s 0) (refused-answer e h) ∙ zero-at,
+    )
 
 -- DEMAND 2, THE SETS: a state after is in the set of a state before exactly when a permitted step leads there, under the seen tag state or
 -- any of the three, with the seen state after or any.
-pub sets-exact : (e : List ℕ) → refusalAlone issueE e ≡ 0 → (s s′ : ℕ) → s < 7 → s′ < 7
-    → bit (getD (judgedAlone issueE e .sets) s 0) s′ ≡ true ↔ Step e s s′
+pub sets-exact : (e : List ℕ) → AcceptedEvent e → (s s′ : ℕ) → s < 7 → s′ < 7 → bit (setFrom e s) s′ ≡ true ↔ Step e s s′
 sets-exact e h s s′ k l =
     (λ b. in-set-step e s s′ k l (sym answered-so ∙ b), λ p. answered-so ∙ step-in-set e s s′ p)
   where
-    answered-so : bit (getD (judgedAlone issueE e .sets) s 0) s′ ≡ bit (getD (setsAfter e) s 0) s′
+    answered-so : bit (setFrom e s) s′ ≡ bit (getD (setsAfter e) s 0) s′
     answered-so = ap (λ (j : Judgment). bit (getD (j .sets) s 0) s′) (accepted-answer e h)
+
+-- The duty that comes back for a state before is the page's duty byte, judged from that state alone, where a step exists.
+pub duties-exact : (e : List ℕ) → AcceptedEvent e → (s s′ : ℕ) → Step e s s′ → dutyFrom e s ≡ duty e (2 ^ s)
+duties-exact e h s s′ p = ap (λ (j : Judgment). getD (j .duties) s 0) (accepted-answer e h) ∙ duty-of-step e s s′ p
 
 -- No step leaves the seven states.
 pub within-states : (e : List ℕ) (t s s′ : ℕ) → permitted e t s s′ ≡ true → (s < 7) × (s′ < 7)
 within-states e t s s′ h = (permitted-before e t s s′ h, permitted-after e t s s′ h)
 
--- DEMAND 2, THE DUTY: in every permitted step where a Dirty line ends not Dirty, and the answer isn't a non-data error, exactly one of
--- Requester and Home is told that it holds the duty, and the duty byte says which.
-pub duty-clause : (e : List ℕ) (t s s′ : ℕ) → permitted e t s s′ ≡ true → dirty s ≡ true → dirty s′ ≡ false → nonDataError e ≡ false
-    → HomeHolds e ⊎ RequesterHolds e
-duty-clause e t s s′ h = exactly-one e (dirty s) (dirty s′) (law e t s s′ h)
+-- DEMAND 2, THE DUTY: in every step of an accepted event where a Dirty line ends not Dirty, and the answer isn't a non-data error, exactly one
+-- of Requester and Home is told that it holds the duty, and the judge's duty byte for the state before says which.
+pub duty-clause : (e : List ℕ) → AcceptedEvent e → (s s′ : ℕ) → Step e s s′ → dirty s ≡ true → dirty s′ ≡ false → nonDataError e ≡ false
+    → HomeHolds e (dutyFrom e s) ⊎ RequesterHolds e (dutyFrom e s)
+duty-clause e h s s′ p d d′ n =
+    subst (λ (x : ℕ). HomeHolds e x ⊎ RequesterHolds e x) (sym (duties-exact e h s s′ p))
+    (exactly-one e (dirty s) (dirty s′) (law e (p .tag) s s′ (p .by-rows)) d d′ n (2 ^ s))
 
--- The converse: no other permitted step hands over a duty.
-pub duty-converse : (e : List ℕ) (t s s′ : ℕ) → permitted e t s s′ ≡ true → dirty s && not (dirty s′) && not (nonDataError e) ≡ false → NobodyTold e
-duty-converse e t s s′ h = nobody e (dirty s) (dirty s′) (law e t s s′ h)
+-- The converse: no other step hands over a duty. Nobody is told, and the byte is 3 for a non-data error from a Dirty state, else 0.
+pub duty-converse : (e : List ℕ) → AcceptedEvent e → (s s′ : ℕ) → Step e s s′ → dirty s && not (dirty s′) && not (nonDataError e) ≡ false
+    → NobodyTold e (dirty s) (dutyFrom e s)
+duty-converse e h s s′ p k =
+    subst (NobodyTold e (dirty s)) (sym (duties-exact e h s s′ p))
+    (nobody-alone e s (dirty s′) (law e (p .tag) s s′ (p .by-rows)) (permitted-before e (p .tag) s s′ (p .by-rows)) k)
+
+-- Both of any permitted step, whatever the bytes, the tag state and the set before.
+pub duty-permitted : (e : List ℕ) (t s s′ : ℕ) → permitted e t s s′ ≡ true → dirty s ≡ true → dirty s′ ≡ false → nonDataError e ≡ false
+    → (before : ℕ) → HomeHolds e (duty e before) ⊎ RequesterHolds e (duty e before)
+duty-permitted e t s s′ h = exactly-one e (dirty s) (dirty s′) (law e t s s′ h)
+
+pub duty-permitted-converse : (e : List ℕ) (t s s′ : ℕ) → permitted e t s s′ ≡ true → dirty s && not (dirty s′) && not (nonDataError e) ≡ false
+    → (before : ℕ) → NobodyTold e (holdsDirty before) (duty e before)
+duty-permitted-converse e t s s′ h = nobody e (dirty s) (dirty s′) (law e t s s′ h)
 
 -- A non-data error loses the duty of a Dirty line, and of no other.
-pub duty-lost : (e : List ℕ) (t s s′ : ℕ) → permitted e t s s′ ≡ true → nonDataError e ≡ true → duty e (2 ^ s) ≡ cond (dirty s) lost noDuty
-duty-lost e t s s′ h n = lost-alone e s (dirty s′) (law e t s s′ h) (permitted-before e t s s′ h) n
+pub duty-lost : (e : List ℕ) → AcceptedEvent e → (s s′ : ℕ) → Step e s s′ → nonDataError e ≡ true → dutyFrom e s ≡ cond (dirty s) lost noDuty
+duty-lost e h s s′ p n =
+    duties-exact e h s s′ p
+    ∙ lost-alone e s (dirty s′) (law e (p .tag) s s′ (p .by-rows)) (permitted-before e (p .tag) s s′ (p .by-rows)) n
 
--- In every permitted step the duty byte, judged from that state alone, is not 0 exactly when the state before is Dirty and the state after isn't.
-pub duty-exactly : (e : List ℕ) (t s s′ : ℕ) → permitted e t s s′ ≡ true → eqb (duty e (2 ^ s)) noDuty ≡ not (dirty s && not (dirty s′))
-duty-exactly e t s s′ h = byte-exactly e s (dirty s′) (law e t s s′ h) (permitted-before e t s s′ h)
-
--- The duty that the judge answers for a state before is that byte, where a step exists.
-pub duties-exact : (e : List ℕ) → refusalAlone issueE e ≡ 0 → (s s′ : ℕ) → Step e s s′ → getD (judgedAlone issueE e .duties) s 0 ≡ duty e (2 ^ s)
-duties-exact e h s s′ p = ap (λ (j : Judgment). getD (j .duties) s 0) (accepted-answer e h) ∙ duty-of-step e s s′ p
+-- In every step the byte is not 0 exactly when the state before is Dirty and the state after isn't.
+pub duty-exactly : (e : List ℕ) → AcceptedEvent e → (s s′ : ℕ) → Step e s s′ → eqb (dutyFrom e s) noDuty ≡ not (dirty s && not (dirty s′))
+duty-exactly e h s s′ p =
+    ap (λ (d : ℕ). eqb d noDuty) (duties-exact e h s s′ p)
+    ∙ byte-exactly e s (dirty s′) (law e (p .tag) s s′ (p .by-rows)) (permitted-before e (p .tag) s s′ (p .by-rows))
 
 -- Where no step exists it is 0.
-pub duties-silent : (e : List ℕ) (s : ℕ) → s < 7 → ((s′ : ℕ) → Step e s s′ → ⊥) → getD (judgedAlone issueE e .duties) s 0 ≡ noDuty
-unfolding judgedAlone
-duties-silent e s k none = go (eqb (refusalAlone issueE e) 0)
-  where
-    go : (b : Bool) → getD (cond b (acceptedAlone e) (refusedAlone (refusalAlone issueE e)) .duties) s 0 ≡ noDuty
-    go true = duty-of-none e s k none
-    go false = at-state (λ n. 0) s k
+pub duties-silent : (e : List ℕ) (s : ℕ) → s < 7 → ((s′ : ℕ) → Step e s s′ → ⊥) → dutyFrom e s ≡ noDuty
+duties-silent e s k none = by-answer e (λ j. getD (j .duties) s 0 ≡ noDuty) (duty-of-none e s k none) (at-state (λ n. 0) s k)
 
 -- ENTRIES a TO n of the notebook, a single list.
 pub notebook : all right entries ≡ true
-unfolding setOf bit rows asked answered tagged permitted steps setAfter duty fault refusalAlone
+unfolding setOf bit rows asked answered tagged permitted steps setAfter duty fault refusalAlone judgedAlone
 notebook = refl
 
 -- THE WRONG READINGS.

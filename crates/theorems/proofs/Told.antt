@@ -1,6 +1,6 @@
 -- From the row law to who is told: plain reasoning on the tests that it names.
 -- Assumes nothing.
-use mathlib.Core.Path.{_≡_, refl, sym, _∙_, ap}
+use mathlib.Core.Path.{_≡_, refl, sym, _∙_, ap, subst}
 use mathlib.Core.Logic.{_⊎_, inl, inr, ⊎-elim}
 use mathlib.Core.Bool.{Bool, true, false, cond, not, _&&_, false≢true, true≢false}
 use mathlib.Core.List.{List}
@@ -62,9 +62,11 @@ leaves-none true true h r n law k = omega arith
 leaves-none true false h r true law k = omega arith
 leaves-none true false h r false law k = absurd (true≢false k)
 
-leaves-with-error : (a b h r n : Bool) → one a ≡ one b + (one h + one r + one (n && a)) → n ≡ true → 0 ≡ one h + one r
-leaves-with-error a b h r true law k = omega arith
-leaves-with-error a b h r false law k = absurd (false≢true k)
+-- a non-data error hands nothing over
+with-error : (a b n : Bool) → n ≡ true → a && not b && not n ≡ false
+with-error false b n k = refl
+with-error true true n k = refl
+with-error true false n k = ap not k
 
 -- the duty byte by what the answer tells
 home-byte : (e : List ℕ) (m : ℕ) → tellsHome e ≡ true → duty e m ≡ Home
@@ -77,31 +79,30 @@ unhomed-byte e m r h k =
     ap (λ (x : Bool). cond x Home (cond (fwdTells e) Requester (cond (nonDataError e && holdsDirty m) lost noDuty))) h
     ∙ ap (λ (x : Bool). cond x Requester (cond (nonDataError e && holdsDirty m) lost noDuty)) k
 
-untold-byte : (e : List ℕ) (m : ℕ) (n : Bool) → tellsHome e ≡ false → fwdTells e ≡ false → nonDataError e ≡ n → duty e m ≡ cond (n && holdsDirty m) lost noDuty
-untold-byte e m n h r k = unhomed-byte e m false h r ∙ ap (λ (x : Bool). cond (x && holdsDirty m) lost noDuty) k
-
 -- the set of one state holds a Dirty one when that state is
 only-dirty : (s : ℕ) → s < 7 → holdsDirty (2 ^ s) ≡ dirty s
 unfolding bit
 only-dirty = each-state (λ s. holdsDirty (2 ^ s) ≡ dirty s) refl refl refl refl refl refl refl
 
-pub exactly-one : (e : List ℕ) (a b : Bool) → Law e a b → a ≡ true → b ≡ false → nonDataError e ≡ false → HomeHolds e ⊎ RequesterHolds e
-exactly-one e a b law p q n =
+-- of a Dirty line that ends not Dirty one is told, and the duty byte, from whatever set before, says which
+pub exactly-one : (e : List ℕ) (a b : Bool) → Law e a b → a ≡ true → b ≡ false → nonDataError e ≡ false
+    → (m : ℕ) → HomeHolds e (duty e m) ⊎ RequesterHolds e (duty e m)
+exactly-one e a b law p q n m =
     ⊎-elim
-    (λ w. inl (record { home = w .0; not-requester = sym (law .told) ∙ w .1; says = λ m. home-byte e m (w .0) }))
-    (λ w. inr (record { not-home = w .0; requester = sym (law .told) ∙ w .1; says = λ m. unhomed-byte e m true (w .0) (w .1) }))
+    (λ w. inl (record { home = w .0; not-requester = sym (law .told) ∙ w .1; says = home-byte e m (w .0) }))
+    (λ w. inr (record { not-home = w .0; requester = sym (law .told) ∙ w .1; says = unhomed-byte e m true (w .0) (w .1) }))
     (one-of-two (tellsHome e) (fwdTells e) (leaves-one a b (tellsHome e) (fwdTells e) (nonDataError e) (law .sum) p q n))
 
-pub nobody : (e : List ℕ) (a b : Bool) → Law e a b → a && not b && not (nonDataError e) ≡ false → NobodyTold e
-nobody e a b law k =
+-- of any other nobody is
+pub nobody : (e : List ℕ) (a b : Bool) → Law e a b → a && not b && not (nonDataError e) ≡ false → (m : ℕ) → NobodyTold e (holdsDirty m) (duty e m)
+nobody e a b law k m =
     let w = zero-of-two (tellsHome e) (fwdTells e) (leaves-none a b (tellsHome e) (fwdTells e) (nonDataError e) (law .sum) k) in
-    record { not-home = w .0; not-requester = sym (law .told) ∙ w .1; says = λ n m. untold-byte e m false (w .0) (w .1) n }
+    record { not-home = w .0; not-requester = sym (law .told) ∙ w .1; says = unhomed-byte e m false (w .0) (w .1) }
 
 -- the duty byte of a non-data error, from whatever set before: lost where that holds a Dirty state
 pub error-byte : (e : List ℕ) (m : ℕ) (a b : Bool) → Law e a b → nonDataError e ≡ true → duty e m ≡ cond (holdsDirty m) lost noDuty
 error-byte e m a b law n =
-    let w = zero-of-two (tellsHome e) (fwdTells e) (leaves-with-error a b (tellsHome e) (fwdTells e) (nonDataError e) (law .sum) n) in
-    untold-byte e m true (w .0) (w .1) n
+    nobody e a b law (with-error a b (nonDataError e) n) m .says ∙ ap (λ (x : Bool). cond (x && holdsDirty m) lost noDuty) n
 
 -- a Dirty state that is in a set
 pub holds-dirty : (m s : ℕ) → s < 7 → bit m s ≡ true → dirty s ≡ true → holdsDirty m ≡ true
@@ -116,6 +117,11 @@ pub dirty-held : (m : ℕ) → holdsDirty m ≡ true → DirtyIn m
 dirty-held m h =
     let f = any-found (λ x. dirty x && bit m x) states h in
     record { state = f .one; is-dirty = and-left (dirty (f .one)) (bit m (f .one)) (f .passes); inside = and-right (dirty (f .one)) (bit m (f .one)) (f .passes) }
+
+-- the same from one state before
+pub nobody-alone : (e : List ℕ) (s : ℕ) (b : Bool) → Law e (dirty s) b → s < 7 → dirty s && not b && not (nonDataError e) ≡ false
+    → NobodyTold e (dirty s) (duty e (2 ^ s))
+nobody-alone e s b law h k = subst (λ (x : Bool). NobodyTold e x (duty e (2 ^ s))) (only-dirty s h) (nobody e (dirty s) b law k (2 ^ s))
 
 pub lost-alone : (e : List ℕ) (s : ℕ) (b : Bool) → Law e (dirty s) b → s < 7 → nonDataError e ≡ true → duty e (2 ^ s) ≡ cond (dirty s) lost noDuty
 lost-alone e s b law h n = error-byte e (2 ^ s) (dirty s) b law n ∙ ap (λ (x : Bool). cond x lost noDuty) (only-dirty s h)

@@ -130,7 +130,7 @@ module _ (l : Lent) (ok : Accepted l) where
   -- names the one that was told.
   pub duty-handed-over : (k : ℕ) → k < count l → (s s′ : ℕ) → HistoryTo l (pairOf l k) k s → Step (eventOf l k) s s′
       → dirty s ≡ true → dirty s′ ≡ false → nonDataError (eventOf l k) ≡ false
-      → (HomeHolds (eventOf l k) × (dutyAt l k ≡ Home)) ⊎ (RequesterHolds (eventOf l k) × (dutyAt l k ≡ Requester))
+      → HomeHolds (eventOf l k) (dutyAt l k) ⊎ RequesterHolds (eventOf l k) (dutyAt l k)
   duty-handed-over = handed-over l ok
 
   -- Where the byte is 1 or 2, every history through the event is such a one.

@@ -1,7 +1,7 @@
 -- Who is told of the duty, and the readings of the notebook that are wrong.
 use Prim.Native.Nat.{ℕ, _^_}
 use mathlib.Core.Path.{_≡_}
-use mathlib.Core.Bool.{Bool, true, false, _&&_}
+use mathlib.Core.Bool.{Bool, true, false, cond, _&&_}
 use mathlib.Core.List.{List}
 use lib.Dec.{eqb}
 use Rattle.kinds.specs.Tests.{any}
@@ -9,7 +9,7 @@ use Rattle.kinds.specs.Codes.{SC, UD, dirty, NDERR, DAT, SnpPreferUniqueFwd, re
 use Rattle.rows.specs.Event.{byte, requestOf, exclOf, respOf, respErrOf}
 use Rattle.rows.specs.Rows.{rows·B4·60}
 use Rattle.rows.specs.Permitted.{holds, permitted}
-use Rattle.steps.specs.Steps.{duty, noDuty, Home, Requester}
+use Rattle.steps.specs.Steps.{duty, noDuty, Home, Requester, lost}
 
 -- Home is told that it holds the duty: by the answer's Resp
 abbrev pub tellsHome : List ℕ → Bool
@@ -23,23 +23,23 @@ tellsRequester e = eqb (byte e 11) 1 && fwdPD (byte e 12)
 abbrev pub nonDataError : List ℕ → Bool
 nonDataError e = eqb (respErrOf e) NDERR
 
--- Home alone is told, and the duty byte, from whatever set before, says so
-pub record HomeHolds (e : List ℕ) : Type 0 where
+-- Home alone is told, and the duty byte d says so
+pub record HomeHolds (e : List ℕ) (d : ℕ) : Type 0 where
   pub home : tellsHome e ≡ true
   pub not-requester : tellsRequester e ≡ false
-  pub says : (before : ℕ) → duty e before ≡ Home
+  pub says : d ≡ Home
 
--- the Requester alone is told, and the duty byte says so
-pub record RequesterHolds (e : List ℕ) : Type 0 where
+-- the Requester alone is told, and the duty byte d says so
+pub record RequesterHolds (e : List ℕ) (d : ℕ) : Type 0 where
   pub not-home : tellsHome e ≡ false
   pub requester : tellsRequester e ≡ true
-  pub says : (before : ℕ) → duty e before ≡ Requester
+  pub says : d ≡ Requester
 
--- nobody is told, and unless the answer is a non-data error the duty byte says so
-pub record NobodyTold (e : List ℕ) : Type 0 where
+-- nobody is told, and the duty byte d is that of a lost duty for a non-data error where the line may have been Dirty, else 0
+pub record NobodyTold (e : List ℕ) (wasDirty : Bool) (d : ℕ) : Type 0 where
   pub not-home : tellsHome e ≡ false
   pub not-requester : tellsRequester e ≡ false
-  pub says : nonDataError e ≡ false → (before : ℕ) → duty e before ≡ noDuty
+  pub says : d ≡ cond (nonDataError e && wasDirty) lost noDuty
 
 -- Wrong: data sent Home is the duty to Home.
 abbrev pub DataIsDuty : Type 0

@@ -1,3 +1,4 @@
+pub mod Alone
 pub mod Notebook
 pub mod Duties
 pub mod Traces

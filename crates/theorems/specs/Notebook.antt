@@ -9,12 +9,14 @@ use Rattle.kinds.specs.Codes.{I, UC, UD, SC, SD, stateNotSeen, tagInvalid, tagD
 use Rattle.kinds.specs.declared.Answer.{Answer}
 use Rattle.kinds.specs.Answers.{wire, SnpResp-I, SnpResp-SC, SnpRespData-SD, SnpResp-SC-Fwded-SD-PD, SnpRespData-SC-PD-Fwded-SC, SnpResp-I-Fwded-UC, SnpResp-SC-Fwded-SC}
 use Rattle.sets.specs.Sets.{setOf}
-use Rattle.steps.specs.Steps.{setAfter, dutyAlone, noDuty, Home, Requester, lost}
-use Rattle.event.specs.Refusals.{issueE, refusalAlone}
+use Rattle.steps.specs.Steps.{noDuty, Home, Requester, lost}
+use Rattle.event.specs.Refusals.{issueE}
+use Rattle.event.specs.Alone.{judgedAlone}
+use Rattle.theorems.specs.Alone.{setFrom, dutyFrom}
 
--- An event by its fields: request, RetToSrc, DoNotGoToSD, excl, tag state, answer with what it forwards, TagOp, RespErr; the state after isn't seen.
-abbrev pub event : ℕ → ℕ → ℕ → ℕ → ℕ → Answer → ℕ → ℕ → List ℕ
-event request ret noSD excl tag a op err =
+-- An event by its fields: request, RetToSrc, DoNotGoToSD, excl, tag state, answer with what it forwards, TagOp, RespErr, state after.
+abbrev pub eventTo : ℕ → ℕ → ℕ → ℕ → ℕ → Answer → ℕ → ℕ → ℕ → List ℕ
+eventTo request ret noSD excl tag a op err after =
     request ∷
     ret ∷
     noSD ∷
@@ -28,8 +30,12 @@ event request ret noSD excl tag a op err =
     err ∷
     getD (wire a) 4 0 ∷
     getD (wire a) 5 0 ∷
-    stateNotSeen ∷
+    after ∷
     []
+
+-- the same where the state after isn't seen
+abbrev pub event : ℕ → ℕ → ℕ → ℕ → ℕ → Answer → ℕ → ℕ → List ℕ
+event request ret noSD excl tag a op err = eventTo request ret noSD excl tag a op err stateNotSeen
 
 -- An entry: the event, the state before, the states after, the duty.
 pub record Entry : Type 0 where
@@ -73,9 +79,10 @@ entries =
     entry (event SnpClean 0 0 0 tagDirty SnpResp-I opInvalid OK) UC [] noDuty ∷
     []
 
--- the event is accepted, its set after is the entry's, and so is its duty
+-- the judge accepts the event, and for the state before answers the entry's states after and its duty
 abbrev pub right : Entry → Bool
 right n =
-    eqb (refusalAlone issueE (n .bytes)) 0
-    && eqb (setAfter (n .bytes) (n .before)) (setOf (λ s. s ∈? n .after))
-    && eqb (dutyAlone (n .bytes) (n .before)) (n .duty)
+    eqb (judgedAlone issueE (n .bytes) .refusal .0) 0
+    && eqb (judgedAlone issueE (n .bytes) .place) 1
+    && eqb (setFrom (n .bytes) (n .before)) (setOf (λ s. s ∈? n .after))
+    && eqb (dutyFrom (n .bytes) (n .before)) (n .duty)

@@ -5,8 +5,8 @@ use mathlib.Core.Logic.{_↔_}
 use mathlib.Core.Bool.{Bool, true, _&&_}
 use mathlib.Core.List.{List, [], _∷_, _++_}
 use lib.Dec.{eqb}
-use lib.ListN.{getD, take}
-use Rattle.kinds.specs.Codes.{I, dirty, tagInvalid, opInvalid, OK, SnpShared, SnpClean}
+use lib.ListN.{getD}
+use Rattle.kinds.specs.Codes.{I, allStates, dirty, tagInvalid, opInvalid, OK, SnpShared, SnpClean}
 use Rattle.kinds.specs.Answers.{SnpResp-I, SnpRespData-SC, SnpRespData-SD, SnpRespData-SC-PD}
 use Rattle.kinds.specs.Places.{pairIn, eventIn}
 use Rattle.sets.specs.Sets.{bit}
@@ -15,7 +15,7 @@ use Rattle.event.specs.Refusals.{issueE}
 use Rattle.trace.specs.Lent.{Lent, lent}
 use Rattle.trace.specs.Judged.{judged}
 use Rattle.histories.specs.Histories.{HistoryTo}
-use Rattle.theorems.specs.Notebook.{event}
+use Rattle.theorems.specs.Notebook.{event, eventTo}
 
 -- the call is accepted: its number is 0
 abbrev pub Accepted : Lent → Type 0
@@ -63,12 +63,11 @@ sheetEvents =
     event SnpShared 0 0 0 tagInvalid SnpRespData-SC-PD opInvalid OK
     ++ event SnpShared 1 0 0 tagInvalid SnpRespData-SC opInvalid OK
     ++ event SnpClean 0 0 0 tagInvalid SnpRespData-SD opInvalid OK
-    ++ take 13 (event SnpClean 0 0 0 tagInvalid SnpResp-I opInvalid OK)
-    ++ (I ∷ [])
+    ++ eventTo SnpClean 0 0 0 tagInvalid SnpResp-I opInvalid OK I
 
 -- what is lent with them; the bytes 9 in the outputs are to be written over
 abbrev pub sheet : Lent
-sheet = lent sheetEvents (0 ∷ 0 ∷ 0 ∷ 0 ∷ []) (127 ∷ []) (9 ∷ 9 ∷ 9 ∷ 9 ∷ []) (9 ∷ 9 ∷ 9 ∷ 9 ∷ []) (9 ∷ 9 ∷ 9 ∷ 9 ∷ [])
+sheet = lent sheetEvents (0 ∷ 0 ∷ 0 ∷ 0 ∷ []) (allStates ∷ []) (9 ∷ 9 ∷ 9 ∷ 9 ∷ []) (9 ∷ 9 ∷ 9 ∷ 9 ∷ []) (9 ∷ 9 ∷ 9 ∷ 9 ∷ [])
 
 -- What is lent where more than one row of the refusal table could speak, and the number and place that are given.
 pub record Order : Type 0 where
