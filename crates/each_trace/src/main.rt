@@ -7,8 +7,18 @@ use libc::STDOUT_FILENO;
 use trace::Outcome;
 ghost use Prim.Native.Nat.{_<_, _≤_};
 
-// How long each part of a case is.
+// Room for the bytes of the events, for those of the pair numbers, for a table, and for what there is one of for each event.
+const EVENTS_ROOM: usize = 65536;
+
+const PAIR_BYTES_ROOM: usize = 16384;
+
+const TABLE_ROOM: usize = 8192;
+
+const EACH_ROOM: usize = 8192;
+
+// How long each part of a case is, and whether all that was said.
 struct Lengths {
+    said: bool,
     events: usize,
     pairs: usize,
     table: usize,
@@ -44,25 +54,25 @@ fn number_at(bytes: &[u8], at: usize) -> usize {
     a + b * 256 + c * 65536 + d * 16777216
 }
 
-// Reads a part into the front of its room, and says whether it came whole.
-fn read_part(room: &mut [u8], len: usize) -> bool {
-    if room.len() < len {
-        return false;
-    }
-    io::read_full(STDIN_FILENO, &mut room[..len]) == len
+// The smaller of two lengths.
+fn least(a: usize, b: usize) -> usize
+    ensures { λ r. ⌜ (r ≤ a) × (r ≤ b) ⌝ }
+{
+    if a < b { a } else { b }
 }
 
-// Writes the front of a room, and says whether it went.
-fn write_part(room: &[u8], len: usize) -> bool {
-    if room.len() < len {
-        return false;
-    }
-    io::write_all(STDOUT_FILENO, &room[..len])
+// Reads a part into the front of its room, and gives what came: less where there is no room for it.
+fn read_part(room: &mut [u8], len: usize) -> &mut [u8] {
+    let n = least(len, room.len());
+    let came = io::read_full(STDIN_FILENO, &mut room[..n]);
+    let got = least(came, room.len());
+    &mut room[..got]
 }
 
-// The lengths at the start of a case.
+// The lengths from the start of a case.
 fn lengths_of(header: &[u8]) -> Lengths {
     Lengths {
+        said: header.len() == 24,
         events: number_at(header, 0),
         pairs: number_at(header, 4),
         table: number_at(header, 8),
@@ -70,6 +80,13 @@ fn lengths_of(header: &[u8]) -> Lengths {
         duties: number_at(header, 16),
         afters: number_at(header, 20),
     }
+}
+
+// Reads the lengths at the start of a case.
+fn read_lengths() -> Lengths {
+    let mut header = [0u8; 24];
+    let came = read_part(&mut header, 24);
+    lengths_of(came)
 }
 
 // The pair numbers from their bytes.
@@ -85,6 +102,16 @@ fn set_pairs(bytes: &[u8], pairs: &mut [u16]) {
     }
 }
 
+// Reads pair numbers into the front of their room, and gives what came: fewer where there is no room for them.
+fn read_pairs(pairs: &mut [u16], count: usize) -> &mut [u16] {
+    let mut bytes = [0u8; PAIR_BYTES_ROOM];
+    let n = least(count, pairs.len());
+    let came = read_part(&mut bytes, n * 2);
+    let got = least(n, came.len() / 2);
+    set_pairs(came, &mut pairs[..got]);
+    &mut pairs[..got]
+}
+
 // The number and the place of an outcome.
 fn write_outcome(outcome: Outcome) -> bool {
     let place = outcome.place;
@@ -95,38 +122,27 @@ fn write_outcome(outcome: Outcome) -> bool {
         (place / 65536 % 256) as u8,
         (place / 16777216 % 256) as u8,
     ];
-    write_part(&bytes, 5)
+    io::write_all(STDOUT_FILENO, &bytes)
 }
 
-// The smaller of two lengths.
-fn least(a: usize, b: usize) -> usize
-    ensures { λ r. ⌜ r ≤ b ⌝ }
-{
-    if a < b { a } else { b }
-}
-
-// Reads the parts of a case, each to the front of its room, and says whether all came.
-fn read_case(
-    l: Lengths,
-    events: &mut [u8],
-    bytes: &mut [u8],
-    table: &mut [u8],
-    verdicts: &mut [u8],
-    duties: &mut [u8],
-    afters: &mut [u8],
+// Writes an answer, and says whether it went.
+fn write_answer(
+    outcome: Outcome,
+    table: &[u8],
+    verdicts: &[u8],
+    duties: &[u8],
+    afters: &[u8],
 ) -> bool {
-    let pair_bytes = least(l.pairs, 8192) * 2;
-    let e = read_part(events, l.events);
-    let p = read_part(bytes, pair_bytes) & (l.pairs <= 8192);
-    let t = read_part(table, l.table);
-    let v = read_part(verdicts, l.verdicts);
-    let d = read_part(duties, l.duties);
-    let a = read_part(afters, l.afters);
-    e & p & t & v & d & a
+    let o = write_outcome(outcome);
+    let t = io::write_all(STDOUT_FILENO, table);
+    let v = io::write_all(STDOUT_FILENO, verdicts);
+    let d = io::write_all(STDOUT_FILENO, duties);
+    let a = io::write_all(STDOUT_FILENO, afters);
+    o & t & v & d & a
 }
 
-// Judges a case that was read whole, and writes the outcome.
-fn judge_case(
+// Judges a case and writes the answer, and says whether the case came whole and the answer went.
+fn answer(
     l: Lengths,
     events: &[u8],
     pairs: &[u16],
@@ -135,77 +151,38 @@ fn judge_case(
     duties: &mut [u8],
     afters: &mut [u8],
 ) -> bool {
-    let e = least(l.events, events.len());
-    let p = least(l.pairs, pairs.len());
-    let t = least(l.table, table.len());
-    let v = least(l.verdicts, verdicts.len());
-    let d = least(l.duties, duties.len());
-    let a = least(l.afters, afters.len());
-    let outcome = trace::judge_trace(
-        &events[..e],
-        &pairs[..p],
-        &mut table[..t],
-        &mut verdicts[..v],
-        &mut duties[..d],
-        &mut afters[..a],
-    );
-    write_outcome(outcome)
-}
-
-// Writes the four buffers as they are afterwards.
-fn write_left(l: Lengths, table: &[u8], verdicts: &[u8], duties: &[u8], afters: &[u8]) -> bool {
-    let t = write_part(table, l.table);
-    let v = write_part(verdicts, l.verdicts);
-    let d = write_part(duties, l.duties);
-    let a = write_part(afters, l.afters);
-    t & v & d & a
+    let read = l.said & (events.len() == l.events) & (pairs.len() == l.pairs);
+    let lent = (table.len() == l.table) & (verdicts.len() == l.verdicts);
+    let whole = (duties.len() == l.duties) & (afters.len() == l.afters);
+    if !(read & lent & whole) {
+        return false;
+    }
+    let outcome = trace::judge_trace(events, pairs, table, verdicts, duties, afters);
+    write_answer(outcome, table, verdicts, duties, afters)
 }
 
 // Reads a case, judges it, writes the answer, and says whether there may be more.
-fn turn(
-    events: &mut [u8],
-    bytes: &mut [u8],
-    pairs: &mut [u16],
-    table: &mut [u8],
-    verdicts: &mut [u8],
-    duties: &mut [u8],
-    afters: &mut [u8],
-) -> bool {
-    let mut header = [0u8; 24];
-    let begun = read_part(&mut header, 24);
-    let l = lengths_of(&header);
-    let whole = read_case(l, events, bytes, table, verdicts, duties, afters);
-    if !(begun & whole) {
-        return false;
-    }
-    let n = least(l.pairs, pairs.len());
-    set_pairs(bytes, &mut pairs[..n]);
-    let told = judge_case(l, events, pairs, table, verdicts, duties, afters);
-    let left = write_left(l, table, verdicts, duties, afters);
-    told & left
+fn turn() -> bool {
+    let mut events = [0u8; EVENTS_ROOM];
+    let mut pairs = [0u16; EACH_ROOM];
+    let mut table = [0u8; TABLE_ROOM];
+    let mut verdicts = [0u8; EACH_ROOM];
+    let mut duties = [0u8; EACH_ROOM];
+    let mut afters = [0u8; EACH_ROOM];
+    let l = read_lengths();
+    let e = read_part(&mut events, l.events);
+    let p = read_pairs(&mut pairs, l.pairs);
+    let t = read_part(&mut table, l.table);
+    let v = read_part(&mut verdicts, l.verdicts);
+    let d = read_part(&mut duties, l.duties);
+    let a = read_part(&mut afters, l.afters);
+    answer(l, e, p, t, v, d, a)
 }
 
 // A proved loop has to end, and nothing says that an input does: the turns count down from a number that no run uses up.
 fn main() {
-    let mut events = [0u8; 65536];
-    let mut bytes = [0u8; 16384];
-    let mut pairs = [0u16; 8192];
-    let mut table = [0u8; 8192];
-    let mut verdicts = [0u8; 8192];
-    let mut duties = [0u8; 8192];
-    let mut afters = [0u8; 8192];
     let mut turns = u64::MAX;
-    while turns > 0
-        && turn(
-            &mut events,
-            &mut bytes,
-            &mut pairs,
-            &mut table,
-            &mut verdicts,
-            &mut duties,
-            &mut afters,
-        )
-    {
+    while turns > 0 && turn() {
         turns -= 1;
     }
 }
