@@ -7,6 +7,20 @@ use libc::STDOUT_FILENO;
 ghost use Prim.Native.Nat.{_≤_};
 ghost use lib.ListN.{length};
 
+// A block is this many records, and takes this many bytes; so many bytes its answers take.
+const BLOCK: usize = 1024;
+
+const BLOCK_BYTES: usize = 41984;
+
+const ROOM_BYTES: usize = 16384;
+
+// The smaller of two lengths.
+fn least(a: usize, b: usize) -> usize
+    ensures { λ r. ⌜ r ≤ b ⌝ }
+{
+    if a < b { a } else { b }
+}
+
 // The sixteen bytes of an answer.
 fn sixteen(j: Judgment) -> [u8; 16] {
     let s = j.sets;
@@ -59,7 +73,7 @@ fn put(answer: [u8; 16], room: &mut [u8])
 // Answers the whole records of a block, and says how many bytes of the room that took.
 fn answer_block(block: &[u8], room: &mut [u8]) -> usize {
     let mut k: usize = 0;
-    while k < 1024 {
+    while k < BLOCK {
         let start = k * 41;
         let end = start + 41;
         let to = k * 16;
@@ -76,26 +90,28 @@ fn answer_block(block: &[u8], room: &mut [u8]) -> usize {
     k * 16
 }
 
+// Reads a block, and gives what came.
+fn read_block(block: &mut [u8]) -> &mut [u8] {
+    let came = io::read_full(STDIN_FILENO, block);
+    let got = least(came, block.len());
+    &mut block[..got]
+}
+
 // Reads a block, answers it, and says whether there may be more.
-fn turn(block: &mut [u8], room: &mut [u8]) -> bool {
-    let got = io::read_full(STDIN_FILENO, block);
-    if block.len() < got {
-        return false;
-    }
-    let wrote = answer_block(&block[..got], room);
-    if room.len() < wrote {
-        return false;
-    }
+fn turn() -> bool {
+    let mut block = [0u8; BLOCK_BYTES];
+    let mut room = [0u8; ROOM_BYTES];
+    let came = read_block(&mut block);
+    let answered = answer_block(came, &mut room);
+    let wrote = least(answered, ROOM_BYTES);
     let written = io::write_all(STDOUT_FILENO, &room[..wrote]);
-    written & (got == block.len())
+    written & (came.len() == BLOCK_BYTES)
 }
 
 // A proved loop has to end, and nothing says that an input does: the turns count down from a number that no run uses up.
 fn main() {
-    let mut block = [0u8; 41984];
-    let mut room = [0u8; 16384];
     let mut turns = u64::MAX;
-    while turns > 0 && turn(&mut block, &mut room) {
+    while turns > 0 && turn() {
         turns -= 1;
     }
 }

@@ -1,4 +1,4 @@
--- `each_event::turn` is safe: what is read and written is within the block and the room.
+-- `each_event::turn` is safe: what is written is within the room.
 -- Assumes nothing.
 use native.Mathlib.Omega.{arith}
 use lib.ListN.{length-take}
@@ -6,17 +6,11 @@ use borrow.Author.Needs.{needs}
 use Rattle.each_event.proofs.turn.Statement.{statement}
 use Rattle.each_event.proofs.turn.Tie as tie
 
-read-full-requires : tie.Need-read-full-requires
-read-full-requires c κs = search needs
+slice-aggregate-read-block : tie.Need-slice-aggregate-read-block
+slice-aggregate-read-block c = search needs
 
-same-length : tie.Need-same-length
-same-length c = search needs
-
-returns : tie.Need-returns
-returns c = search needs
-
-slice-reshare-prefix-answer-block : tie.Need-slice-reshare-prefix-answer-block
-slice-reshare-prefix-answer-block c = search needs
+read-block-requires : tie.Need-read-block-requires
+read-block-requires c κs = search needs
 
 slice-aggregate-answer-block : tie.Need-slice-aggregate-answer-block
 slice-aggregate-answer-block c = search needs
@@ -24,49 +18,31 @@ slice-aggregate-answer-block c = search needs
 answer-block-requires : tie.Need-answer-block-requires
 answer-block-requires c κs = search needs
 
-same-length-2 : tie.Need-same-length-2
-same-length-2 c = search needs
+least-requires : tie.Need-least-requires
+least-requires c κs = search needs
 
-same-length-3 : tie.Need-same-length-3
-same-length-3 c = search needs
-
-returns-2 : tie.Need-returns-2
-returns-2 c = search needs
-
-slice-reshare-prefix-write-all : tie.Need-slice-reshare-prefix-write-all
-slice-reshare-prefix-write-all c = search needs
+array-share-prefix-room : tie.Need-array-share-prefix-room
+array-share-prefix-room c = search needs
 
 slice-aggregate-write-all : tie.Need-slice-aggregate-write-all
-slice-aggregate-write-all c = simp length-take (omega arith)
+slice-aggregate-write-all c = simp length-take (omega (arith, c .before .least .ensures))
 
 write-all-requires : tie.Need-write-all-requires
 write-all-requires c κs = search needs
 
-same-length-4 : tie.Need-same-length-4
-same-length-4 c = search needs
-
-same-length-5 : tie.Need-same-length-5
-same-length-5 c = search needs
-
-returns-3 : tie.Need-returns-3
-returns-3 c = search needs
+returns : tie.Need-returns
+returns c = search needs
 
 pub turn-spec : {M : Type 1} → statement M
 turn-spec =
     tie.close
     (tie.spec
-    read-full-requires
-    same-length
-    returns
-    slice-reshare-prefix-answer-block
+    slice-aggregate-read-block
+    read-block-requires
     slice-aggregate-answer-block
     answer-block-requires
-    same-length-2
-    same-length-3
-    returns-2
-    slice-reshare-prefix-write-all
+    least-requires
+    array-share-prefix-room
     slice-aggregate-write-all
     write-all-requires
-    same-length-4
-    same-length-5
-    returns-3)
+    returns)

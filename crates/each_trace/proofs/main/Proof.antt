@@ -1,7 +1,6 @@
 -- `each_trace::main` is safe and ends. The measure is the turns that are left.
 -- Assumes nothing.
 use borrow.Author.Needs.{needs}
-use native.Mathlib.Omega.{arith}
 use Rattle.each_trace.proofs.main.Statement.{statement}
 use Rattle.each_trace.proofs.main.Tie as tie
 
