@@ -6,16 +6,17 @@ use mathlib.Core.List.{List, [], _∷_, _++_, append-assoc, append-nil}
 use Prim.Native.Nat.{ℕ, _+_, _%_, _^_, _≤_, _<_}
 use native.Mathlib.Nat.{le-trans, le-of-eq, add-le-add}
 use native.Mathlib.Omega.{arith}
-use lib.Dec.{eqb}
+use borrow.Author.Tests.{leb-true}
+use lib.Dec.{eqb, leb}
 use lib.ListN.{length, take, drop, length-append}
+use Rattle.kinds.specs.Tests.{all}
 use Rattle.kinds.specs.Codes.{I, UC, UCE, UD, UDP, SC, SD}
+use Rattle.kinds.proofs.Lists.{and-left, and-right}
 use Rattle.sets.specs.Sets.{bit}
-use Rattle.steps.specs.Steps.{noDuty, Home, Requester}
-use Rattle.verdicts.specs.Verdicts.{explained, unexplained}
 use Rattle.verdicts.specs.declared.Finding.{Finding}
 use Rattle.text.specs.Text.{bytes, comma, eol}
 use Rattle.replies.specs.Laid.{laid, lay, layAll, concat}
-use Rattle.replies.specs.Replies.{space, decimal, verdictText, dutyText, statesText, headerLine, answerLine, refusedLine, stateText, statesTexts, answerTexts, refusalTexts}
+use Rattle.replies.specs.Replies.{room, space, decimal, Word, wordFor, verdictNames, dutyNames, verdictText, dutyText, statesText, headerLine, answerLine, refusedLine, stateText, statesTexts, answerTexts, refusalTexts}
 pub use Rattle.replies.proofs.Laying.{lay-fits, lay-short, lay-nothing, lay-lay, lay-all, lay-all-append, length-in, length-lay, length-lay-all}
 pub use Rattle.replies.proofs.Decimal.{decimal-one, decimal-small, decimal-step, decimal-short}
 pub use Rattle.replies.proofs.States.{concat-states}
@@ -52,18 +53,20 @@ length-cond : (b : Bool) (s t : List ℕ) (n : ℕ) → length s ≤ n → lengt
 length-cond true s t n h k = h
 length-cond false s t n h k = k
 
+-- no word of a list is longer than the longest, or than `unknown`
+word-short : (n : ℕ) (ws : List Word) (code : ℕ) → all (λ (w : Word). leb (length (w .text)) n) ws ≡ true → 7 ≤ n → length (wordFor ws code) ≤ n
+word-short n [] code h k = k
+word-short n (w ∷ ws) code h k =
+    length-cond (eqb code (w .code)) (w .text) (wordFor ws code) n (leb-true (length (w .text)) n (and-left _ (all (λ (x : Word). leb (length (x .text)) n) ws) h))
+    (word-short n ws code (and-right (leb (length (w .text)) n) _ h) k)
+
 verdict-short : (v : ℕ) → length (verdictText v) ≤ 11
 unfolding verdictText
-verdict-short v =
-    length-cond (eqb v explained) (bytes "explained") (cond (eqb v unexplained) (bytes "unexplained") (bytes "not judged")) 11 (omega arith)
-    (length-cond (eqb v unexplained) (bytes "unexplained") (bytes "not judged") 11 (omega arith) (omega arith))
+verdict-short v = word-short 11 verdictNames v refl (omega arith)
 
 duty-short : (d : ℕ) → length (dutyText d) ≤ 9
 unfolding dutyText
-duty-short d =
-    length-cond (eqb d noDuty) (bytes "none") (cond (eqb d Home) (bytes "Home") (cond (eqb d Requester) (bytes "Requester") (bytes "lost"))) 9 (omega arith)
-    (length-cond (eqb d Home) (bytes "Home") (cond (eqb d Requester) (bytes "Requester") (bytes "lost")) 9 (omega arith)
-    (length-cond (eqb d Requester) (bytes "Requester") (bytes "lost") 9 (omega arith) (omega arith)))
+duty-short d = word-short 9 dutyNames d refl (omega arith)
 
 state-short : (m n : ℕ) (name : List ℕ) → length (stateText m n name) ≤ 1 + length name
 state-short m n name =
@@ -93,8 +96,8 @@ states-short m = omega (arith, states-in-parts m, ap length (concat-states m))
 length-five : (n v d t e : List ℕ) → length (n ++ v ++ d ++ t ++ e) ≡ length n + length v + length d + length t + length e
 length-five n v d t e = simp length-append
 
--- an answer to one of the first ten million events is at most 64 bytes long
-pub answer-short : (k : ℕ) (found : Finding) → k < 10 ^ 7 → length (answerLine k found) ≤ 64
+-- an answer to one of the first ten million events fits into the room for a line
+pub answer-short : (k : ℕ) (found : Finding) → k < 10 ^ 7 → length (answerLine k found) ≤ room
 unfolding answerLine
 answer-short k found h =
     let v : length (verdictText (found .verdict .0)) ≤ 11 = verdict-short (found .verdict .0) in
@@ -109,12 +112,12 @@ answer-short k found h =
 length-four : (r n l e : List ℕ) → length (r ++ n ++ l ++ e) ≡ length r + length n + length l + length e
 length-four r n l e = simp length-append
 
--- a refusal's line, of a refusal of one digit and one of the first ten million lines
-pub refusal-short : (number line : ℕ) → number < 10 → line < 10 ^ 7 → length (refusedLine number line) ≤ 64
+-- a refusal of one of the first ten thousand million lines does too
+pub refusal-short : (number line : ℕ) → number < 256 → line < 10 ^ 10 → length (refusedLine number line) ≤ room
 unfolding refusedLine
 refusal-short number line h k =
-    let n : length (decimal number) ≤ 1 = decimal-short 0 number h in
-    let l : length (decimal line) ≤ 7 = decimal-short 6 line k in
+    let n : length (decimal number) ≤ 3 = decimal-short 2 number (omega arith) in
+    let l : length (decimal line) ≤ 10 = decimal-short 9 line k in
     le-trans (le-of-eq (length-four (bytes "refused") (comma ∷ decimal number) (comma ∷ decimal line) eol)) (omega arith)
 
 -- What a buffer with room holds after a line.
@@ -126,17 +129,17 @@ parts-laid at out ss s e h =
     lay-all (laid at out) ss (omega (arith, ap length e)) ∙ ap (lay (laid at out)) e ∙ lay-fits (laid at out) s h
 
 -- after an answer
-pub answer-laid : (at k : ℕ) (out : List ℕ) (found : Finding) → at + 64 ≤ length out → k < 10 ^ 7
+pub answer-laid : (at k : ℕ) (out : List ℕ) (found : Finding) → at + room ≤ length out → k < 10 ^ 7
     → layAll (laid at out) (answerTexts k found)
     ≡ laid (at + length (answerLine k found)) (take at out ++ answerLine k found ++ drop (at + length (answerLine k found)) out)
-answer-laid at k out found room h =
+answer-laid at k out found roomy h =
     parts-laid at out (answerTexts k found) (answerLine k found) (concat-answer k found) (omega (arith, answer-short k found h))
 
 -- after a refusal
-pub refusal-laid : (at number line : ℕ) (out : List ℕ) → at + 64 ≤ length out → number < 10 → line < 10 ^ 7
+pub refusal-laid : (at number line : ℕ) (out : List ℕ) → at + room ≤ length out → number < 256 → line < 10 ^ 10
     → layAll (laid at out) (refusalTexts number line)
     ≡ laid (at + length (refusedLine number line)) (take at out ++ refusedLine number line ++ drop (at + length (refusedLine number line)) out)
-refusal-laid at number line out room h k =
+refusal-laid at number line out roomy h k =
     parts-laid at out (refusalTexts number line) (refusedLine number line) (concat-refusal number line) (omega (arith, refusal-short number line h k))
 
 header-length : length headerLine ≡ 27
@@ -144,6 +147,6 @@ unfolding headerLine
 header-length = refl
 
 -- after the header
-pub header-laid : (at : ℕ) (out : List ℕ) → at + 64 ≤ length out
+pub header-laid : (at : ℕ) (out : List ℕ) → at + room ≤ length out
     → lay (laid at out) headerLine ≡ laid (at + length headerLine) (take at out ++ headerLine ++ drop (at + length headerLine) out)
-header-laid at out room = lay-fits (laid at out) headerLine (omega (arith, header-length))
+header-laid at out roomy = lay-fits (laid at out) headerLine (omega (arith, header-length))

@@ -13,62 +13,45 @@ use lib.ListN.{length, take, drop, length-drop}
 use lib.Seq.{take-all}
 use Rattle.kinds.specs.Codes.{I, UC, UCE, UD, UDP, SC, SD}
 use Rattle.sets.specs.Sets.{bit}
-use Rattle.steps.specs.Steps.{noDuty, Home, Requester}
-use Rattle.verdicts.specs.Verdicts.{explained, unexplained}
+use Rattle.steps.specs.Steps.{noDuty, Home, Requester, lost}
+use Rattle.verdicts.specs.Verdicts.{explained, unexplained, notJudged}
 use Rattle.verdicts.specs.declared.Finding.{Finding}
 use Rattle.text.specs.Text.{bytes, comma, eol}
 use Rattle.replies.specs.Laid.{Laid, lay, layAll}
-use Rattle.replies.specs.Replies.{space, decimal, verdictText, dutyText, stateText, statesTexts, headerLine, answerTexts, refusalTexts}
+use Rattle.replies.specs.Replies.{space, decimal, Word, wordFor, verdictNames, dutyNames, verdictText, dutyText, stateText, statesTexts, headerLine, answerTexts, refusalTexts}
 use Rattle.replies.proofs.Laying.{lay-nothing, lay-all-append, length-lay-all}
+
+-- a code that is not the first word's is another's
+other : (w : Word) (ws : List Word) (code : ℕ) → (code ≡ w .code → ⊥) → wordFor (w ∷ ws) code ≡ wordFor ws code
+other w ws code h = ap (λ (b : Bool). cond b (w .text) (wordFor ws code)) (ne-eqb code (w .code) h)
 
 -- a verdict's name between commas
 abbrev pub verdictPart : ℕ → List ℕ
 verdictPart v = comma ∷ verdictText v ++ comma ∷ []
 
-pub is-explained : {r : Laid} (l : Laid) {v : ℕ} → v ≡ explained → r ≡ lay l (bytes ",explained,") → r ≡ lay l (verdictPart v)
-unfolding verdictText
-is-explained l h e = e ∙ ap (λ (n : ℕ). lay l (verdictPart n)) (sym h)
+pub verdict-is : {r : Laid} (l : Laid) {v : ℕ} (code : ℕ) → v ≡ code → r ≡ lay l (verdictPart code) → r ≡ lay l (verdictPart v)
+verdict-is l code h e = e ∙ ap (λ (n : ℕ). lay l (verdictPart n)) (sym h)
 
-pub is-unexplained : {r : Laid} (l : Laid) {v : ℕ} → v ≡ unexplained → r ≡ lay l (bytes ",unexplained,") → r ≡ lay l (verdictPart v)
+pub verdict-unknown : {r : Laid} (l : Laid) {v : ℕ} → (v ≡ explained → ⊥) → (v ≡ unexplained → ⊥) → (v ≡ notJudged → ⊥)
+    → r ≡ lay l (bytes ",unknown,") → r ≡ lay l (verdictPart v)
 unfolding verdictText
-is-unexplained l h e = e ∙ ap (λ (n : ℕ). lay l (verdictPart n)) (sym h)
-
-other-verdict : (v : ℕ) → (v ≡ explained → ⊥) → (v ≡ unexplained → ⊥) → verdictText v ≡ bytes "not judged"
-unfolding verdictText
-other-verdict v h₀ h₁ =
-    ap₂ (λ (a b : Bool). cond a (bytes "explained") (cond b (bytes "unexplained") (bytes "not judged")))
-    (ne-eqb v explained h₀) (ne-eqb v unexplained h₁)
-
-pub is-not-judged : {r : Laid} (l : Laid) {v : ℕ} → (v ≡ explained → ⊥) → (v ≡ unexplained → ⊥) → r ≡ lay l (bytes ",not judged,")
-    → r ≡ lay l (verdictPart v)
-is-not-judged l {v} h₀ h₁ e = e ∙ ap (λ (s : List ℕ). lay l (comma ∷ s ++ comma ∷ [])) (sym (other-verdict v h₀ h₁))
+verdict-unknown l {v} h₀ h₁ h₂ e =
+    e ∙ ap (λ (s : List ℕ). lay l (comma ∷ s ++ comma ∷ []))
+    (sym (other _ (drop 1 verdictNames) v h₀ ∙ other _ (drop 2 verdictNames) v h₁ ∙ other _ [] v h₂))
 
 -- a duty's name and a comma
 abbrev pub dutyPart : ℕ → List ℕ
 dutyPart d = dutyText d ++ comma ∷ []
 
-pub is-none : {r : Laid} (l : Laid) {d : ℕ} → d ≡ noDuty → r ≡ lay l (bytes "none,") → r ≡ lay l (dutyPart d)
-unfolding dutyText
-is-none l h e = e ∙ ap (λ (n : ℕ). lay l (dutyPart n)) (sym h)
+pub duty-is : {r : Laid} (l : Laid) {d : ℕ} (code : ℕ) → d ≡ code → r ≡ lay l (dutyPart code) → r ≡ lay l (dutyPart d)
+duty-is l code h e = e ∙ ap (λ (n : ℕ). lay l (dutyPart n)) (sym h)
 
-pub is-Home : {r : Laid} (l : Laid) {d : ℕ} → d ≡ Home → r ≡ lay l (bytes "Home,") → r ≡ lay l (dutyPart d)
+pub duty-unknown : {r : Laid} (l : Laid) {d : ℕ} → (d ≡ noDuty → ⊥) → (d ≡ Home → ⊥) → (d ≡ Requester → ⊥) → (d ≡ lost → ⊥)
+    → r ≡ lay l (bytes "unknown,") → r ≡ lay l (dutyPart d)
 unfolding dutyText
-is-Home l h e = e ∙ ap (λ (n : ℕ). lay l (dutyPart n)) (sym h)
-
-pub is-Requester : {r : Laid} (l : Laid) {d : ℕ} → d ≡ Requester → r ≡ lay l (bytes "Requester,") → r ≡ lay l (dutyPart d)
-unfolding dutyText
-is-Requester l h e = e ∙ ap (λ (n : ℕ). lay l (dutyPart n)) (sym h)
-
-other-duty : (d : ℕ) → (d ≡ noDuty → ⊥) → (d ≡ Home → ⊥) → (d ≡ Requester → ⊥) → dutyText d ≡ bytes "lost"
-unfolding dutyText
-other-duty d h₀ h₁ h₂ =
-    ap₂ (λ (a b : Bool). cond a (bytes "none") (cond b (bytes "Home") (cond (eqb d Requester) (bytes "Requester") (bytes "lost"))))
-    (ne-eqb d noDuty h₀) (ne-eqb d Home h₁)
-    ∙ ap (λ (a : Bool). cond a (bytes "Requester") (bytes "lost")) (ne-eqb d Requester h₂)
-
-pub is-lost : {r : Laid} (l : Laid) {d : ℕ} → (d ≡ noDuty → ⊥) → (d ≡ Home → ⊥) → (d ≡ Requester → ⊥) → r ≡ lay l (bytes "lost,")
-    → r ≡ lay l (dutyPart d)
-is-lost l {d} h₀ h₁ h₂ e = e ∙ ap (λ (s : List ℕ). lay l (s ++ comma ∷ [])) (sym (other-duty d h₀ h₁ h₂))
+duty-unknown l {d} h₀ h₁ h₂ h₃ e =
+    e ∙ ap (λ (s : List ℕ). lay l (s ++ comma ∷ []))
+    (sym (other _ (drop 1 dutyNames) d h₀ ∙ other _ (drop 2 dutyNames) d h₁ ∙ other _ (drop 3 dutyNames) d h₂ ∙ other _ [] d h₃))
 
 -- a state that is not in the set, the first that is, and one after others
 pub not-in : {l : Laid} (m n : ℕ) (name : List ℕ) → (m / 2 ^ n % 2 ≡ 1 → ⊥) → l ≡ lay l (stateText m n name)
@@ -122,8 +105,9 @@ pub seven : {r₀ r₁ r₂ r₃ r₄ r₅ r₆ : Laid} (l : Laid) (m : ℕ)
 unfolding statesTexts
 seven l m e₀ e₁ e₂ e₃ e₄ e₅ e₆ = then _ e₆ (then _ e₅ (then _ e₄ (then _ e₃ (then _ e₂ (then _ e₁ e₀)))))
 
-pub seven-length : {r : Laid} (l : Laid) (m : ℕ) → r ≡ layAll l (statesTexts m) → length (r .out) ≡ length (l .out)
-seven-length l m e = ap (λ (k : Laid). length (k .out)) e ∙ length-lay-all l (statesTexts m)
+-- texts put one after another keep the buffer's length
+pub same-long : {r : Laid} (l : Laid) (ss : List (List ℕ)) → r ≡ layAll l ss → length (r .out) ≡ length (l .out)
+same-long l ss e = ap (λ (k : Laid). length (k .out)) e ∙ length-lay-all l ss
 
 -- an answer's parts in their order
 pub answered : {r₀ r₁ r₂ r₃ r₄ : Laid} (l : Laid) (k : ℕ) (found : Finding) → r₀ ≡ lay l (decimal k) → r₁ ≡ lay r₀ (verdictPart (found .verdict .0))

@@ -1,12 +1,13 @@
 -- The text that the bench sheet answers: the header, a line for each event, and the line of a refusal.
 use Prim.Native.Nat.{ℕ, zero, suc, _+_, _/_, _%_, _^_}
+use Prim.Native.String.{String}
 use mathlib.Core.Bool.{cond}
 use mathlib.Core.List.{List, [], _∷_, _++_}
 use lib.Dec.{eqb, ltb}
 use Rattle.kinds.specs.Codes.{I, UC, UCE, UD, UDP, SC, SD}
 use Rattle.sets.specs.Sets.{bit}
-use Rattle.steps.specs.Steps.{noDuty, Home, Requester}
-use Rattle.verdicts.specs.Verdicts.{explained, unexplained}
+use Rattle.steps.specs.Steps.{noDuty, Home, Requester, lost}
+use Rattle.verdicts.specs.Verdicts.{explained, unexplained, notJudged}
 use Rattle.verdicts.specs.declared.Finding.{Finding}
 use Rattle.text.specs.Text.{bytes, comma, eol}
 
@@ -27,14 +28,35 @@ decimalIn (suc f) n = cond (ltb n 10) (digit n ∷ []) (decimalIn f (n / 10) ++ 
 unfoldable pub decimal : ℕ → List ℕ
 decimal n = decimalIn 19 n
 
--- a verdict's name; any other code reads as not judged
-unfoldable pub verdictText : ℕ → List ℕ
-verdictText v = cond (eqb v explained) (bytes "explained") (cond (eqb v unexplained) (bytes "unexplained") (bytes "not judged"))
+-- a code, and the word for it
+pub record Word : Type 0 where
+  pub code : ℕ
+  pub text : List ℕ
 
--- a duty's name; any other code reads as lost
+-- a code with its word as it is written
+abbrev pub word : ℕ → String → Word
+word code text = record { code = code; text = bytes text }
+
+-- the word for a code; a code that has none is unknown
+abbrev pub wordFor : List Word → ℕ → List ℕ
+wordFor [] code = bytes "unknown"
+wordFor (w ∷ ws) code = cond (eqb code (w .code)) (w .text) (wordFor ws code)
+
+-- the verdicts by their names
+abbrev pub verdictNames : List Word
+verdictNames = word explained "explained" ∷ word unexplained "unexplained" ∷ word notJudged "not judged" ∷ []
+
+-- the duties by their names
+abbrev pub dutyNames : List Word
+dutyNames = word noDuty "none" ∷ word Home "Home" ∷ word Requester "Requester" ∷ word lost "lost" ∷ []
+
+-- a verdict's name
+unfoldable pub verdictText : ℕ → List ℕ
+verdictText v = wordFor verdictNames v
+
+-- a duty's name
 unfoldable pub dutyText : ℕ → List ℕ
-dutyText d =
-    cond (eqb d noDuty) (bytes "none") (cond (eqb d Home) (bytes "Home") (cond (eqb d Requester) (bytes "Requester") (bytes "lost")))
+dutyText d = wordFor dutyNames d
 
 -- the names of the states, in table order
 abbrev pub stateNames : List (List ℕ)
@@ -54,6 +76,10 @@ spaced (name ∷ next ∷ names) = name ++ space ∷ spaced (next ∷ names)
 -- the names of the states of a set; nothing for the empty set
 unfoldable pub statesText : ℕ → List ℕ
 statesText m = spaced (namesIn m I stateNames)
+
+-- every line of the answer fits into this many bytes
+abbrev pub room : ℕ
+room = 64
 
 -- the first line of the answer
 unfoldable pub headerLine : List ℕ

@@ -1,5 +1,6 @@
 // The text that the bench sheet answers, laid into a buffer byte for byte.
 use kinds::Duty;
+use kinds::EventNumber;
 use kinds::LineState;
 use kinds::Refusal;
 use kinds::Verdict;
@@ -12,6 +13,9 @@ ghost use Rattle.text.specs.Text.{comma};
 ghost use Rattle.replies.specs.Laid.{laid, lay, layAll};
 ghost use Rattle.replies.specs.Replies.{space, decimal, verdictText, dutyText, stateText, statesTexts};
 ghost use Rattle.replies.specs.Replies.{headerLine, answerTexts, refusalTexts};
+
+// Every line of the answer fits into this many bytes.
+pub const ROOM: usize = 64;
 
 // The digit 0 as text; the others follow it.
 const ZERO: u8 = b'0';
@@ -88,7 +92,7 @@ fn put_decimal(out: &mut [u8], at: usize, n: u64) -> usize
     at + k
 }
 
-// Puts a verdict's name between commas.
+// Puts a verdict's name between commas; a code without a name is unknown.
 fn put_verdict(out: &mut [u8], at: usize, verdict: Verdict) -> usize
     ensures { λ r. ⌜ laid r (now (out .exit)) ≡
         lay (laid at (now (out .entry))) (comma ∷ verdictText (verdict .0) ++ comma ∷ []) ⌝ }
@@ -100,10 +104,13 @@ fn put_verdict(out: &mut [u8], at: usize, verdict: Verdict) -> usize
     if code == Verdict::UNEXPLAINED.0 {
         return put(out, at, b",unexplained,");
     }
-    put(out, at, b",not judged,")
+    if code == Verdict::NOT_JUDGED.0 {
+        return put(out, at, b",not judged,");
+    }
+    put(out, at, b",unknown,")
 }
 
-// Puts a duty's name and a comma.
+// Puts a duty's name and a comma; a code without a name is unknown.
 fn put_duty(out: &mut [u8], at: usize, duty: Duty) -> usize
     ensures { λ r. ⌜ laid r (now (out .exit)) ≡ lay (laid at (now (out .entry))) (dutyText (duty .0) ++ comma ∷ []) ⌝ }
 {
@@ -117,7 +124,10 @@ fn put_duty(out: &mut [u8], at: usize, duty: Duty) -> usize
     if code == Duty::REQUESTER.0 {
         return put(out, at, b"Requester,");
     }
-    put(out, at, b"lost,")
+    if code == Duty::LOST.0 {
+        return put(out, at, b"lost,");
+    }
+    put(out, at, b"unknown,")
 }
 
 // Puts a state's name where the state is in the set, behind a space where a state before it is too; the name comes with its space.
@@ -150,10 +160,11 @@ fn put_states(out: &mut [u8], at: usize, states: u8) -> usize
 }
 
 // Puts the line that answers an event.
-pub fn put_answer(out: &mut [u8], at: usize, event: u64, found: Finding) -> usize
-    ensures { λ r. ⌜ laid r (now (out .exit)) ≡ layAll (laid at (now (out .entry))) (answerTexts event found) ⌝ }
+pub fn put_answer(out: &mut [u8], at: usize, event: EventNumber, found: Finding) -> usize
+    ensures { λ r. ⌜ laid r (now (out .exit)) ≡ layAll (laid at (now (out .entry))) (answerTexts (event .0) found) ⌝ }
 {
-    let numbered = put_decimal(out, at, event);
+    let number = event.0;
+    let numbered = put_decimal(out, at, number as u64);
     let judged = put_verdict(out, numbered, found.verdict);
     let owed = put_duty(out, judged, found.duty);
     let named = put_states(out, owed, found.after);
@@ -164,9 +175,10 @@ pub fn put_answer(out: &mut [u8], at: usize, event: u64, found: Finding) -> usiz
 pub fn put_refusal(out: &mut [u8], at: usize, refusal: Refusal, line: u64) -> usize
     ensures { λ r. ⌜ laid r (now (out .exit)) ≡ layAll (laid at (now (out .entry))) (refusalTexts (refusal .0) line) ⌝ }
 {
-    let number = refusal.0;
+    let code = refusal.0;
+    let number = code as u64;
     let opened = put(out, at, b"refused,");
-    let numbered = put_decimal(out, opened, number as u64);
+    let numbered = put_decimal(out, opened, number);
     let parted = put(out, numbered, b",");
     let placed = put_decimal(out, parted, line);
     put(out, placed, b"\r\n")

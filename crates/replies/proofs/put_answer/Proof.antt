@@ -1,38 +1,45 @@
 -- `replies::put_answer` meets its contract: its parts in their order.
 -- Assumes nothing.
 use borrow.Author.Needs.{needs}
-use Rattle.replies.proofs.Parts.{answered}
+use denote.Ref.{now}
+use Rattle.replies.specs.Laid.{laid}
+use Rattle.replies.specs.Replies.{answerTexts}
+use Rattle.replies.proofs.Parts.{answered, same-long}
 use Rattle.replies.proofs.put_answer.Statement.{statement}
 use Rattle.replies.proofs.put_answer.Tie as tie
 
+cast-put-decimal : tie.Need-cast-put-decimal
+cast-put-decimal c = search needs
+
 put-decimal-requires : tie.Need-put-decimal-requires
-put-decimal-requires c κs = search needs
+put-decimal-requires c κs = tt
 
 put-verdict-requires : tie.Need-put-verdict-requires
-put-verdict-requires c κs = search needs
+put-verdict-requires c κs = tt
 
 put-duty-requires : tie.Need-put-duty-requires
-put-duty-requires c κs = search needs
+put-duty-requires c κs = tt
 
 put-states-requires : tie.Need-put-states-requires
-put-states-requires c κs = search needs
+put-states-requires c κs = tt
 
 slice-aggregate-put : tie.Need-slice-aggregate-put
 slice-aggregate-put c = search needs
 
 put-requires : tie.Need-put-requires
-put-requires c κs = search needs
-
-same-length : tie.Need-same-length
-same-length c = search needs
+put-requires c κs = tt
 
 returns : tie.Need-returns
-returns c = answered _ (c .before .before .before .before .before .before .before .before .before .before .before .before .before .before .before .before .before .before .before .before .before .before .args .event) (c .before .before .before .before .before .before .before .before .before .before .before .before .before .before .before .before .before .before .before .before .before .before .args .found) (c .before .before .before .before .before .before .before .before .before .before .before .before .before .before .before .before .before .before .before .put-decimal .ensures) (c .before .before .before .before .before .before .before .before .before .before .before .before .before .before .before .put-verdict .ensures) (c .before .before .before .before .before .before .before .before .before .before .before .put-duty .ensures) (c .before .before .before .before .before .before .before .put-states .ensures) (c .before .before .put .ensures)
+returns c = answered _ (c .before .before .before .before .before .before .before .before .before .before .before .before .before .before .before .before .before .before .before .before .before .before .args .event .0) (c .before .before .before .before .before .before .before .before .before .before .before .before .before .before .before .before .before .before .before .before .before .before .args .found) (c .before .before .before .before .before .before .before .before .before .before .before .before .before .before .before .before .before .before .before .put-decimal .ensures) (c .before .before .before .before .before .before .before .before .before .before .before .before .before .before .before .put-verdict .ensures) (c .before .before .before .before .before .before .before .before .before .before .before .put-duty .ensures) (c .before .before .before .before .before .before .before .put-states .ensures) (c .before .before .put .ensures)
+
+same-length : tie.Need-same-length
+same-length c = same-long (laid (c .before .before .before .before .before .before .before .before .before .before .before .before .before .before .before .before .before .before .before .before .before .before .args .at) (now (c .before .before .before .before .before .before .before .before .before .before .before .before .before .before .before .before .before .before .before .before .before .before .args .out))) (answerTexts (c .before .before .before .before .before .before .before .before .before .before .before .before .before .before .before .before .before .before .before .before .before .before .args .event .0) (c .before .before .before .before .before .before .before .before .before .before .before .before .before .before .before .before .before .before .before .before .before .before .args .found)) (returns c)
 
 pub put-answer-spec : {M : Type 1} → statement M
 put-answer-spec =
     tie.close
     (tie.spec
+    cast-put-decimal
     put-decimal-requires
     put-verdict-requires
     put-duty-requires

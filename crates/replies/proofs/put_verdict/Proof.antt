@@ -1,7 +1,9 @@
--- `replies::put_verdict` meets its contract: each code has its name.
+-- `replies::put_verdict` meets its contract: each code has its name, and any other is unknown.
 -- Assumes nothing.
+use Rattle.verdicts.specs.Verdicts.{explained, unexplained, notJudged}
 use borrow.Author.Needs.{needs}
-use Rattle.replies.proofs.Parts.{is-explained, is-unexplained, is-not-judged}
+use Rattle.replies.specs.Replies.{verdictText}
+use Rattle.replies.proofs.Parts.{verdict-is, verdict-unknown}
 use Rattle.replies.proofs.put_verdict.Statement.{statement}
 use Rattle.replies.proofs.put_verdict.Tie as tie
 
@@ -9,37 +11,52 @@ slice-aggregate-put : tie.Need-slice-aggregate-put
 slice-aggregate-put c = search needs
 
 put-requires : tie.Need-put-requires
-put-requires c κs = search needs
+put-requires c κs = tt
 
 same-length : tie.Need-same-length
 same-length c = search needs
 
 returns : tie.Need-returns
-returns c = is-explained _ (c .before .before .before .before .before .if1 .taken) (c .before .before .put .ensures)
+unfolding verdictText
+returns c = verdict-is _ explained (c .before .before .before .before .before .if1 .taken) (c .before .before .put .ensures)
 
 slice-aggregate-put-2 : tie.Need-slice-aggregate-put-2
 slice-aggregate-put-2 c = search needs
 
 put-requires-2 : tie.Need-put-requires-2
-put-requires-2 c κs = search needs
+put-requires-2 c κs = tt
 
 same-length-2 : tie.Need-same-length-2
 same-length-2 c = search needs
 
 returns-2 : tie.Need-returns-2
-returns-2 c = is-unexplained _ (c .before .before .before .before .before .if2 .taken) (c .before .before .put2 .ensures)
+unfolding verdictText
+returns-2 c = verdict-is _ unexplained (c .before .before .before .before .before .if2 .taken) (c .before .before .put2 .ensures)
 
 slice-aggregate-put-3 : tie.Need-slice-aggregate-put-3
 slice-aggregate-put-3 c = search needs
 
 put-requires-3 : tie.Need-put-requires-3
-put-requires-3 c κs = search needs
+put-requires-3 c κs = tt
 
 same-length-3 : tie.Need-same-length-3
 same-length-3 c = search needs
 
 returns-3 : tie.Need-returns-3
-returns-3 c = is-not-judged _ (c .before .before .before .before .before .before .before .if1 .left) (c .before .before .before .before .before .if2 .left) (c .before .before .put3 .ensures)
+unfolding verdictText
+returns-3 c = verdict-is _ notJudged (c .before .before .before .before .before .if3 .taken) (c .before .before .put3 .ensures)
+
+slice-aggregate-put-4 : tie.Need-slice-aggregate-put-4
+slice-aggregate-put-4 c = search needs
+
+put-requires-4 : tie.Need-put-requires-4
+put-requires-4 c κs = tt
+
+same-length-4 : tie.Need-same-length-4
+same-length-4 c = search needs
+
+returns-4 : tie.Need-returns-4
+returns-4 c = verdict-unknown _ (c .before .before .before .before .before .before .before .before .before .if1 .left) (c .before .before .before .before .before .before .before .if2 .left) (c .before .before .before .before .before .if3 .left) (c .before .before .put4 .ensures)
 
 pub put-verdict-spec : {M : Type 1} → statement M
 put-verdict-spec =
@@ -56,4 +73,8 @@ put-verdict-spec =
     slice-aggregate-put-3
     put-requires-3
     same-length-3
-    returns-3)
+    returns-3
+    slice-aggregate-put-4
+    put-requires-4
+    same-length-4
+    returns-4)
