@@ -1,20 +1,20 @@
-// The bench sheet: a sheet from standard input, its answers to standard output, read and written in pieces of at most 65,536 bytes.
+// The bench sheet: a sheet from standard input, its answers to standard output, read and written in pieces of at most 65,536 bytes. What is
+// done with what is read, and what is to be written, `sheet` says.
+use kinds::MOST_PAIRS;
 use libc::STDERR_FILENO;
 use libc::STDIN_FILENO;
 use libc::STDOUT_FILENO;
+use sheet::Turned;
 ghost use Prim.Native.Nat.{_≤_};
-ghost use mathlib.Core.Path.{_≡_};
 ghost use lib.ListN.{length};
 
-// With this many bytes held, something can be said of the next line whatever follows.
-const ENOUGH: usize = 162;
+// At most this many bytes are held, or written at once.
+const SIZE: usize = 65536;
 
-// A run so far: how many bytes are held, how many lines were taken, whether it goes on, and whether the input has ended.
-struct Run {
-    held: usize,
-    lines: u32,
-    going: bool,
-    ended: bool,
+// What a read brought: how many bytes, and whether it failed.
+struct Got {
+    count: usize,
+    failed: bool,
 }
 
 // Says on standard error why the run ends early.
@@ -22,48 +22,35 @@ fn complain(why: &[u8]) -> bool {
     io::write_all(STDERR_FILENO, why)
 }
 
-// A run that ends here.
-fn stopped(run: Run) -> Run
-    ensures { λ r. ⌜ r .held ≡ run .held ⌝ }
+// One read behind the bytes that are held. A failure is told; it is not taken for the end of the input.
+fn read_more(held: usize, piece: &mut [u8]) -> Got
+    requires { ⌜ held ≤ length (now piece) ⌝ }
 {
-    Run {
-        held: run.held,
-        lines: run.lines,
-        going: false,
-        ended: true,
-    }
-}
-
-// One read behind the bytes that are held. An error ends the run and is told; it is not taken for the end of the input.
-fn read_more(run: Run, piece: &mut [u8]) -> Run
-    requires { ⌜ run .held ≤ length (now piece) ⌝ }
-    ensures { λ r. ⌜ r .held ≤ length (now (piece .entry)) ⌝ }
-{
-    let held = run.held;
     let got = libc::read(STDIN_FILENO, &mut piece[held..]);
     if got < 0 {
         complain(b"bench_sheet: standard input can't be read\n");
-        return stopped(run);
+        return Got {
+            count: 0,
+            failed: true,
+        };
     }
-    let more = io::count(got, &piece[held..]);
-    Run {
-        held: held + more,
-        lines: run.lines,
-        going: run.going,
-        ended: more == 0,
+    Got {
+        count: io::count(got, &piece[held..]),
+        failed: false,
     }
 }
 
-// A read where too little is held to be sure of a line, and the input has not ended.
-fn filled(run: Run, piece: &mut [u8]) -> Run
-    requires { ⌜ run .held ≤ length (now piece) ⌝ }
-    ensures { λ r. ⌜ r .held ≤ length (now (piece .entry)) ⌝ }
+// A read where one is wanted.
+fn read_wanted(run: Turned, piece: &mut [u8]) -> Got
+    requires { ⌜ run .carried .held ≤ length (now piece) ⌝ }
 {
-    let held = run.held;
-    if run.ended | (ENOUGH <= held) {
-        return run;
+    if run.wants {
+        return read_more(run.carried.held, piece);
     }
-    read_more(run, piece)
+    Got {
+        count: 0,
+        failed: false,
+    }
 }
 
 // Writes the front of the buffer. A failure is told.
@@ -77,51 +64,27 @@ fn write_out(out: &[u8], put: usize) -> bool
     false
 }
 
-// The first line of the answers.
-fn write_header(out: &mut [u8]) -> bool
-    requires { ⌜ 64 ≤ length (now out) ⌝ }
-{
-    let put = replies::put_header(out, 0);
-    write_out(out, put)
-}
-
-// One turn: a read where it is needed, and what is held eaten and its answers written.
-fn turn(run: Run, piece: &mut [u8], table: &mut [u8], out: &mut [u8]) -> Run
-    requires { ⌜ run .held ≤ length (now piece) ⌝ }
-    ensures { λ r. ⌜ r .held ≤ length (now (piece .entry)) ⌝ }
-{
-    let now = filled(run, piece);
-    let held = now.held;
-    let ate = sheet::eat(&piece[..held], now.ended, now.lines, now.going, table, out);
-    let taken = ate.taken;
-    if !write_out(out, ate.put) {
-        return stopped(now);
-    }
-    sheet::keep(piece, taken, held);
-    Run {
-        held: held - taken,
-        lines: ate.lines,
-        going: ate.going,
-        ended: now.ended,
-    }
-}
-
-// Reads, judges and writes until a refusal, the end of the input or an error.
+// Reads, judges and writes until the run is over, or an error.
 fn main() {
-    let mut piece = [0u8; 65536];
-    let mut table = [127u8; 4096];
-    let mut out = [0u8; 65536];
-    let mut run = Run {
-        held: 0,
-        lines: 0,
-        going: write_header(&mut out),
-        ended: false,
-    };
+    let mut piece = [0u8; SIZE];
+    let mut table = [0u8; MOST_PAIRS];
+    let mut out = [0u8; SIZE];
+    let mut run = sheet::begin(&mut table, &mut out);
+    if !write_out(&out, run.put) {
+        return;
+    }
     let mut turns: u64 = 1_000_000_000_000;
     while turns > 0 {
-        let next = turn(run, &mut piece, &mut table, &mut out);
+        let got = read_wanted(run, &mut piece);
+        if got.failed {
+            return;
+        }
+        let next = sheet::turn(run.carried, got.count, &mut piece, &mut table, &mut out);
         run = next;
-        if !run.going | (run.ended & (run.held == 0)) {
+        if !write_out(&out, run.put) {
+            return;
+        }
+        if run.over {
             return;
         }
         turns -= 1;

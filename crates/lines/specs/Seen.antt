@@ -5,9 +5,13 @@ use mathlib.Core.List.{List, [], _∷_}
 use lib.ListN.{drop}
 use Rattle.lines.specs.Lines.{crlf}
 
--- a line that has this many bytes before its CR LF is too long, whatever follows
+-- a line has at most this many bytes before its CR LF
+abbrev pub longest : ℕ
+longest = 160
+
+-- a line that has this many is too long, whatever follows
 abbrev pub tooLong : ℕ
-tooLong = 161
+tooLong = longest + 1
 
 -- how many bytes stand before the first CR LF, looking no further than n of them and the end
 abbrev pub reach : ℕ → List ℕ → ℕ

@@ -5,8 +5,11 @@ ghost use lib.ListN.{length, drop};
 ghost use Rattle.lines.specs.Lines.{crlf};
 ghost use Rattle.lines.specs.Seen.{lineEnd, tooLong};
 
-// A line that has this many bytes before its CR LF is too long, whatever follows.
-const TOO_LONG: usize = 161;
+// A line has at most this many bytes before its CR LF.
+pub const LONGEST: usize = 160;
+
+// A line that has this many is too long, whatever follows.
+pub const TOO_LONG: usize = LONGEST + 1;
 
 // Carriage return and line feed: the two together end a line.
 const CR: u8 = 13;

@@ -3,35 +3,38 @@
 use mathlib.Core.Path.{_≡_, refl, sym, _∙_, ap, ap₂, subst}
 use mathlib.Core.Bool.{Bool, true, false, cond, _&&_, _||_, false≢true}
 use mathlib.Core.List.{List, [], _∷_, _++_, append-nil}
-use Prim.Native.Nat.{ℕ, zero, suc, _+_, _-_, _≤_, _<_, _^_}
-use native.Mathlib.Nat.{add-zero, zero-add, add-assoc, add-comm}
+use Prim.Native.Nat.{ℕ, zero, suc, _+_, _-_, _≤_, _<_, _^_, min}
+use native.Mathlib.Nat.{add-zero, zero-add, add-assoc, add-comm, le-of-eq}
 use native.Mathlib.Omega.{arith}
 use borrow.Author.Tests.{leb-true, leb-false, le-leb, lt-leb, lt-ltb, le-ltb, ltb-false, eq-eqb, ne-eqb, eqb-true}
 use lib.Dec.{eqb, leb, ltb}
-use lib.ListN.{length, getD, set, take, drop, length-append, length-take, length-drop, length-set, take-append-drop}
-use lib.Seq.{drop-drop, drop-at, take-at, getD-drop, paste, paste-suc}
+use lib.ListN.{length, getD, set, take, drop, replicate, length-append, length-take, length-drop, length-set, length-replicate, take-append-drop}
+use lib.Seq.{drop-drop, drop-length, drop-at, take-at, take-add, take-all, take-length, getD-drop, paste, paste-suc, length-paste}
 use Rattle.kinds.specs.Tests.{same}
+use Rattle.kinds.specs.Codes.{allStates}
 use Rattle.kinds.specs.Places.{setIn}
 use Rattle.verdicts.specs.Verdicts.{finding}
 use Rattle.verdicts.specs.declared.Finding.{Finding}
-use Rattle.text.specs.Text.{bytes, comma, eol}
 use Rattle.trace.specs.Events.{moved}
 use Rattle.entries.specs.Entries.{entryOf}
 use Rattle.entries.specs.declared.Entry.{Entry}
 use Rattle.replies.specs.Laid.{Laid, laid, lay, layAll}
-use Rattle.replies.specs.Replies.{decimal, answerLine, refusedLine, answerTexts, refusalTexts}
-use Rattle.replies.proofs.Laws.{lay-fits, lay-all, length-in, decimal-short, concat-answer, concat-refusal, answer-short}
+use Rattle.replies.specs.Replies.{room, headerLine, answerLine, refusedLine, answerTexts, refusalTexts}
+use Rattle.replies.proofs.Laws.{length-in, answer-short, answer-laid, refusal-short, refusal-laid, header-laid, length-lay}
 use Rattle.lines.specs.Lines.{crlf}
 use Rattle.lines.specs.Seen.{tooLong, reach, lineEnd}
 use Rattle.lines.proofs.Parting.{reach-within}
 use Rattle.sheet.specs.declared.Answered.{Answered}
 use Rattle.sheet.specs.declared.Eaten.{Eaten}
 use Rattle.sheet.specs.declared.Next.{Next}
+use Rattle.sheet.specs.declared.Carried.{Carried}
+use Rattle.sheet.specs.declared.Turned.{Turned}
 use Rattle.sheet.specs.Sheet.{Told, told, refuse, header, longest, mostLines, onHeader, onEntry, onLine}
-use Rattle.sheet.specs.Pieces.{Held, nextLine, taken, whole, sure, room, ready, turn, eaten}
-use Rattle.sheet.specs.Eaten.{held, Left, left, leftOf, ate, movedDown, kept}
-use Rattle.sheet.specs.Answered.{Answers, AnswersOn, Roomy, nextIn}
-use Rattle.sheet.proofs.Turns.{is-ready, size, eaten-turn, eaten-stuck, turn-ready, turn-less, taken-within}
+use Rattle.sheet.specs.Pieces.{Held, held, nextLine, taken, whole, sure, ready, bite, eaten}
+use Rattle.sheet.specs.Turns.{wanted, answered, endedBy, nothingYet, Begun, begunWith, begun, inFront, carriedOf, leftWith, leftBy, turned}
+use Rattle.sheet.specs.Turns as turns
+use Rattle.sheet.specs.Answered.{Answers, AnswersOn, Roomy, nextIn, Left, left, leftOf, ate, movedDown}
+use Rattle.sheet.proofs.Bites.{is-ready, size, eaten-bite, eaten-stuck, bite-ready, bite-less, taken-within, Rest, rest-short, eaten-rest, taken-off}
 
 -- a run in the middle of a piece: so many bytes taken, and so many put
 abbrev now-held : List ℕ → ℕ → ℕ → ℕ → Bool → List ℕ → List ℕ → Held
@@ -159,9 +162,9 @@ module _ {ended : Bool} {piece out₀ : List ℕ} {h₀ : Held} {table out : Lis
   further : drop (put + length (t .text)) out ≡ drop (put + length (t .text)) out₀
   further = sym (drop-drop (length (t .text)) put out) ∙ ap (drop (length (t .text))) (e .tail) ∙ drop-drop (length (t .text)) put out₀
 
-  turned : turn ended (length out₀) (now-held piece taken₀ put lines going table out) ≡ now-held piece (next .next) (r .at) lines′ (r .goes) table′ out′
-  turned =
-      turn-ready ended (length out₀) (now-held piece taken₀ put lines going table out) (o .is-ready)
+  bitten : bite ended (length out₀) (now-held piece taken₀ put lines going table out) ≡ now-held piece (next .next) (r .at) lines′ (r .goes) table′ out′
+  bitten =
+      bite-ready ended (length out₀) (now-held piece taken₀ put lines going table out) (o .is-ready)
       ∙ held-same (drop-drop (taken (drop taken₀ piece)) taken₀ piece ∙ ap (λ n. drop n piece) (sym (ap (λ (x : Next). x .next) (o .is-next))))
       (sym (o .counted ∙ ap (λ c. cond c (lines + 1) lines) (b .goes-so)))
       (sym (on .table-so))
@@ -171,7 +174,7 @@ module _ {ended : Bool} {piece out₀ : List ℕ} {h₀ : Held} {table out : Lis
   -- one line more
   pub eating-next : Eating ended piece out₀ h₀ table′ out′ (next .next) (r .at) lines′ (r .goes)
   eating-next = record {
-    so = e .so ∙ eaten-turn ended (length out₀) (now-held piece taken₀ put lines going table out) ∙ ap (eaten ended (length out₀)) turned;
+    so = e .so ∙ eaten-bite ended (length out₀) (now-held piece taken₀ put lines going table out) ∙ ap (eaten ended (length out₀)) bitten;
     inside = subst (λ n. n ≤ length piece) (sym (ap (λ (x : Next). x .next) (o .is-next)))
         (omega (arith, e .inside, subst (λ n. taken (drop taken₀ piece) ≤ n) (length-drop taken₀ piece) (taken-within (drop taken₀ piece))));
     fits = subst (λ n. n ≤ length out′) (sym (b .at-so)) (subst (λ n. put + length (t .text) ≤ n) (sym long′) (b .fits-so));
@@ -186,8 +189,8 @@ module _ {ended : Bool} {piece out₀ : List ℕ} {h₀ : Held} {table out : Lis
   eating-less =
       subst (λ n. n + cond (r .goes) 1 0 < length piece - taken₀ + cond going 1 0) (length-drop (next .next) piece)
       (subst (λ n. length (drop (next .next) piece) + cond (r .goes) 1 0 < n + cond going 1 0) (length-drop taken₀ piece)
-      (subst (λ x. size x < size (now-held piece taken₀ put lines going table out)) turned
-      (turn-less ended (length out₀) (now-held piece taken₀ put lines going table out) (o .is-ready))))
+      (subst (λ x. size x < size (now-held piece taken₀ put lines going table out)) bitten
+      (bite-less ended (length out₀) (now-held piece taken₀ put lines going table out) (o .is-ready))))
 
 -- the line that starts at a place, by what is found of it
 pub next-seen : (ended : Bool) (lines : ℕ) (piece : List ℕ) (start end next : ℕ) (b : Bool)
@@ -289,12 +292,10 @@ pub entry-refused : {out out′ : List ℕ} {at : ℕ} {r : Answered} (k : ℕ) 
 entry-refused {out} {out′} {at} {r} k table e f a =
     subst (λ (t : Told). AnswersOn t out at r out′ table) (sym (ap (λ b. cond b (entryTold k table e) (refuse (e .refusal .0) k table)) (ne-eqb (e .refusal .0) 0 f))) (refuse-on (e .refusal .0) k table a)
 
--- what a line does is put where its text is laid and there is room for it
-put-answers : (t : Told) (out out′ : List ℕ) (at n : ℕ) → laid n out′ ≡ lay (laid at out) (t .text) → at + length (t .text) ≤ length out
-    → Answers t out at (record { at = n; goes = t .goes }) out′
-put-answers t out out′ at n e h =
-    let f = e ∙ lay-fits (laid at out) (t .text) h in
-    record { at-so = ap (λ (l : Laid). l .at) f; out-so = ap (λ (l : Laid). l .out) f; fits-so = h; goes-so = refl }
+-- what a line does is put where its text is laid
+put-answers : (t : Told) (out out′ : List ℕ) (at n : ℕ) → laid n out′ ≡ laid (at + length (t .text)) (take at out ++ t .text ++ drop (at + length (t .text)) out)
+    → at + length (t .text) ≤ length out → Answers t out at (record { at = n; goes = t .goes }) out′
+put-answers t out out′ at n e h = record { at-so = ap (λ (l : Laid). l .at) e; out-so = ap (λ (l : Laid). l .out) e; fits-so = h; goes-so = refl }
 
 -- only a line that is not too many lets the run go on
 pub goes-few : (k : ℕ) (table line : List ℕ) → onLine k table line .goes ≡ true → k < mostLines
@@ -308,27 +309,12 @@ goes-few k table line g = go (eqb k 0) refl (ltb mostLines (k + 1)) refl g
     go false e true f h = absurd (false≢true h)
     go false e false f h = omega (arith, ltb-false mostLines (k + 1) f)
 
--- a refusal fits into the room for an answer
-refusal-fits : (number line : ℕ) → number < 256 → line < 10 ^ 10 → length (refusedLine number line) ≤ room
-unfolding refusedLine
-refusal-fits number line h k =
-    subst (λ n. n ≤ room) (sym (in-parts (decimal number) (decimal line)))
-    (omega (arith, decimal-short 2 number (omega (arith, h)), decimal-short 9 line k))
-  where
-    in-parts : (n l : List ℕ) → length (bytes "refused" ++ comma ∷ n ++ comma ∷ l ++ eol) ≡ length n + length l + 11
-    in-parts n l = simp length-append (omega arith)
-
 pub refuse-put : (number lines at n : ℕ) (out out′ : List ℕ) → number < 256 → lines < 2 ^ 32 → Roomy out at
     → laid n out′ ≡ layAll (laid at out) (refusalTexts number (lines + 1))
     → Answers (refuse number lines []) out at (record { at = n; goes = false }) out′
 refuse-put number lines at n out out′ h k roomy e =
-    put-answers (refuse number lines []) out out′ at n
-    (e ∙ lay-all (laid at out) (refusalTexts number (lines + 1)) (subst (λ (s : List ℕ). at + length s ≤ length out) (sym (concat-refusal number (lines + 1))) fits)
-    ∙ ap (lay (laid at out)) (concat-refusal number (lines + 1)))
-    fits
-  where
-    fits : at + length (refusedLine number (lines + 1)) ≤ length out
-    fits = omega (arith, roomy, refusal-fits number (lines + 1) h (omega (arith, k)))
+    put-answers (refuse number lines []) out out′ at n (e ∙ refusal-laid at number (lines + 1) out roomy h (omega (arith, k)))
+    (omega (arith, roomy, refusal-short number (lines + 1) h (omega (arith, k))))
 
 pub answer-put : (k at n : ℕ) (table out out′ table′ : List ℕ) (e : Entry) (found : Finding) (before : ℕ) → 0 < k → k < mostLines → Roomy out at → e .refusal .0 ≡ 0
     → before ≡ setIn table (e .pair .0) → found ≡ finding (e .event) before → table′ ≡ set table (e .pair .0) (found .after)
@@ -340,10 +326,8 @@ answer-put k at n table out out′ table′ e found before pos few roomy zero-is
     (record {
       answers-so =
           put-answers (entryTold k table e) out out′ at n
-          (l ∙ ap (λ (x : Finding). layAll (laid at out) (answerTexts (k - 1) x)) is-found
-          ∙ lay-all (laid at out) (answerTexts (k - 1) found′) (subst (λ (s : List ℕ). at + length s ≤ length out) (sym (concat-answer (k - 1) found′)) fits)
-          ∙ ap (lay (laid at out)) (concat-answer (k - 1) found′))
-          fits;
+          (l ∙ ap (λ (x : Finding). layAll (laid at out) (answerTexts (k - 1) x)) is-found ∙ answer-laid at (k - 1) out found′ roomy (omega (arith, few)))
+          (omega (arith, roomy, answer-short (k - 1) found′ (omega (arith, few))));
       table-so = t ∙ ap (λ (x : Finding). set table (e .pair .0) (x .after)) is-found;
     })
   where
@@ -352,9 +336,6 @@ answer-put k at n table out out′ table′ e found before pos few roomy zero-is
 
     is-found : found ≡ found′
     is-found = f ∙ ap (finding (e .event)) b
-
-    fits : at + length (answerLine (k - 1) found′) ≤ length out
-    fits = omega (arith, roomy, answer-short (k - 1) found′ (omega (arith, few)))
 
 pub positive : (n : ℕ) → (n ≡ 0 → ⊥) → 0 < n
 positive zero f = absurd (f refl)
@@ -389,78 +370,176 @@ eaten-all e f = eating-stop e f
 pub counts-on : {at : ℕ} {out out′ table′ : List ℕ} {r : Answered} (k : ℕ) (table line : List ℕ) → AnswersOn (onLine k table line) out at r out′ table′ → r .goes ≡ true → k < mostLines
 counts-on k table line a g = goes-few k table line (sym (a .answers-so .goes-so) ∙ g)
 
--- no more is taken than the piece has, and no more is put than the buffer has
-pub ate-within : {table′ out′ : List ℕ} (ended : Bool) (piece : List ℕ) (lines : ℕ) (going : Bool) (table out : List ℕ) (r : Eaten)
-    → left r table′ out′ ≡ ate ended piece lines going table out → length out′ ≡ length out → (r .taken ≤ length piece) × (r .put ≤ length out′)
-unfolding ate
-ate-within {table′} {out′} ended piece lines going table out r e long = (
-  subst (λ n. n ≤ length piece) (sym (ap (λ (x : Left). x .answer .taken) e)) (omega arith),
-  subst (λ n. n ≤ length out′) (sym (ap (λ (x : Left). x .answer .put) e)) (omega (arith, long, whole-length)),
-)
-  where
-    text : List ℕ
-    text = eaten ended (length out) (held piece lines table going) .text
-
-    whole-length : length out′ ≡ length text + (length out - length text)
-    whole-length = ap (λ (x : Left). length (x .out)) e ∙ length-append text (drop (length text) out) ∙ ap (λ n. length text + n) (length-drop (length text) out)
-
--- bytes that are being moved down: those so far stand at the front
-pub record Moving (piece₀ : List ℕ) (start count : ℕ) (piece : List ℕ) (at : ℕ) : Type 0 where
-  pub so : piece ≡ movedDown piece₀ start at
+-- a buffer that is written over from its front: so many bytes of a text stand there, and behind them what stood there
+pub record Pasting (text : List ℕ) (count : ℕ) (buffer₀ buffer : List ℕ) (at : ℕ) : Type 0 where
+  pub so : buffer ≡ take at text ++ drop at buffer₀
   pub below : at ≤ count
+  pub long : count ≤ length text
+  pub fits : count ≤ length buffer₀
 
-pub moving-start : (piece : List ℕ) (start count : ℕ) → Moving piece start count piece 0
-moving-start piece start count = record { so = refl; below = omega arith }
+pub pasting-start : {text : List ℕ} {count : ℕ} {buffer : List ℕ} → count ≤ length text → count ≤ length buffer → Pasting text count buffer buffer 0
+pasting-start long fits = record { so = refl; below = omega arith; long = long; fits = fits }
 
-front-long : (piece : List ℕ) (start at : ℕ) → start + at ≤ length piece → length (take at (drop start piece)) ≡ at
-front-long piece start at h = length-front at (drop start piece) (subst (λ n. at ≤ n) (sym (length-drop start piece)) (omega (arith, h)))
+pasted : (text buffer : List ℕ) (at : ℕ) → take at text ++ drop at buffer ≡ paste buffer 0 text at
+pasted text buffer at = ap (λ n. take at text ++ drop n buffer) (sym (zero-add at))
 
-pub moving-long : {piece₀ piece : List ℕ} {start count at : ℕ} → start + count ≤ length piece₀ → Moving piece₀ start count piece at → length piece ≡ length piece₀
-moving-long {piece₀} {piece} {start} {count} {at} h m =
-    ap length (m .so) ∙ length-append (take at (drop start piece₀)) (drop at piece₀)
-    ∙ ap₂ (λ (a b : ℕ). a + b) (front-long piece₀ start at (omega (arith, h, m .below))) (length-drop at piece₀) ∙ omega (arith, h, m .below)
+module _ {text : List ℕ} {count : ℕ} {buffer₀ buffer : List ℕ} {at : ℕ} (p : Pasting text count buffer₀ buffer at) where
+  pub pasting-long : length buffer ≡ length buffer₀
+  pasting-long = ap length (p .so ∙ pasted text buffer₀ at) ∙ length-paste buffer₀ 0 text at (omega (arith, p .below, p .fits)) (omega (arith, p .below, p .long))
+
+  pub pasting-next : {x : ℕ} → at < count → x ≡ getD text at 0 → Pasting text count buffer₀ (set buffer at x) (at + 1)
+  pasting-next k e = record {
+    so = ap₂ (λ (s : List ℕ) (y : ℕ). set s at y) (p .so ∙ pasted text buffer₀ at) e
+        ∙ ap (λ n. set (paste buffer₀ 0 text at) n (getD text at 0)) (sym (zero-add at))
+        ∙ paste-suc buffer₀ 0 text at 0 (omega (arith, p .fits, k)) (omega (arith, p .long, k))
+        ∙ sym (pasted text buffer₀ (suc at)) ∙ ap (λ n. take n text ++ drop n buffer₀) (next-one at);
+    below = omega (arith, k);
+    long = p .long;
+    fits = p .fits;
+  }
+    where
+      next-one : (n : ℕ) → suc n ≡ n + 1
+      next-one n = omega arith
+
+  pub pasting-end : count ≤ at → buffer ≡ take count text ++ drop count buffer₀
+  pasting-end h = p .so ∙ ap (λ n. take n text ++ drop n buffer₀) (same-place at count (p .below) h)
+    where
+      same-place : (a b : ℕ) → a ≤ b → b ≤ a → a ≡ b
+      same-place a b q r = omega (arith, q, r)
+
+pub part-long : (piece : List ℕ) (start count : ℕ) → start + count ≤ length piece → count ≤ length (drop start piece)
+part-long piece start count h = subst (λ n. count ≤ n) (sym (length-drop start piece)) (omega (arith, h))
 
 -- a byte that is not moved yet stands where it stood
-still : (piece : List ℕ) (start at : ℕ) → start + at ≤ length piece → getD (movedDown piece start at) (start + at) 0 ≡ getD (drop start piece) at 0
-still piece start at h =
-    ap (λ n. getD (movedDown piece start at) n 0) (add-comm start at)
-    ∙ sym (getD-drop at (movedDown piece start at) start 0)
-    ∙ ap (λ (s : List ℕ). getD s start 0) (drop-at (take at (drop start piece)) (drop at piece) at (front-long piece start at h))
-    ∙ getD-drop at piece start 0 ∙ ap (λ n. getD piece n 0) (add-comm at start) ∙ sym (getD-drop start piece at 0)
+pub still : {piece₀ piece : List ℕ} {count at : ℕ} (start : ℕ) → start + count ≤ length piece₀ → Pasting (drop start piece₀) count piece₀ piece at
+    → getD piece (start + at) 0 ≡ getD (drop start piece₀) at 0
+still {piece₀} {piece} {count} {at} start h p =
+    ap₂ (λ (s : List ℕ) (n : ℕ). getD s n 0) (p .so) (add-comm start at)
+    ∙ sym (getD-drop at (movedDown piece₀ start at) start 0)
+    ∙ ap (λ (s : List ℕ). getD s start 0)
+    (drop-at (take at (drop start piece₀)) (drop at piece₀) at (length-front at (drop start piece₀) (part-long piece₀ start at (omega (arith, h, p .below)))))
+    ∙ getD-drop at piece₀ start 0 ∙ ap (λ n. getD piece₀ n 0) (add-comm at start) ∙ sym (getD-drop start piece₀ at 0)
 
-pasted : (piece : List ℕ) (start at : ℕ) → movedDown piece start at ≡ paste piece 0 (drop start piece) at
-pasted piece start at = ap (λ n. take at (drop start piece) ++ drop n piece) (sym (zero-add at))
+-- a table with every pair's set put
+pub filled : (table : List ℕ) → take (length table) (replicate (length table) allStates) ++ drop (length table) table ≡ replicate (length table) allStates
+filled table =
+    ap₂ (λ (a b : List ℕ). a ++ b)
+    (take-all (length table) (replicate (length table) allStates) (le-of-eq (length-replicate (length table) allStates)))
+    (drop-length table)
+    ∙ append-nil (replicate (length table) allStates)
 
-pub moving-next : {piece₀ piece : List ℕ} {start count at : ℕ} (x : ℕ) → start + count ≤ length piece₀ → Moving piece₀ start count piece at → at < count
-    → x ≡ getD piece (start + at) 0 → Moving piece₀ start count (set piece at x) (at + 1)
-moving-next {piece₀} {piece} {start} {count} {at} x h m k e = record {
-  so = ap₂ (λ (s : List ℕ) (y : ℕ). set s at y) (m .so) (e ∙ ap (λ (s : List ℕ). getD s (start + at) 0) (m .so) ∙ still piece₀ start at (omega (arith, h, k)))
-      ∙ ap₂ (λ (s : List ℕ) (n : ℕ). set s n (getD (drop start piece₀) at 0)) (pasted piece₀ start at) (sym (zero-add at))
-      ∙ paste-suc piece₀ 0 (drop start piece₀) at 0 (omega (arith, h, k)) (subst (λ n. at < n) (sym (length-drop start piece₀)) (omega (arith, h, k)))
-      ∙ sym (pasted piece₀ start (suc at)) ∙ ap (movedDown piece₀ start) (next-one at);
-  below = omega (arith, k);
-}
+-- a run begun, as the contract says it
+pub begun-is : (table out : List ℕ) {table′ out′ : List ℕ} {put : ℕ} {r : Turned} → table′ ≡ replicate (length table) allStates → laid put out′ ≡ lay (laid 0 out) headerLine
+    → r ≡ answered nothingYet put → begunWith r table′ out′ ≡ begun table out
+unfolding begun
+begun-is table out {table′} {out′} {put} {r} filled-so l a =
+    ap₂ (λ (x : Turned) (y : List ℕ). begunWith x y out′) (a ∙ ap (λ (k : Laid). answered nothingYet (k .at)) l) filled-so
+    ∙ ap (λ (k : Laid). begunWith (answered nothingYet (lay (laid 0 out) headerLine .at)) (replicate (length table) allStates) (k .out)) l
+
+-- as many bytes as the piece has are all of it
+all-held : (n : ℕ) (piece : List ℕ) → take (min n (length piece)) piece ≡ take n piece
+all-held n piece = go (leb n (length piece)) refl
   where
-    next-one : (n : ℕ) → suc n ≡ n + 1
-    next-one n = omega arith
+    go : (b : Bool) → leb n (length piece) ≡ b → take (min n (length piece)) piece ≡ take n piece
+    go true e =
+        let k : min n (length piece) ≡ n = omega (arith, leb-true n (length piece) e) in
+        ap (λ m. take m piece) k
+    go false e =
+        let k : min n (length piece) ≡ length piece = omega (arith, leb-false n (length piece) e) in
+        ap (λ m. take m piece) k ∙ take-length piece ∙ sym (take-all n piece (omega (arith, leb-false n (length piece) e)))
 
-pub moving-end : {piece₀ piece : List ℕ} {start count at : ℕ} → Moving piece₀ start count piece at → count ≤ at → piece ≡ movedDown piece₀ start count
-moving-end {piece₀} {piece} {start} {count} {at} m h = m .so ∙ ap (movedDown piece₀ start) (same-place at count (m .below) h)
+-- a part of a part
+part-of : (piece : List ℕ) (start count : ℕ) → start + count ≤ length piece → drop start (take (start + count) piece) ≡ take count (drop start piece)
+part-of piece start count h =
+    ap (drop start) (take-add start count piece) ∙ drop-at (take start piece) (take count (drop start piece)) start (length-front start piece (omega (arith, h)))
+
+-- the rest of what is held, moved to the front
+rest-moved : (piece rest : List ℕ) (n : ℕ) → n ≤ length piece → Rest (take n piece) rest
+    → movedDown piece (n - length rest) (n - (n - length rest)) ≡ inFront rest piece
+rest-moved piece rest n h r =
+    ap (λ m. take m (drop (n - length rest) piece) ++ drop m piece) kept-long
+    ∙ ap (λ (s : List ℕ). s ++ drop (length rest) piece)
+    (sym (part-of piece (n - length rest) (length rest) (omega (arith, h, short))) ∙ ap (λ m. drop (n - length rest) (take m piece)) back
+    ∙ ap (λ m. drop (m - length rest) (take n piece)) (sym (length-front n piece h)) ∙ taken-off r)
   where
-    same-place : (a b : ℕ) → a ≤ b → b ≤ a → a ≡ b
-    same-place a b p q = omega (arith, p, q)
+    short : length rest ≤ n
+    short = omega (arith, rest-short r, length-front n piece h)
 
--- where there is nothing to keep, all stays
-pub kept-none : (piece : List ℕ) (taken end : ℕ) → end < taken → piece ≡ kept piece taken end
-unfolding kept
-kept-none piece taken end h = sym (ap (λ b. cond (b && leb end (length piece)) (movedDown piece taken (end - taken)) piece) (lt-leb taken end h))
+    kept-long : n - (n - length rest) ≡ length rest
+    kept-long = omega (arith, short)
 
-pub kept-past : (piece : List ℕ) (taken end : ℕ) → taken ≤ end → length piece < end → piece ≡ kept piece taken end
-unfolding kept
-kept-past piece taken end h k =
-    sym (ap₂ (λ (b c : Bool). cond (b && c) (movedDown piece taken (end - taken)) piece) (le-leb taken end h) (lt-leb end (length piece) k))
+    back : n - length rest + length rest ≡ n
+    back = omega (arith, short)
 
-pub kept-part : (piece : List ℕ) (taken end : ℕ) → taken ≤ end → end ≤ length piece → movedDown piece taken (end - taken) ≡ kept piece taken end
-unfolding kept
-kept-part piece taken end h k =
-    sym (ap₂ (λ (b c : Bool). cond (b && c) (movedDown piece taken (end - taken)) piece) (le-leb taken end h) (le-leb end (length piece) k))
+-- a turn, as the contract says it
+module _ (c : Carried) (got : ℕ) (piece table out : List ℕ) {table′ out′ : List ℕ} {b : Bool} {n : ℕ} {e : Eaten}
+    (is-wanted : b ≡ wanted c) (is-held : n ≡ min (c .held + got) (length piece))
+    (is-eaten : left e table′ out′ ≡ ate (c .ended || (b && eqb got 0)) (take n piece) (c .lines) (c .going) table out) where
+  abbrev ended : Bool
+  ended = c .ended || (b && eqb got 0)
+
+  abbrev h : Held
+  h = eaten ended (length out) (held (take n piece) (c .lines) table (c .going))
+
+  within : n ≤ length piece
+  within = omega (arith, is-held)
+
+  is-ended : ended ≡ endedBy c got
+  is-ended = ap (λ x. c .ended || (x && eqb got 0)) is-wanted
+
+  is-taken : e .taken ≡ n - length (h .rest)
+  unfolding ate
+  is-taken = ap (λ (x : Left). x .answer .taken) is-eaten ∙ ap (λ m. m - length (h .rest)) (length-front n piece within)
+
+  is-rest : Rest (take n piece) (h .rest)
+  is-rest = eaten-rest ended (length out) (held (take n piece) (c .lines) table (c .going))
+
+  kept-long : n - e .taken ≡ length (h .rest)
+  kept-long = omega (arith, is-taken, rest-short is-rest, length-front n piece within)
+
+  pub taken-most : e .taken ≤ n
+  taken-most = omega (arith, is-taken)
+
+  pub held-most : n ≤ length piece
+  held-most = within
+
+  all-of : leftBy ended piece out h ≡ turned c got piece table out
+  unfolding turned
+  all-of =
+      ap₂ (λ (x : Bool) (s : List ℕ). leftBy x piece out (eaten x (length out) (held s (c .lines) table (c .going)))) is-ended
+      (ap (λ m. take m piece) is-held ∙ all-held (c .held + got) piece)
+
+  pub turn-is : {piece′ : List ℕ} {r : Turned} → piece′ ≡ movedDown piece (e .taken) (n - e .taken)
+      → r ≡ answered (record { held = n - e .taken; lines = e .lines; going = e .going; ended = ended }) (e .put)
+      → leftWith r piece′ table′ out′ ≡ turned c got piece table out
+  unfolding ate
+  turn-is p a =
+      ap₂ (λ (x : Turned) (s : List ℕ). leftWith x s table′ out′)
+      (a ∙ ap (λ m. answered (record { held = m; lines = e .lines; going = e .going; ended = ended }) (e .put)) kept-long
+      ∙ ap (λ (x : Left). answered (record { held = length (h .rest); lines = x .answer .lines; going = x .answer .going; ended = ended }) (x .answer .put)) is-eaten)
+      (p ∙ ap (λ m. movedDown piece m (n - m)) is-taken ∙ rest-moved piece (h .rest) n within is-rest)
+      ∙ ap (λ (x : Left). leftWith (answered (carriedOf ended h) (length (h .text))) (inFront (h .rest) piece) (x .table) (x .out)) is-eaten
+      ∙ all-of
+
+-- no more is held than the piece has, and no more is to be written than the buffer has
+left-within : (ended : Bool) (piece out : List ℕ) (h : Held) {r : Turned} {piece′ table′ out′ : List ℕ} → leftWith r piece′ table′ out′ ≡ leftBy ended piece out h
+    → (r .carried .held ≤ length piece′) × (r .put ≤ length out′)
+left-within ended piece out h e = (
+  omega (arith, ap (λ (x : turns.Left). x .answer .carried .held) e, ap (λ (x : turns.Left). length (x .piece)) e, length-append (h .rest) (drop (length (h .rest)) piece)),
+  omega (arith, ap (λ (x : turns.Left). x .answer .put) e, ap (λ (x : turns.Left). length (x .out)) e, length-append (h .text) (drop (length (h .text)) out)),
+)
+
+pub turned-within : (c : Carried) (got : ℕ) (piece table out : List ℕ) {r : Turned} {piece′ table′ out′ : List ℕ}
+    → leftWith r piece′ table′ out′ ≡ turned c got piece table out → (r .carried .held ≤ length piece′) × (r .put ≤ length out′)
+unfolding turned
+turned-within c got piece table out e =
+    left-within (endedBy c got) piece out (eaten (endedBy c got) (length out) (held (take (c .held + got) piece) (c .lines) table (c .going))) e
+
+-- the same where a run begins, and the buffer has room for a line
+pub begun-within : (table out : List ℕ) {r : Turned} {table′ out′ : List ℕ} → room ≤ length out → begunWith r table′ out′ ≡ begun table out
+    → (r .carried .held ≡ 0) × (r .put ≤ length out′)
+unfolding begun headerLine
+begun-within table out roomy e = (
+  ap (λ (x : Begun). x .answer .carried .held) e,
+  omega (arith, roomy, ap (λ (x : Begun). x .answer .put) e ∙ ap (λ (l : Laid). l .at) (header-laid 0 out (omega (arith, roomy))), ap (λ (x : Begun). length (x .out)) e ∙ length-lay (laid 0 out) headerLine),
+)

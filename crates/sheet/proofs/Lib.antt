@@ -1,3 +1,4 @@
-pub mod Turns
-pub mod Runs
 pub mod Laws
+pub mod Bites
+pub mod Runs
+pub mod Turns

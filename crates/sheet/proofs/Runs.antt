@@ -10,11 +10,11 @@ use lib.Dec.{eqb, ltb}
 use lib.ListN.{length}
 use Rattle.lines.specs.Lines.{linesOf}
 use Rattle.lines.specs.Seen.{tooLong}
-use Rattle.replies.specs.Replies.{headerLine, refusedLine}
+use Rattle.replies.specs.Replies.{room, headerLine, refusedLine}
 use Rattle.sheet.specs.Sheet.{answers, sheetOut}
-use Rattle.sheet.specs.Pieces.{Held, whole, sure, room, ready, eaten, toCome, total}
+use Rattle.sheet.specs.Pieces.{Held, whole, sure, ready, eaten, toCome, total}
 use Rattle.sheet.specs.Runs.{emptied, withPiece, Run, SomeRun, reads, eats, ends, refused, done, start}
-use Rattle.sheet.proofs.Turns.{eaten-keeps, nothing, size, eaten-less}
+use Rattle.sheet.proofs.Bites.{eaten-keeps, nothing, size, eaten-less}
 
 piece-read : (h : Held) (piece input : List ℕ) → toCome (withPiece h piece) input ≡ toCome h (piece ++ input)
 unfolding toCome

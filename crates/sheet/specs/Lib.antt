@@ -1,5 +1,5 @@
 pub mod Sheet
 pub mod Pieces
 pub mod Runs
-pub mod Eaten
+pub mod Turns
 pub mod Answered

@@ -6,6 +6,7 @@ use lib.Dec.{eqb, leb, ltb}
 use lib.ListN.{length, take, drop}
 use Rattle.lines.specs.Lines.{crlf, linesOf}
 use Rattle.lines.specs.Seen.{tooLong, reach}
+use Rattle.replies.specs.Replies.{room}
 use Rattle.sheet.specs.Sheet.{Told, onLine, answers}
 
 -- a run so far: the bytes that are held and not taken yet, how many lines were taken, the table of sets, the text that was put, and whether it goes on
@@ -15,6 +16,10 @@ pub record Held : Type 0 where
   pub table : List ℕ
   pub text : List ℕ
   pub going : Bool
+
+-- bytes are held: nothing of them is taken yet, and nothing is put
+abbrev pub held : List ℕ → ℕ → List ℕ → Bool → Held
+held rest lines table going = record { rest = rest; lines = lines; table = table; text = []; going = going }
 
 -- the next line, as far as it has to be known
 abbrev pub nextLine : List ℕ → List ℕ
@@ -32,10 +37,6 @@ taken rest = reach tooLong rest + cond (whole rest) 2 0
 unfoldable pub sure : Bool → ℕ → List ℕ → Bool
 sure ended lines rest = whole rest || (ltb tooLong (length rest) || (ended && (ltb 0 (length rest) || eqb lines 0)))
 
--- every answer fits into this many bytes
-abbrev pub room : ℕ
-room = 64
-
 -- the run goes on, there is room for an answer, and enough is known of the next line
 unfoldable pub ready : Bool → ℕ → Held → Bool
 ready ended space h = h .going && (leb (length (h .text) + room) space && sure ended (h .lines) (h .rest))
@@ -50,17 +51,17 @@ afterLine h t = record {
   going = t .goes;
 }
 
--- one turn: the next line where it is ready, else nothing
-unfoldable pub turn : Bool → ℕ → Held → Held
-turn ended space h = cond (ready ended space h) (afterLine h (onLine (h .lines) (h .table) (nextLine (h .rest)))) h
+-- one bite: the next line where it is ready, else nothing
+unfoldable pub bite : Bool → ℕ → Held → Held
+bite ended space h = cond (ready ended space h) (afterLine h (onLine (h .lines) (h .table) (nextLine (h .rest)))) h
 
 abbrev pub times : ℕ → (Held → Held) → Held → Held
 times zero f h = h
 times (suc n) f h = times n f (f h)
 
--- as many turns as can do anything: each takes a byte, or ends the run
+-- as many bites as can do anything: each takes a byte, or ends the run
 unfoldable pub eaten : Bool → ℕ → Held → Held
-eaten ended space h = times (suc (length (h .rest))) (turn ended space) h
+eaten ended space h = times (suc (length (h .rest))) (bite ended space) h
 
 -- what is still to be written of a run, where these bytes are to come
 unfoldable pub toCome : Held → List ℕ → List ℕ

@@ -5,11 +5,13 @@ use mathlib.Core.List.{List, [], _∷_, _++_}
 use lib.Dec.{eqb, ltb}
 use lib.ListN.{length, replicate}
 use Rattle.kinds.specs.Tests.{same}
-use Rattle.kinds.specs.Places.{setIn}
+use Rattle.kinds.specs.Codes.{allStates}
+use Rattle.kinds.specs.Places.{mostPairs, setIn}
 use Rattle.verdicts.specs.Verdicts.{finding}
 use Rattle.trace.specs.Events.{moved}
 use Rattle.text.specs.Text.{bytes}
 use Rattle.lines.specs.Lines.{linesOf}
+pub use Rattle.lines.specs.Seen.{longest}
 use Rattle.entries.specs.Entries.{entryOf}
 use Rattle.entries.specs.declared.Entry.{Entry}
 use Rattle.replies.specs.Replies.{headerLine, answerLine, refusedLine}
@@ -30,10 +32,6 @@ refuse number k table = told (refusedLine number (k + 1)) table false
 -- the first line
 unfoldable pub header : List ℕ
 header = bytes "pair,request,RetToSrc,DoNotGoToSD,excl,tag,response,TagOp,RespErr,forward,final"
-
--- a line has at most this many bytes before its CR LF
-abbrev pub longest : ℕ
-longest = 160
 
 -- a sheet has at most this many lines
 abbrev pub mostLines : ℕ
@@ -62,9 +60,9 @@ answers k table [] = cond (eqb k 0) (refusedLine 6 1) []
 answers k table (line ∷ others) =
     onLine k table line .text ++ cond (onLine k table line .goes) (answers (k + 1) (onLine k table line .table) others) []
 
--- 4,096 pairs, each from the set of all seven states
+-- every pair starts from the set of all seven states
 unfoldable pub startTable : List ℕ
-startTable = replicate 4096 127
+startTable = replicate mostPairs allStates
 
 -- THE WHOLE OUTPUT, for any input
 abbrev pub sheetOut : List ℕ → List ℕ

@@ -1,34 +1,52 @@
 // The bench sheet judged as it arrives, piece by piece.
 use entries::Entry;
+use kinds::ALL_STATES;
+use kinds::EventNumber;
 use kinds::Refusal;
-ghost use Prim.Native.Nat.{_+_, _≤_, _<_, _^_};
+use lines::LONGEST;
+use lines::TOO_LONG;
+use replies::ROOM;
+ghost use Prim.Native.Nat.{_+_, _≤_, _<_, _^_, min};
 ghost use mathlib.Core.Path.{_≡_};
 ghost use mathlib.Core.Bool.{cond, true};
 ghost use mathlib.Core.List.{[]};
-ghost use lib.ListN.{length};
+ghost use lib.ListN.{length, replicate};
+ghost use Rattle.kinds.specs.Codes.{allStates};
 ghost use Rattle.sheet.specs.Sheet.{refuse, onHeader, onEntry, onLine, mostLines};
-ghost use Rattle.sheet.specs.Eaten.{left, ate, movedDown, kept};
-ghost use Rattle.sheet.specs.Answered.{Answers, AnswersOn, Roomy, nextIn};
+ghost use Rattle.sheet.specs.Turns.{wanted, answered, begunWith, begun, leftWith, turned};
+ghost use Rattle.sheet.specs.Answered.{Answers, AnswersOn, Roomy, nextIn, left, ate, movedDown};
 
-// A line has at most this many bytes before its CR LF.
-const LONGEST: usize = 160;
-
-// A line that has this many bytes is too long, whatever follows.
-const TOO_LONG: usize = 161;
+// With this many bytes held, something is known of the next line whatever follows.
+const ENOUGH: usize = TOO_LONG + 1;
 
 // A sheet has at most this many lines.
 const MOST_LINES: u64 = 1_000_001;
 
-// Every answer fits into this many bytes.
-const ROOM: usize = 64;
+// What a run carries from turn to turn: how many bytes are held at the front of the piece, how many lines were taken so far, whether the
+// run goes on, and whether the input has ended.
+pub struct Carried {
+    pub held: usize,
+    pub lines: u32,
+    pub going: bool,
+    pub ended: bool,
+}
+
+// A turn's answer: what is carried on, how many bytes of the buffer are to be written now, whether a read is wanted before the next turn, and
+// whether the run is over.
+pub struct Turned {
+    pub carried: Carried,
+    pub put: usize,
+    pub wants: bool,
+    pub over: bool,
+}
 
 // What was done with a piece: how many of its bytes were taken, how many were put, how many lines were taken so far, and whether the run
 // goes on.
-pub struct Eaten {
-    pub taken: usize,
-    pub put: usize,
-    pub lines: u32,
-    pub going: bool,
+struct Eaten {
+    taken: usize,
+    put: usize,
+    lines: u32,
+    going: bool,
 }
 
 // A line answered: the place behind its answer, and whether the run goes on.
@@ -88,7 +106,8 @@ fn judge_entry(lines: u32, entry: Entry, table: &mut [u8], out: &mut [u8], at: u
     let found = verdicts::judge(&event, before);
     let after = found.after;
     pair.put_in(table, after);
-    let next = replies::put_answer(out, at, (lines - 1) as u64, found);
+    let k = lines - 1;
+    let next = replies::put_answer(out, at, EventNumber(k), found);
     Answered {
         at: next,
         goes: true,
@@ -146,7 +165,7 @@ fn counted(lines: u32, goes: bool) -> u32
 
 // A piece of a sheet judged line by line, as far as its lines are known and the buffer has room for their answers. So many lines were taken
 // before it, and `going` is false behind a refusal. Where `ended`, nothing follows the piece.
-pub fn eat(
+fn eat(
     piece: &[u8],
     ended: bool,
     lines: u32,
@@ -194,16 +213,96 @@ fn move_down(piece: &mut [u8], from: usize, count: usize)
     }
 }
 
-// What is held of a piece, from the place up to which it was taken to the end of what was read, kept for the next: moved to the front.
-// Nothing moves where there is no such part.
-pub fn keep(piece: &mut [u8], taken: usize, held: usize)
-    ensures { λ _. ⌜ now (piece .exit) ≡ kept (now (piece .entry)) taken held ⌝ }
+// Every pair's set is that of all states.
+fn fill(table: &mut [u8])
+    ensures { λ _. ⌜ now (table .exit) ≡ replicate (length (now (table .entry))) allStates ⌝ }
 {
-    if held < taken {
-        return;
+    let mut at: usize = 0;
+    while at < table.len() {
+        table[at] = ALL_STATES;
+        at += 1;
     }
-    if piece.len() < held {
-        return;
+}
+
+// Whether a read is wanted.
+fn wants_more(carried: Carried) -> bool
+    ensures { λ r. ⌜ r ≡ wanted carried ⌝ }
+{
+    !carried.ended & (carried.held < ENOUGH)
+}
+
+// How many bytes are held with those that arrived; no more than the piece has.
+fn held_with(held: usize, got: usize, len: usize) -> usize
+    ensures { λ r. ⌜ r ≡ min (held + got) len ⌝ }
+{
+    if len <= held {
+        return len;
     }
-    move_down(piece, taken, held - taken);
+    if len - held < got {
+        return len;
+    }
+    held + got
+}
+
+// The answer by which this is carried on, and so many bytes are to be written.
+fn answer(carried: Carried, put: usize) -> Turned
+    ensures { λ r. ⌜ r ≡ answered carried put ⌝ }
+{
+    let over = !carried.going | (carried.ended & ((carried.held == 0) & (0 < carried.lines)));
+    Turned {
+        carried,
+        put,
+        wants: wants_more(carried),
+        over,
+    }
+}
+
+// A run begins: every pair has the set of all states, the header's line is put, and nothing is read yet.
+pub fn begin(table: &mut [u8], out: &mut [u8]) -> Turned
+    ensures { λ r. ⌜ begunWith r (now (table .exit)) (now (out .exit)) ≡ begun (now (table .entry)) (now (out .entry)) ⌝ }
+{
+    fill(table);
+    let put = replies::put_header(out, 0);
+    let nothing = Carried {
+        held: 0,
+        lines: 0,
+        going: true,
+        ended: false,
+    };
+    answer(nothing, put)
+}
+
+// One turn of a run. So many bytes have arrived in the piece, behind those that are held. All of them are judged line by line, as far as it
+// is known where lines end and the buffer has room, and the rest is moved to the front of the piece.
+pub fn turn(
+    carried: Carried,
+    got: usize,
+    piece: &mut [u8],
+    table: &mut [u8],
+    out: &mut [u8],
+) -> Turned
+    ensures { λ r. ⌜ leftWith r (now (piece .exit)) (now (table .exit)) (now (out .exit))
+        ≡ turned carried got (now (piece .entry)) (now (table .entry)) (now (out .entry)) ⌝ }
+{
+    let wanted = wants_more(carried);
+    let ended = carried.ended | (wanted & (got == 0));
+    let held = held_with(carried.held, got, piece.len());
+    let ate = eat(
+        &piece[..held],
+        ended,
+        carried.lines,
+        carried.going,
+        table,
+        out,
+    );
+    let taken = ate.taken;
+    let rest = held - taken;
+    move_down(piece, taken, rest);
+    let next = Carried {
+        held: rest,
+        lines: ate.lines,
+        going: ate.going,
+        ended,
+    };
+    answer(next, ate.put)
 }

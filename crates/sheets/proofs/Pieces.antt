@@ -10,9 +10,9 @@ use lib.ListN.{length, take, drop, length-drop}
 use lib.Seq.{take-at, drop-drop}
 use Rattle.lines.specs.Lines.{linesOf}
 use Rattle.sheet.specs.Sheet.{onLine, answers}
-use Rattle.sheet.specs.Pieces.{Held, nextLine, taken, sure, room, ready, afterLine, turn, times, eaten, toCome, total}
+use Rattle.sheet.specs.Pieces.{Held, nextLine, taken, sure, room, ready, afterLine, bite, times, eaten, toCome, total}
 use Rattle.sheet.specs.Eaten.{held, ate}
-use Rattle.sheet.proofs.Turns.{eaten-keeps, eaten-stops, taken-within}
+use Rattle.sheet.proofs.Bites.{eaten-keeps, eaten-stops, taken-within}
 
 -- a part is what is left of a whole behind some bytes
 record Rest (whole part : List ℕ) : Type 0 where
@@ -27,17 +27,17 @@ rest-of-rest {a} {b} {c} x y = record {
   so = y .so ∙ ap (drop (y .cut)) (x .so) ∙ drop-drop (y .cut) (x .cut) a;
 }
 
-turn-rest : (ended : Bool) (space : ℕ) (h : Held) → Rest (h .rest) (turn ended space h .rest)
-unfolding turn
-turn-rest ended space h = go (ready ended space h)
+bite-rest : (ended : Bool) (space : ℕ) (h : Held) → Rest (h .rest) (bite ended space h .rest)
+unfolding bite
+bite-rest ended space h = go (ready ended space h)
   where
     go : (b : Bool) → Rest (h .rest) (cond b (afterLine h (onLine (h .lines) (h .table) (nextLine (h .rest)))) h .rest)
     go true = record { cut = taken (h .rest); inside = taken-within (h .rest); so = refl }
     go false = record { cut = 0; inside = omega arith; so = refl }
 
-times-rest : (n : ℕ) (ended : Bool) (space : ℕ) (h : Held) → Rest (h .rest) (times n (turn ended space) h .rest)
+times-rest : (n : ℕ) (ended : Bool) (space : ℕ) (h : Held) → Rest (h .rest) (times n (bite ended space) h .rest)
 times-rest zero ended space h = record { cut = 0; inside = omega arith; so = refl }
-times-rest (suc n) ended space h = rest-of-rest (turn-rest ended space h) (times-rest n ended space (turn ended space h))
+times-rest (suc n) ended space h = rest-of-rest (bite-rest ended space h) (times-rest n ended space (bite ended space h))
 
 eaten-rest : (ended : Bool) (space : ℕ) (h : Held) → Rest (h .rest) (eaten ended space h .rest)
 unfolding eaten

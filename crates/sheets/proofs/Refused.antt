@@ -16,7 +16,7 @@ use Rattle.trace.specs.Events.{run}
 use Rattle.entries.specs.Entries.{lineCodes, wellFormed, eventOf, highestPair, entry, refusedEntry, entryOf}
 use Rattle.replies.specs.Replies.{refusedLine}
 use Rattle.sheet.specs.Sheet.{Told, told, refuse, header, longest, mostLines, onHeader, onEntry, onLine, answers, startTable}
-use Rattle.sheet.proofs.Turns.{tooLongTold, long-told}
+use Rattle.sheet.proofs.Bites.{tooLongTold, long-told}
 use Rattle.sheets.specs.Good.{eventsOf, good, AllGood, answerLines}
 use Rattle.sheets.specs.Refused.{RefusedWith, not-header, too-many, too-long, ill-formed, high-pair, LineIs, is-header, is-good, is-refused, SheetSays, no-lines, no-header, all-answered, refused}
 use Rattle.sheets.proofs.Answers.{line-is-read, good-then-more, good-alone}

@@ -35,7 +35,7 @@ use Rattle.sheets.specs.Refused.{RefusedWith, LineIs, SheetSays}
 use Rattle.sheets.specs.Histories.{pairOn, ReachesIn, PassesTo, VerdictOn, DutyOn}
 use Rattle.sheets.specs.Calls.{callOf, spelled}
 -- their proofs
-use Rattle.sheet.proofs.Turns.{eaten-keeps, eaten-stops}
+use Rattle.sheet.proofs.Bites.{eaten-keeps, eaten-stops}
 use Rattle.sheet.proofs.Runs.{run-is-sheet, runs-agree, run-exists}
 use Rattle.sheets.proofs.Good.{no-fault, entry-no-fault}
 use Rattle.sheets.proofs.Answers.{good-accepted, good-then-more, good-alone, answer-behind}

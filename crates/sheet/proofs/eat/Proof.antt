@@ -7,7 +7,7 @@ use borrow.Author.Tests.{not-true, not-false}
 use denote.Ref.{now}
 use lib.ListN.{length}
 use Rattle.sheet.specs.declared.Next.{Next}
-use Rattle.sheet.specs.Eaten.{held}
+use Rattle.sheet.specs.Pieces.{held}
 use Rattle.sheet.proofs.Laws.{Eating, eating-start, ready-test, next-end, roomy-here, counts-on, eaten-all, eating-less, eating-next}
 use Rattle.sheet.proofs.eat.Statement.{statement}
 use Rattle.sheet.proofs.eat.Tie as tie

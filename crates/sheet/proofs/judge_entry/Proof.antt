@@ -27,11 +27,8 @@ judge-requires c κs = search needs
 put-in-requires : tie.Need-put-in-requires
 put-in-requires c κs = search needs
 
-sub-put-answer : tie.Need-sub-put-answer
-sub-put-answer c = search needs
-
-cast-put-answer : tie.Need-cast-put-answer
-cast-put-answer c = search needs
+sub-k : tie.Need-sub-k
+sub-k c = search needs
 
 put-answer-requires : tie.Need-put-answer-requires
 put-answer-requires c κs = search needs
@@ -56,8 +53,7 @@ judge-entry-spec =
     slice-aggregate-judge
     judge-requires
     put-in-requires
-    sub-put-answer
-    cast-put-answer
+    sub-k
     put-answer-requires
     same-length-2
     same-length-3

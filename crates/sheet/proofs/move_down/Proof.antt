@@ -1,30 +1,30 @@
 -- `sheet::move_down` meets its contract: the bytes so far stand at the front, and those behind where they stood. The measure is what is left to move.
 -- Assumes nothing.
-use mathlib.Core.Path.{refl}
 use Prim.Native.Nat.{_-_}
 use native.Mathlib.Omega.{arith}
 use denote.Ref.{now}
-use Rattle.sheet.proofs.Laws.{Moving, moving-start, moving-long, moving-next, moving-end}
+use lib.ListN.{drop}
+use Rattle.sheet.proofs.Laws.{Pasting, pasting-start, pasting-long, pasting-next, pasting-end, part-long, still}
 use Rattle.sheet.proofs.move_down.Statement.{statement}
 use Rattle.sheet.proofs.move_down.Tie as tie
 
 abbrev Inv-loop : tie.InvT-loop
-Inv-loop piece₀ from count at₀ piece at = Moving piece₀ from count piece at
+Inv-loop piece₀ from count at₀ piece at = Pasting (drop from piece₀) count piece₀ piece at
 
 abbrev μ-loop : tie.MeasureT-loop
 μ-loop piece₀ from count at₀ piece at = count - at
 
 loop-holds : tie.Need-loop-holds Inv-loop μ-loop
-loop-holds c = moving-start (now (c .args .piece)) (c .args .from) (c .args .count)
+loop-holds c = pasting-start (part-long (now (c .args .piece)) (c .args .from) (c .args .count) (c .pre)) (omega (arith, c .pre))
 
 add-piece : tie.Need-add-piece Inv-loop μ-loop
 add-piece c = omega (arith, c .before .before .pre, c .loop-test .taken, c .before .before .good .0 .1)
 
 slice-read-piece : tie.Need-slice-read-piece Inv-loop μ-loop
-slice-read-piece c = omega (arith, c .before .before .before .pre, c .before .loop-test .taken, moving-long (c .before .before .before .pre) (c .before .before .loop .inv))
+slice-read-piece c = omega (arith, c .before .before .before .pre, c .before .loop-test .taken, pasting-long (c .before .before .loop .inv))
 
 slice-write-piece : tie.Need-slice-write-piece Inv-loop μ-loop
-slice-write-piece c = omega (arith, c .before .before .before .pre, c .before .loop-test .taken, moving-long (c .before .before .before .pre) (c .before .before .loop .inv))
+slice-write-piece c = omega (arith, c .before .before .before .pre, c .before .loop-test .taken, pasting-long (c .before .before .loop .inv))
 
 add-at : tie.Need-add-at Inv-loop μ-loop
 add-at c = omega (arith, c .before .loop-test .taken)
@@ -33,13 +33,13 @@ loop-less : tie.Need-loop-less Inv-loop μ-loop
 loop-less c = omega (arith, c .before .loop-test .taken)
 
 loop-again : tie.Need-loop-again Inv-loop μ-loop
-loop-again c = moving-next _ (c .before .before .before .pre) (c .before .before .loop .inv) (c .before .loop-test .taken) refl
+loop-again c = pasting-next (c .before .before .loop .inv) (c .before .loop-test .taken) (still (c .before .before .before .args .from) (c .before .before .before .pre) (c .before .before .loop .inv))
 
 same-length : tie.Need-same-length Inv-loop μ-loop
-same-length c = moving-long (c .before .before .pre) (c .before .loop .inv)
+same-length c = pasting-long (c .before .loop .inv)
 
 returns : tie.Need-returns Inv-loop μ-loop
-returns c = moving-end (c .before .loop .inv) (c .loop-test .left)
+returns c = pasting-end (c .before .loop .inv) (c .loop-test .left)
 
 pub move-down-spec : {M : Type 1} → statement M
 move-down-spec =

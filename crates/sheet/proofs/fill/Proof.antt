@@ -1,0 +1,53 @@
+-- `sheet::fill` meets its contract: the sets so far are put, and those behind stand as they stood. The measure is what is left to put.
+-- Assumes nothing.
+use mathlib.Core.Path.{sym, _∙_}
+use Prim.Native.Nat.{_-_}
+use native.Mathlib.Nat.{le-refl, le-of-eq}
+use native.Mathlib.Omega.{arith}
+use denote.Ref.{now}
+use lib.ListN.{length, replicate, length-replicate, getD-replicate}
+use Rattle.kinds.specs.Codes.{allStates}
+use Rattle.sheet.proofs.Laws.{Pasting, pasting-start, pasting-long, pasting-next, pasting-end, filled}
+use Rattle.sheet.proofs.fill.Statement.{statement}
+use Rattle.sheet.proofs.fill.Tie as tie
+
+abbrev Inv-loop : tie.InvT-loop
+Inv-loop table₀ at₀ table at = Pasting (replicate (length table₀) allStates) (length table₀) table₀ table at
+
+abbrev μ-loop : tie.MeasureT-loop
+μ-loop table₀ at₀ table at = length table₀ - at
+
+loop-holds : tie.Need-loop-holds Inv-loop μ-loop
+loop-holds c = pasting-start (le-of-eq (sym (length-replicate (length (now (c .args .table))) allStates))) (le-refl _)
+
+slice-write-table : tie.Need-slice-write-table Inv-loop μ-loop
+slice-write-table c = c .loop-test .taken
+
+add-at : tie.Need-add-at Inv-loop μ-loop
+add-at c = omega (arith, c .loop-test .taken)
+
+loop-less : tie.Need-loop-less Inv-loop μ-loop
+loop-less c = omega (arith, c .loop-test .taken, pasting-long (c .before .loop .inv))
+
+loop-again : tie.Need-loop-again Inv-loop μ-loop
+loop-again c = pasting-next (c .before .loop .inv) (omega (arith, c .loop-test .taken, pasting-long (c .before .loop .inv))) (sym (getD-replicate (length (now (c .before .before .args .table))) (c .before .loop .at) allStates 0 (omega (arith, c .loop-test .taken, pasting-long (c .before .loop .inv)))))
+
+same-length : tie.Need-same-length Inv-loop μ-loop
+same-length c = pasting-long (c .before .loop .inv)
+
+returns : tie.Need-returns Inv-loop μ-loop
+returns c = pasting-end (c .before .loop .inv) (omega (arith, c .loop-test .left, pasting-long (c .before .loop .inv))) ∙ filled (now (c .before .before .args .table))
+
+pub fill-spec : {M : Type 1} → statement M
+fill-spec =
+    tie.close
+    (tie.spec
+    Inv-loop
+    μ-loop
+    loop-holds
+    slice-write-table
+    add-at
+    loop-less
+    loop-again
+    same-length
+    returns)
