@@ -31,7 +31,7 @@ use Rattle.sheet.specs.declared.Carried.{Carried}
 use Rattle.sheet.specs.declared.Turned.{Turned}
 use Rattle.sheet.specs.Sheet.{Told, told, refuse, header, longest, mostLines, onHeader, onEntry, onLine}
 use Rattle.sheet.specs.Pieces.{Held, held, nextLine, taken, whole, sure, ready, bite, eaten}
-use Rattle.sheet.specs.Turns.{wanted, answered, endedBy, nothingYet, Begun, begunWith, begun, inFront, carriedOf, leftWith, leftBy, turned}
+use Rattle.sheet.specs.Turns.{wanted, answerWith, endedBy, nothingYet, Begun, begunWith, begun, inFront, carriedOf, leftWith, leftBy, turned}
 use Rattle.sheet.specs.Turns as turns
 use Rattle.sheet.specs.Answered.{Answers, AnswersOn, Roomy, nextIn, Left, left, leftOf, ate, movedDown}
 use Rattle.sheet.proofs.Bites.{is-ready, size, eaten-bite, eaten-stuck, bite-ready, bite-less, taken-within, Rest, rest-short, eaten-rest, taken-off}
@@ -430,11 +430,11 @@ filled table =
 
 -- a run begun, as the contract says it
 pub begun-is : (table out : List ℕ) {table′ out′ : List ℕ} {put : ℕ} {r : Turned} → table′ ≡ replicate (length table) allStates → laid put out′ ≡ lay (laid 0 out) headerLine
-    → r ≡ answered nothingYet put → begunWith r table′ out′ ≡ begun table out
+    → r ≡ answerWith nothingYet put → begunWith r table′ out′ ≡ begun table out
 unfolding begun
 begun-is table out {table′} {out′} {put} {r} filled-so l a =
-    ap₂ (λ (x : Turned) (y : List ℕ). begunWith x y out′) (a ∙ ap (λ (k : Laid). answered nothingYet (k .at)) l) filled-so
-    ∙ ap (λ (k : Laid). begunWith (answered nothingYet (lay (laid 0 out) headerLine .at)) (replicate (length table) allStates) (k .out)) l
+    ap₂ (λ (x : Turned) (y : List ℕ). begunWith x y out′) (a ∙ ap (λ (k : Laid). answerWith nothingYet (k .at)) l) filled-so
+    ∙ ap (λ (k : Laid). begunWith (answerWith nothingYet (lay (laid 0 out) headerLine .at)) (replicate (length table) allStates) (k .out)) l
 
 -- as many bytes as the piece has are all of it
 all-held : (n : ℕ) (piece : List ℕ) → take (min n (length piece)) piece ≡ take n piece
@@ -510,15 +510,15 @@ module _ (c : Carried) (got : ℕ) (piece table out : List ℕ) {table′ out′
       (ap (λ m. take m piece) is-held ∙ all-held (c .held + got) piece)
 
   pub turn-is : {piece′ : List ℕ} {r : Turned} → piece′ ≡ movedDown piece (e .taken) (n - e .taken)
-      → r ≡ answered (record { held = n - e .taken; lines = e .lines; going = e .going; ended = ended }) (e .put)
+      → r ≡ answerWith (record { held = n - e .taken; lines = e .lines; going = e .going; ended = ended }) (e .put)
       → leftWith r piece′ table′ out′ ≡ turned c got piece table out
   unfolding ate
   turn-is p a =
       ap₂ (λ (x : Turned) (s : List ℕ). leftWith x s table′ out′)
-      (a ∙ ap (λ m. answered (record { held = m; lines = e .lines; going = e .going; ended = ended }) (e .put)) kept-long
-      ∙ ap (λ (x : Left). answered (record { held = length (h .rest); lines = x .answer .lines; going = x .answer .going; ended = ended }) (x .answer .put)) is-eaten)
+      (a ∙ ap (λ m. answerWith (record { held = m; lines = e .lines; going = e .going; ended = ended }) (e .put)) kept-long
+      ∙ ap (λ (x : Left). answerWith (record { held = length (h .rest); lines = x .answer .lines; going = x .answer .going; ended = ended }) (x .answer .put)) is-eaten)
       (p ∙ ap (λ m. movedDown piece m (n - m)) is-taken ∙ rest-moved piece (h .rest) n within is-rest)
-      ∙ ap (λ (x : Left). leftWith (answered (carriedOf ended h) (length (h .text))) (inFront (h .rest) piece) (x .table) (x .out)) is-eaten
+      ∙ ap (λ (x : Left). leftWith (answerWith (carriedOf ended h) (length (h .text))) (inFront (h .rest) piece) (x .table) (x .out)) is-eaten
       ∙ all-of
 
 -- no more is held than the piece has, and no more is to be written than the buffer has

@@ -7,7 +7,7 @@ use Prim.Native.Nat.{ℕ, _+_, _≤_, _<_}
 use native.Mathlib.Nat.{le-of-eq}
 use native.Mathlib.Omega.{arith}
 use borrow.Author.Tests.{eqb-true, ltb-true}
-use lib.Dec.{eqb, ltb}
+use lib.Dec.{eqb, leb, ltb}
 use lib.ListN.{length, take, drop, replicate, length-append}
 use lib.Seq.{take-at}
 use Rattle.kinds.specs.Codes.{allStates}
@@ -19,12 +19,16 @@ use Rattle.replies.proofs.Laws.{header-laid}
 use Rattle.sheet.specs.declared.Carried.{Carried}
 use Rattle.sheet.specs.declared.Turned.{Turned}
 use Rattle.sheet.specs.Sheet.{startTable, sheetOut}
-use Rattle.sheet.specs.Pieces.{Held, held, eaten}
+use Rattle.sheet.specs.Pieces.{Held, held, sure, ready, eaten}
 use Rattle.sheet.specs.Runs.{emptied, withPiece, Run, reads, eats, refused, done, start}
 use Rattle.sheet.specs.Runs as runs
-use Rattle.sheet.specs.Turns.{wanted, isOver, answered, Begun, begunWith, begun, Left, leftWith, inFront, endedBy, carriedOf, leftBy, turned, Turns, ends, goes}
-use Rattle.sheet.proofs.Bites.{nothing}
+use Rattle.sheet.specs.Turns.{wanted, isOver, answerWith, Begun, begunWith, begun, Left, leftWith, inFront, endedBy, carriedOf, leftBy, turned, Turns, ends, goes}
+use Rattle.sheet.proofs.Bites.{nothing, eaten-stops}
 use Rattle.sheet.proofs.Runs.{run-is-sheet}
+
+-- what is put in front of a buffer is found there
+in-front : (s buffer : List ℕ) → take (length s) (inFront s buffer) ≡ s
+in-front s buffer = take-at s (drop (length s) buffer) (length s) refl
 
 -- ONE TURN by what is held before it: the bytes that arrived are read, and all that is held is eaten into the buffer.
 pub turn-eats : (ended : Bool) (h : Held) (arrived piece out : List ℕ) → take (length (h .rest) + length arrived) piece ≡ h .rest ++ arrived
@@ -47,6 +51,17 @@ turn-runs {h} {input} {out} ended space arrived f r = reads arrived (go ended f 
     go true g x =
         subst (λ (s : List ℕ). Run (withPiece h arrived) s (eaten true space (emptied (withPiece h arrived)) .text ++ out)) (sym (g refl))
         (runs.ends space (subst (λ (s : List ℕ). Run (eaten true space (emptied (withPiece h arrived))) s out) (g refl) x))
+
+-- IT GOES AS FAR AS IT CAN: behind a turn a refusal has ended the run, or the buffer has no room for a line, or too little is known of the next.
+pub turn-stops : (c : Carried) (got : ℕ) (piece table out : List ℕ)
+    → let r = turned c got piece table out in
+    let next = r .answer .carried in
+    next .going && (leb (r .answer .put + room) (length out) && sure (next .ended) (next .lines) (take (next .held) (r .piece))) ≡ false
+unfolding turned ready
+turn-stops c got piece table out =
+    let h = eaten (endedBy c got) (length out) (held (take (c .held + got) piece) (c .lines) table (c .going)) in
+    ap (λ (s : List ℕ). h .going && (leb (length (h .text) + room) (length out) && sure (endedBy c got) (h .lines) s)) (in-front (h .rest) piece)
+    ∙ eaten-stops (endedBy c got) (length out) (held (take (c .held + got) piece) (c .lines) table (c .going))
 
 -- where the run is over, nothing is to come
 over-runs : (ended : Bool) (h : Held) (input : List ℕ) → (ended ≡ true → input ≡ []) → isOver (carriedOf ended h) ≡ true → Run h input []
@@ -71,10 +86,6 @@ none-left ended h arrived input f g e = go ended refl e
         g (and-left _ (eqb (length arrived) 0) k)
         (nothing arrived (le-of-eq (eqb-true (length arrived) 0 (and-right (wanted (carriedOf ended h)) _ k))))
 
--- what is put in front of a buffer is found there
-in-front : (s buffer : List ℕ) → take (length s) (inFront s buffer) ≡ s
-in-front s buffer = take-at s (drop (length s) buffer) (length s) refl
-
 -- what the last call put, and then what a run writes
 record Then (put : List ℕ) (h : Held) (input written : List ℕ) : Type 0 where
   out : List ℕ
@@ -92,7 +103,7 @@ one-more put h ended space arrived f e x = record {
 }
 
 turns-run : {a : Turned} {piece table out input written : List ℕ} → Turns a piece table out input written → (ended : Bool) (h : Held) (put : ℕ)
-    → a ≡ answered (carriedOf ended h) put → take (length (h .rest)) piece ≡ h .rest → table ≡ h .table → (ended ≡ true → input ≡ [])
+    → a ≡ answerWith (carriedOf ended h) put → take (length (h .rest)) piece ≡ h .rest → table ≡ h .table → (ended ≡ true → input ≡ [])
     → Then (take (a .put) out) h input written
 turns-run (ends {a = a} {out = out} {input = input} q) ended h put e front t f = record {
   out = [];
@@ -116,10 +127,10 @@ turns-run (goes {a = a} {piece = piece} {table = table} {out = out} {input = inp
 
 -- with room for a line and a table of as many pairs as a sheet has, the program begins with the header's line and the start of a run
 pub begun-start : (table out : List ℕ) → length table ≡ mostPairs → room ≤ length out
-    → begun table out ≡ begunWith (answered (carriedOf false start) (length headerLine)) startTable (inFront headerLine out)
+    → begun table out ≡ begunWith (answerWith (carriedOf false start) (length headerLine)) startTable (inFront headerLine out)
 unfolding begun startTable headerLine
 begun-start table out long roomy =
-    ap₂ (λ (n : ℕ) (l : Laid). begunWith (answered (carriedOf false start) (l .at)) (replicate n allStates) (l .out)) long (header-laid 0 out (omega (arith, roomy)))
+    ap₂ (λ (n : ℕ) (l : Laid). begunWith (answerWith (carriedOf false start) (l .at)) (replicate n allStates) (l .out)) long (header-laid 0 out (omega (arith, roomy)))
 
 -- THE PROGRAM WRITES THE SHEET: from what `begin` leaves, with any input, however it arrives, turns to the end write the sheet's whole output.
 pub turns-write : (piece table out : List ℕ) {input written : List ℕ} → length table ≡ mostPairs → room ≤ length out
@@ -127,7 +138,7 @@ pub turns-write : (piece table out : List ℕ) {input written : List ℕ} → le
 turns-write piece table out {input} {written} long roomy t =
     x .so ∙ ap (λ (s : List ℕ). s ++ x .out) is-header ∙ run-is-sheet (x .run)
   where
-    b : begun table out ≡ begunWith (answered (carriedOf false start) (length headerLine)) startTable (inFront headerLine out)
+    b : begun table out ≡ begunWith (answerWith (carriedOf false start) (length headerLine)) startTable (inFront headerLine out)
     b = begun-start table out long roomy
 
     x : Then (take (begun table out .answer .put) (begun table out .out)) start input written

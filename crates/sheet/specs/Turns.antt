@@ -26,8 +26,8 @@ abbrev pub isOver : Carried → Bool
 isOver c = not (c .going) || (c .ended && (eqb (c .held) 0 && ltb 0 (c .lines)))
 
 -- the answer by which this is carried on, and so many bytes are to be written
-abbrev pub answered : Carried → ℕ → Turned
-answered c put = record { carried = c; put = put; wants = wanted c; over = isOver c }
+abbrev pub answerWith : Carried → ℕ → Turned
+answerWith c put = record { carried = c; put = put; wants = wanted c; over = isOver c }
 
 -- what `begin` leaves: its answer, and the two buffers that are lent
 pub record Begun : Type 0 where
@@ -45,7 +45,7 @@ nothingYet = record { held = 0; lines = 0; going = true; ended = false }
 -- THE WHOLE ANSWER OF `begin`: every pair has the set of all seven states, and the header's line is put
 unfoldable pub begun : List ℕ → List ℕ → Begun
 begun table out =
-    begunWith (answered nothingYet (lay (laid 0 out) headerLine .at)) (replicate (length table) allStates) (lay (laid 0 out) headerLine .out)
+    begunWith (answerWith nothingYet (lay (laid 0 out) headerLine .at)) (replicate (length table) allStates) (lay (laid 0 out) headerLine .out)
 
 -- what `turn` leaves: its answer, and the three buffers that are lent
 pub record Left : Type 0 where
@@ -71,7 +71,7 @@ carriedOf ended h = record { held = length (h .rest); lines = h .lines; going = 
 
 -- what is left where these bytes are held and this text is put
 abbrev pub leftBy : Bool → List ℕ → List ℕ → Held → Left
-leftBy ended piece out h = leftWith (answered (carriedOf ended h) (length (h .text))) (inFront (h .rest) piece) (h .table) (inFront (h .text) out)
+leftBy ended piece out h = leftWith (answerWith (carriedOf ended h) (length (h .text))) (inFront (h .rest) piece) (h .table) (inFront (h .text) out)
 
 -- THE WHOLE ANSWER OF `turn`, where so many bytes more stand in the piece behind those that are held: all of them are eaten into the buffer
 unfoldable pub turned : Carried → ℕ → List ℕ → List ℕ → List ℕ → Left

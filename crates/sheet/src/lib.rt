@@ -13,7 +13,7 @@ ghost use mathlib.Core.List.{[]};
 ghost use lib.ListN.{length, replicate};
 ghost use Rattle.kinds.specs.Codes.{allStates};
 ghost use Rattle.sheet.specs.Sheet.{refuse, onHeader, onEntry, onLine, mostLines};
-ghost use Rattle.sheet.specs.Turns.{wanted, answered, begunWith, begun, leftWith, turned};
+ghost use Rattle.sheet.specs.Turns.{wanted, answerWith, begunWith, begun, leftWith, turned};
 ghost use Rattle.sheet.specs.Answered.{Answers, AnswersOn, Roomy, nextIn, left, ate, movedDown};
 
 // With this many bytes held, something is known of the next line whatever follows.
@@ -246,7 +246,7 @@ fn held_with(held: usize, got: usize, len: usize) -> usize
 
 // The answer by which this is carried on, and so many bytes are to be written.
 fn answer(carried: Carried, put: usize) -> Turned
-    ensures { λ r. ⌜ r ≡ answered carried put ⌝ }
+    ensures { λ r. ⌜ r ≡ answerWith carried put ⌝ }
 {
     let over = !carried.going | (carried.ended & ((carried.held == 0) & (0 < carried.lines)));
     Turned {

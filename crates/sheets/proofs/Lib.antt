@@ -4,5 +4,4 @@ pub mod Named
 pub mod Reached
 pub mod Refused
 pub mod Calls
-pub mod Pieces
 pub mod SheetTheorems

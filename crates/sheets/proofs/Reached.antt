@@ -12,8 +12,8 @@ use lib.Dec.{eqb, ltb}
 use lib.ListN.{length, length-replicate, getD-replicate}
 use lib.Seq.{getD-set-same}
 use Rattle.kinds.specs.Tests.{_∈?_}
-use Rattle.kinds.specs.Codes.{states}
-use Rattle.kinds.specs.Places.{setIn}
+use Rattle.kinds.specs.Codes.{states, allStates}
+use Rattle.kinds.specs.Places.{mostPairs, setIn}
 use Rattle.kinds.proofs.Lists.{each-state, any-found, all-at}
 use Rattle.sets.specs.Sets.{bit}
 use Rattle.sets.proofs.Laws.{bit-state, Held, held-some, some-held}
@@ -30,43 +30,39 @@ use Rattle.sheets.specs.Histories.{HistoryOn, SomeHistoryOn, pairOn, Pas
 use Rattle.sheets.proofs.Good.{entry-pair-in}
 use Rattle.sheets.proofs.Answers.{good-accepted, events-append}
 
--- the set of all seven states
-abbrev full : ℕ
-full = 127
-
-full-holds : (s : ℕ) → s ∈? states ≡ true → bit full s ≡ true
+all-hold : (s : ℕ) → s ∈? states ≡ true → bit allStates s ≡ true
 unfolding bit
-full-holds s h =
+all-hold s h =
     let f = any-found (eqb s) states h in
     let one-below : f .one < 7 = ltb-true (f .one) 7 (all-at (λ n. ltb n 7) refl (f .inside)) in
-    each-state (λ n. bit full n ≡ true) refl refl refl refl refl refl refl s (omega (arith, one-below, eqb-true s (f .one) (f .passes)))
+    each-state (λ n. bit allStates n ≡ true) refl refl refl refl refl refl refl s (omega (arith, one-below, eqb-true s (f .one) (f .passes)))
 
-full-states : (s : ℕ) → bit full s ≡ true → s ∈? states ≡ true
-full-states s h = each-state (λ n. n ∈? states ≡ true) refl refl refl refl refl refl refl s (bit-state full s (omega arith) h)
+all-states : (s : ℕ) → bit allStates s ≡ true → s ∈? states ≡ true
+all-states s h = each-state (λ n. n ∈? states ≡ true) refl refl refl refl refl refl refl s (bit-state allStates s (omega arith) h)
 
 -- every pair starts from it
-pub start-length : length startTable ≡ 4096
+pub start-length : length startTable ≡ mostPairs
 unfolding startTable
-start-length = length-replicate 4096 full
+start-length = length-replicate mostPairs allStates
 
-pub start-set : (p : ℕ) → p < 4096 → setIn startTable p ≡ full
+pub start-set : (p : ℕ) → p < mostPairs → setIn startTable p ≡ allStates
 unfolding startTable
-start-set p h = getD-replicate 4096 p full 0 h
+start-set p h = getD-replicate mostPairs p allStates 0 h
 
 -- the set of a pair after lines
 abbrev setAfterLines : List (List ℕ) → ℕ → ℕ
 setAfterLines lines p = setIn (run startTable (eventsOf lines)) p
 
-set-walked : (lines : List (List ℕ)) (p : ℕ) → p < 4096 → setAfterLines lines p ≡ walk full (own p (eventsOf lines))
+set-walked : (lines : List (List ℕ)) (p : ℕ) → p < mostPairs → setAfterLines lines p ≡ walk allStates (own p (eventsOf lines))
 set-walked lines p h =
     run-own startTable (eventsOf lines) p (subst (λ n. p < n) (sym start-length) h)
     ∙ ap (λ (m : ℕ). walk m (own p (eventsOf lines))) (start-set p h)
 
-set-small : (lines : List (List ℕ)) (p : ℕ) → p < 4096 → setAfterLines lines p < 128
-set-small lines p h = subst (λ m. m < 128) (sym (set-walked lines p h)) (walk-below full (own p (eventsOf lines)) (omega arith))
+set-small : (lines : List (List ℕ)) (p : ℕ) → p < mostPairs → setAfterLines lines p < 128
+set-small lines p h = subst (λ m. m < 128) (sym (set-walked lines p h)) (walk-below allStates (own p (eventsOf lines)) (omega arith))
 
 -- A SET AND THE HISTORIES, both ways
-pub set-exact : (lines : List (List ℕ)) (p : ℕ) → p < 4096 → (s : ℕ) → bit (setIn (run startTable (eventsOf lines)) p) s ≡ true ↔ HistoryOn p lines s
+pub set-exact : (lines : List (List ℕ)) (p : ℕ) → p < mostPairs → (s : ℕ) → bit (setIn (run startTable (eventsOf lines)) p) s ≡ true ↔ HistoryOn p lines s
 set-exact lines p h s = (to, from)
   where
     es : List (List ℕ)
@@ -74,23 +70,23 @@ set-exact lines p h s = (to, from)
 
     to : bit (setAfterLines lines p) s ≡ true → HistoryOn p lines s
     to b =
-        let x = ends full es s (subst (λ m. bit m s ≡ true) (set-walked lines p h) b) in
-        record { from = x .from; is-state = full-states (x .from) (x .in-start); way = x .way }
+        let x = ends allStates es s (subst (λ m. bit m s ≡ true) (set-walked lines p h) b) in
+        record { from = x .from; is-state = all-states (x .from) (x .in-start); way = x .way }
 
     from : HistoryOn p lines s → bit (setAfterLines lines p) s ≡ true
     from x =
         subst (λ m. bit m s ≡ true) (sym (set-walked lines p h))
-        (ends-in full es s (record { from = x .from; in-start = full-holds (x .from) (x .is-state); way = x .way }))
+        (ends-in allStates es s (record { from = x .from; in-start = all-hold (x .from) (x .is-state); way = x .way }))
 
-held-on : (lines : List (List ℕ)) (p : ℕ) → p < 4096 → Held (setAfterLines lines p) → SomeHistoryOn p lines
+held-on : (lines : List (List ℕ)) (p : ℕ) → p < mostPairs → Held (setAfterLines lines p) → SomeHistoryOn p lines
 held-on lines p h x = record { end = x .state; history = set-exact lines p h (x .state) .0 (x .inside) }
 
-on-held : {lines : List (List ℕ)} {p : ℕ} → p < 4096 → SomeHistoryOn p lines → Held (setAfterLines lines p)
+on-held : {lines : List (List ℕ)} {p : ℕ} → p < mostPairs → SomeHistoryOn p lines → Held (setAfterLines lines p)
 on-held {lines} {p} h x = record { state = x .end; inside = set-exact lines p h (x .end) .1 (x .history) }
 
 -- A LINE THAT IS ANSWERED, BEHIND OTHERS.
 module _ (before : List (List ℕ)) (line : List ℕ) (g : good line ≡ true) where
-  pub pair-inside : pairOn line < 4096
+  pub pair-inside : pairOn line < mostPairs
   pair-inside = entry-pair-in line (good-accepted line g)
 
   -- its pair's set before it

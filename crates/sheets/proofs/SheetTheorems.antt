@@ -1,5 +1,6 @@
 -- The theorems about the bench sheet. Whoever believes the checker reads this file, the definitions that it names, and the `ensures` of
--- `sheet::eat`, which says that whatever is lent, the answer and the buffers afterwards are `ate` of it. `sheetOut input` is the whole output.
+-- `sheet::begin` and `sheet::turn`, which say that whatever is lent, the answer and the buffers afterwards are `begun` and `turned` of it.
+-- `sheetOut input` is the whole output.
 -- Assumes nothing.
 use mathlib.Core.Path.{_≡_, refl, sym, _∙_, ap, subst}
 use mathlib.Core.Logic.{_↔_}
@@ -11,7 +12,7 @@ use lib.Dec.{leb}
 use lib.ListN.{length, take, drop}
 -- the definitions that the theorems name
 use Rattle.kinds.specs.Tests.{all}
-use Rattle.kinds.specs.Places.{setIn}
+use Rattle.kinds.specs.Places.{mostPairs, mostEvents, setIn}
 use Rattle.sets.specs.Sets.{setOf, bit}
 use Rattle.rows.specs.Rows.{rows}
 use Rattle.rows.specs.Permitted.{asked, answered, tagged, permitted}
@@ -24,11 +25,12 @@ use Rattle.trace.specs.Judged.{judged}
 use Rattle.lines.specs.Lines.{linesOf}
 use Rattle.names.specs.Names.{codeOf, requestNames, flagNames, tagNames, responses, responseNames, answers as namedAnswers, answerBytes, tagOpNames, respErrNames, forwardNames, finalNames, isPair, decimal as readDecimal, pairOf, columns}
 use Rattle.entries.specs.Entries.{lineCodes, wellFormed, eventOf, entryOf}
-use Rattle.replies.specs.Replies.{decimal, verdictText, dutyText, statesText, headerLine, answerLine, refusedLine}
+use Rattle.replies.specs.Replies.{room, decimal, verdictText, dutyText, statesText, headerLine, answerLine, refusedLine}
 use Rattle.sheet.specs.Sheet.{refuse, header, mostLines, onLine, answers, startTable, sheetOut}
-use Rattle.sheet.specs.Pieces.{Held, sure, room, ready, eaten, toCome, total}
-use Rattle.sheet.specs.Eaten.{held, ate}
-use Rattle.sheet.specs.Runs.{Run, SomeRun, start}
+use Rattle.sheet.specs.declared.Carried.{Carried}
+use Rattle.sheet.specs.Pieces.{Held, sure, ready, eaten, total}
+use Rattle.sheet.specs.Runs.{emptied, withPiece, Run, SomeRun, start}
+use Rattle.sheet.specs.Turns.{answerWith, begunWith, begun, inFront, endedBy, carriedOf, leftBy, turned, Turns}
 use Rattle.sheets.specs.Pages.{exampleIn, exampleOut, cases, asSaid}
 use Rattle.sheets.specs.Good.{eventOn, eventsOf, good, AllGood, foundBehind, answerLines, names}
 use Rattle.sheets.specs.Refused.{RefusedWith, LineIs, SheetSays}
@@ -37,12 +39,12 @@ use Rattle.sheets.specs.Calls.{callOf, spelled}
 -- their proofs
 use Rattle.sheet.proofs.Bites.{eaten-keeps, eaten-stops}
 use Rattle.sheet.proofs.Runs.{run-is-sheet, runs-agree, run-exists}
+use Rattle.sheet.proofs.Turns.{turn-eats, turn-runs, turn-stops, begun-start, turns-write}
 use Rattle.sheets.proofs.Good.{no-fault, entry-no-fault}
 use Rattle.sheets.proofs.Answers.{good-accepted, good-then-more, good-alone, answer-behind}
 use Rattle.sheets.proofs.Named.{named}
 use Rattle.sheets.proofs.Reached.{pair-inside, set-exact, shown-exact, verdict-given, gives-verdict, duty-given, duty-none}
 use Rattle.sheets.proofs.Refused.{refused-told, line-is, one-number, header-passes, said-answers, some-said}
-use Rattle.sheets.proofs.Pieces.{call-tied, call-stops}
 use Rattle.sheets.proofs.Calls.{judged-so, spelled-so}
 
 -- THE PAGE'S EXAMPLE: the whole input gives the whole output, byte for byte.
@@ -92,18 +94,34 @@ piece-tied = eaten-keeps
 pub piece-progress : (ended : Bool) (space : ℕ) (h : Held) → ready ended space (eaten ended space h) ≡ false
 piece-progress = eaten-stops
 
--- The same of a call of `eat`, by what it leaves: the bytes that it put, and then what is still to come of the rest of the piece, are what was
--- to come of the piece; and then the run has ended, or there is no room for an answer, or nothing is sure of the next line.
-pub eat-tied : (ended : Bool) (piece : List ℕ) (lines : ℕ) (going : Bool) (table out more : List ℕ) → (ended ≡ true → more ≡ [])
-    → let r = ate ended piece lines going table out in
-    take (r .answer .put) (r .out) ++ toCome (held (drop (r .answer .taken) piece) (r .answer .lines) (r .table) (r .answer .going)) more
-    ≡ toCome (held piece lines table going) more
-eat-tied = call-tied
+-- THE PROGRAM: from what `begin` leaves of a table of as many pairs as a sheet has and a buffer with room for a line, with any input, however it
+-- arrives, the turns to the end write the sheet's whole output, its header first.
+pub program-writes-sheet : (piece table out : List ℕ) {input written : List ℕ} → length table ≡ mostPairs → room ≤ length out
+    → Turns (begun table out .answer) piece (begun table out .table) (begun table out .out) input written → written ≡ sheetOut input
+program-writes-sheet = turns-write
 
-pub eat-stops : (ended : Bool) (piece : List ℕ) (lines : ℕ) (going : Bool) (table out : List ℕ)
-    → let r = ate ended piece lines going table out in
-    r .answer .going && (leb (r .answer .put + room) (length out) && sure ended (r .answer .lines) (drop (r .answer .taken) piece)) ≡ false
-eat-stops = call-stops
+-- It begins at the start of a run, with the header's line put.
+pub begins-at-start : (table out : List ℕ) → length table ≡ mostPairs → room ≤ length out
+    → begun table out ≡ begunWith (answerWith (carriedOf false start) (length headerLine)) startTable (inFront headerLine out)
+begins-at-start = begun-start
+
+-- A turn is one step of a run: the bytes that arrived are read, and what is held is eaten into the buffer, which is written out.
+pub turn-is-eaten : (ended : Bool) (h : Held) (arrived piece out : List ℕ) → take (length (h .rest) + length arrived) piece ≡ h .rest ++ arrived
+    → let now-ended = endedBy (carriedOf ended h) (length arrived) in
+    turned (carriedOf ended h) (length arrived) piece (h .table) out ≡ leftBy now-ended piece out (eaten now-ended (length out) (emptied (withPiece h arrived)))
+turn-is-eaten = turn-eats
+
+pub turn-is-step : {h : Held} {input out : List ℕ} (ended : Bool) (space : ℕ) (arrived : List ℕ) → (ended ≡ true → input ≡ [])
+    → Run (eaten ended space (emptied (withPiece h arrived))) input out
+    → Run h (arrived ++ input) (eaten ended space (emptied (withPiece h arrived)) .text ++ out)
+turn-is-step = turn-runs
+
+-- It goes as far as it can: behind it a refusal has ended the run, or the buffer has no room for a line, or too little is known of the next.
+pub turn-progress : (c : Carried) (got : ℕ) (piece table out : List ℕ)
+    → let r = turned c got piece table out in
+    let next = r .answer .carried in
+    next .going && (leb (r .answer .put + room) (length out) && sure (next .ended) (next .lines) (take (next .held) (r .piece))) ≡ false
+turn-progress = turn-stops
 
 -- ONE OUTCOME: every public function of the sheet and of what it stands on claims that its outcome is the value of one definition, so any
 -- two outcomes that a claim allows are equal.
@@ -114,11 +132,11 @@ one-value p q = p ∙ sym q
 pub well-formed-no-fault : (line : List ℕ) → wellFormed line ≡ true → fault issueE (eventOf (lineCodes line)) ≡ 0
 well-formed-no-fault = no-fault
 
--- So what the sheet answers, the trace call accepts: no fault, and a pair of the table of 4,096.
+-- So what the sheet answers, the trace call accepts: no fault, and a pair of the table.
 pub good-no-fault : (line : List ℕ) → good line ≡ true → fault issueE (eventOn line .bytes) ≡ 0
 good-no-fault line g = entry-no-fault line (good-accepted line g)
 
-pub good-pair : (line : List ℕ) → good line ≡ true → pairOn line < 4096
+pub good-pair : (line : List ℕ) → good line ≡ true → pairOn line < mostPairs
 good-pair line g = pair-inside [] line g
 
 -- GOOD LINES ARE A TRACE: their answers are those to its events, one after another, and lines behind them start from the table that it leaves.
@@ -147,7 +165,7 @@ own-answer input before line more e g h q =
 
 -- THE SHEET AND THE TRACE CALL AGREE: up to 4,096 good lines, lent as one trace, are accepted, and the sheet is what comes back, spelled.
 pub sheet-spells-trace : (input : List ℕ) (lines : List (List ℕ)) (verdicts duties afters : List ℕ) → linesOf input ≡ header ∷ lines → AllGood 1 lines
-    → length lines ≤ 4096 → length verdicts ≡ length lines → length duties ≡ length lines → length afters ≡ length lines
+    → length lines ≤ mostEvents → length verdicts ≡ length lines → length duties ≡ length lines → length afters ≡ length lines
     → let r = judged issueE (callOf lines verdicts duties afters) in
     (r .outcome .refusal .0 ≡ 0) × (sheetOut input ≡ headerLine ++ spelled 0 (r .verdicts) (r .duties) (r .afters))
 sheet-spells-trace input lines verdicts duties afters e g few v d a =
