@@ -217,10 +217,10 @@ fn move_down(piece: &mut [u8], from: usize, count: usize)
 fn fill(table: &mut [u8])
     ensures { λ _. ⌜ now (table .exit) ≡ replicate (length (now (table .entry))) allStates ⌝ }
 {
-    let mut at: usize = 0;
-    while at < table.len() {
-        table[at] = ALL_STATES;
-        at += 1;
+    let mut pair: usize = 0;
+    while pair < table.len() {
+        table[pair] = ALL_STATES;
+        pair += 1;
     }
 }
 

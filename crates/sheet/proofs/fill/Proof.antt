@@ -12,10 +12,10 @@ use Rattle.sheet.proofs.fill.Statement.{statement}
 use Rattle.sheet.proofs.fill.Tie as tie
 
 abbrev Inv-loop : tie.InvT-loop
-Inv-loop table₀ at₀ table at = Pasting (replicate (length table₀) allStates) (length table₀) table₀ table at
+Inv-loop table₀ pair₀ table pair = Pasting (replicate (length table₀) allStates) (length table₀) table₀ table pair
 
 abbrev μ-loop : tie.MeasureT-loop
-μ-loop table₀ at₀ table at = length table₀ - at
+μ-loop table₀ pair₀ table pair = length table₀ - pair
 
 loop-holds : tie.Need-loop-holds Inv-loop μ-loop
 loop-holds c = pasting-start (le-of-eq (sym (length-replicate (length (now (c .args .table))) allStates))) (le-refl _)
@@ -23,14 +23,14 @@ loop-holds c = pasting-start (le-of-eq (sym (length-replicate (length (now (c .a
 slice-write-table : tie.Need-slice-write-table Inv-loop μ-loop
 slice-write-table c = c .loop-test .taken
 
-add-at : tie.Need-add-at Inv-loop μ-loop
-add-at c = omega (arith, c .loop-test .taken)
+add-pair : tie.Need-add-pair Inv-loop μ-loop
+add-pair c = omega (arith, c .loop-test .taken)
 
 loop-less : tie.Need-loop-less Inv-loop μ-loop
 loop-less c = omega (arith, c .loop-test .taken, pasting-long (c .before .loop .inv))
 
 loop-again : tie.Need-loop-again Inv-loop μ-loop
-loop-again c = pasting-next (c .before .loop .inv) (omega (arith, c .loop-test .taken, pasting-long (c .before .loop .inv))) (sym (getD-replicate (length (now (c .before .before .args .table))) (c .before .loop .at) allStates 0 (omega (arith, c .loop-test .taken, pasting-long (c .before .loop .inv)))))
+loop-again c = pasting-next (c .before .loop .inv) (omega (arith, c .loop-test .taken, pasting-long (c .before .loop .inv))) (sym (getD-replicate (length (now (c .before .before .args .table))) (c .before .loop .pair) allStates 0 (omega (arith, c .loop-test .taken, pasting-long (c .before .loop .inv)))))
 
 same-length : tie.Need-same-length Inv-loop μ-loop
 same-length c = pasting-long (c .before .loop .inv)
@@ -46,7 +46,7 @@ fill-spec =
     μ-loop
     loop-holds
     slice-write-table
-    add-at
+    add-pair
     loop-less
     loop-again
     same-length
