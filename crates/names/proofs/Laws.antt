@@ -2,21 +2,19 @@
 -- Assumes nothing.
 use mathlib.Core.Path.{_≡_, refl, sym, _∙_, ap, ap₂}
 use mathlib.Core.Bool.{Bool, true, false, cond, not, _&&_, true≢false, false≢true}
-use mathlib.Core.List.{List, [], _∷_, map}
-use Prim.Native.Nat.{ℕ, zero, suc, _+_, _-_, _*_, _/_, _%_, _^_, _<_, _≤_}
+use mathlib.Core.List.{List, [], _∷_}
+use Prim.Native.Nat.{ℕ, zero, suc, _+_, _-_, _*_, _^_, _<_, _≤_}
 use native.Mathlib.Numerals.{add-one}
-use native.Mathlib.Nat.{pow-suc}
+use native.Mathlib.Nat.{pow-suc, pow-le-pow-right}
 use native.Mathlib.Omega.{arith}
 use borrow.Author.Tests.{ltb-true, leb-true, not-true, not-false}
 use lib.Dec.{eqb, leb, ltb}
-use lib.ListN.{length, getD, take, drop, drop-of-length-le, List·getD-eq-default, List·getD-map}
+use lib.ListN.{length, getD, drop, drop-of-length-le, List·getD-eq-default}
 use lib.Seq.{drop-cons}
 use Rattle.kinds.specs.Tests.{same, all}
-use Rattle.kinds.specs.declared.Answer.{Answer}
-use Rattle.kinds.specs.Answers.{wire}
+use Rattle.kinds.specs.Answers.{SnpResp-I}
 use Rattle.kinds.proofs.Lists.{and-left, and-right}
-use Rattle.names.specs.Names.{Named, unknown, codeOf, isDigit, leadingZero, isPair, decimal, pairOf, flagNames, responses, answers, answerBytes, columns, inColumn}
-use Rattle.names.specs.Words.{answerWords}
+use Rattle.names.specs.Names.{Named, unknown, codeOf, mostDigits, isDigit, leadingZero, isPair, decimal, pairOf, responses, answers, answerAt, columns, inColumn}
 
 and-false : (b : Bool) {a : Bool} → a ≡ false → b && a ≡ false
 and-false true h = h
@@ -117,13 +115,14 @@ digit-low d h = leb-true 48 d (and-left (leb 48 d) (leb d 57) (not-false (isDigi
 pub digit-high : (d : ℕ) → not (isDigit d) ≡ false → d ≤ 57
 digit-high d h = leb-true d 57 (and-right (leb 48 d) (leb d 57) (not-false (isDigit d) h))
 
--- three digits are below 1,000
-pub few-digits : (i m v : ℕ) → i < m → m ≤ 4 → v < 10 ^ i → v < 1000
-few-digits zero m v h k l = omega arith
-few-digits (suc zero) m v h k l = omega arith
-few-digits (suc (suc zero)) m v h k l = omega arith
-few-digits (suc (suc (suc zero))) m v h k l = omega arith
-few-digits (suc (suc (suc (suc i)))) m v h k l = absurd (omega arith)
+-- before the last digit, the number is below the highest power of 10 that has as many
+pub few-digits : (i m v : ℕ) → i < m → m ≤ mostDigits → v < 10 ^ i → v < 10 ^ (mostDigits - 1)
+few-digits i m v h k l =
+    let le : 10 ^ i ≤ 10 ^ (mostDigits - 1) = pow-le-pow-right (omega arith) before-last in
+    omega arith
+  where
+    before-last : i ≤ mostDigits - 1
+    before-last = omega (arith, h, k)
 
 one-more : (p v d : ℕ) → v < p → d ≤ 57 → v * 10 + (d - 48) < p * 10
 one-more p v d h k = omega arith
@@ -163,66 +162,48 @@ good-shape a true false z h k = absurd (true≢false h)
 good-shape a false c z h k = absurd (true≢false h)
 
 module _ (f : List ℕ) where
-  pub pair-length : not (ltb 0 (length f) && leb (length f) 4) ≡ true → unknown ≡ pairOf f
+  pub pair-length : not (ltb 0 (length f) && leb (length f) mostDigits) ≡ true → unknown ≡ pairOf f
   unfolding pairOf isPair
   pair-length h =
-      sym (ap (λ (b : Bool). cond b (decimal 0 f) unknown) (no-length (all isDigit f) (ltb 0 (length f)) (leb (length f) 4) (leadingZero f) h))
+      sym (ap (λ (b : Bool). cond b (decimal 0 f) unknown) (no-length (all isDigit f) (ltb 0 (length f)) (leb (length f) mostDigits) (leadingZero f) h))
 
   pub pair-zero : leadingZero f ≡ true → unknown ≡ pairOf f
   unfolding pairOf isPair
   pair-zero h =
-      sym (ap (λ (b : Bool). cond b (decimal 0 f) unknown) (and-false (all isDigit f && ltb 0 (length f) && leb (length f) 4) (ap not h)))
+      sym (ap (λ (b : Bool). cond b (decimal 0 f) unknown) (and-false (all isDigit f && ltb 0 (length f) && leb (length f) mostDigits) (ap not h)))
 
-  pub pair-digits : {x : ℕ} → not (ltb 0 (length f) && leb (length f) 4) ≡ false → leadingZero f ≡ false
+  pub pair-digits : {x : ℕ} → not (ltb 0 (length f) && leb (length f) mostDigits) ≡ false → leadingZero f ≡ false
       → x ≡ cond (all isDigit f) (decimal 0 f) unknown → x ≡ pairOf f
   unfolding pairOf isPair
   pair-digits h k l =
       l
-      ∙ sym (ap (λ (b : Bool). cond b (decimal 0 f) unknown) (good-shape (all isDigit f) (ltb 0 (length f)) (leb (length f) 4) (leadingZero f) h k))
+      ∙ sym (ap (λ (b : Bool). cond b (decimal 0 f) unknown) (good-shape (all isDigit f) (ltb 0 (length f)) (leb (length f) mostDigits) (leadingZero f) h k))
 
-  pub some-byte : not (ltb 0 (length f) && leb (length f) 4) ≡ false → 0 < length f
-  some-byte h = ltb-true 0 (length f) (and-left (ltb 0 (length f)) (leb (length f) 4) (not-false (ltb 0 (length f) && leb (length f) 4) h))
+  pub some-byte : not (ltb 0 (length f) && leb (length f) mostDigits) ≡ false → 0 < length f
+  some-byte h = ltb-true 0 (length f) (and-left (ltb 0 (length f)) (leb (length f) mostDigits) (not-false (ltb 0 (length f) && leb (length f) mostDigits) h))
 
-  pub four-bytes : not (ltb 0 (length f) && leb (length f) 4) ≡ false → length f ≤ 4
-  four-bytes h = leb-true (length f) 4 (and-right (ltb 0 (length f)) (leb (length f) 4) (not-false (ltb 0 (length f) && leb (length f) 4) h))
+  pub few-bytes : not (ltb 0 (length f) && leb (length f) mostDigits) ≡ false → length f ≤ mostDigits
+  few-bytes h = leb-true (length f) mostDigits (and-right (ltb 0 (length f)) (leb (length f) mostDigits) (not-false (ltb 0 (length f) && leb (length f) mostDigits) h))
 
 -- the column by its number
 module _ (n : ℕ) (f : List ℕ) {x : ℕ} where
   pub in-column : (k : ℕ) → n ≡ k → x ≡ inColumn k f → x ≡ inColumn n f
   in-column k h p = p ∙ ap (λ (i : ℕ). inColumn i f) (sym h)
 
--- the columns 2, 3 and 4 are flags
-pub flag-column : (n : ℕ) (f : List ℕ) {x : ℕ} → (n ≡ 0 → ⊥) → (n ≡ 1 → ⊥) → n < 5 → x ≡ codeOf flagNames f → x ≡ inColumn n f
-unfolding inColumn columns
-flag-column zero f h k l p = absurd (h refl)
-flag-column (suc zero) f h k l p = absurd (k refl)
-flag-column (suc (suc zero)) f h k l p = p
-flag-column (suc (suc (suc zero))) f h k l p = p
-flag-column (suc (suc (suc (suc zero)))) f h k l p = p
-flag-column (suc (suc (suc (suc (suc n))))) f h k l p = absurd (omega arith)
+-- the number is none of the first so many: what the last arm of a match knows
+abbrev pub none : ℕ → ℕ → Type 0
+none n zero = Unit
+none n (suc k) = none n k × (n ≡ k → ⊥)
+
+-- so it is past them
+none-past : (k n : ℕ) → none n k → k ≤ n
+none-past zero n h = omega arith
+none-past (suc k) n h = omega (arith, none-past k n (h .0), h .1)
 
 -- past the last column
-pub past-columns : (n : ℕ) (f : List ℕ) → 11 ≤ n → unknown ≡ inColumn n f
+pub past-columns : (n : ℕ) (f : List ℕ) → none n (length columns) → unknown ≡ inColumn n f
 unfolding inColumn columns
-past-columns n f h = sym (ap (λ (g : List ℕ → ℕ). g f) (List·getD-eq-default columns (λ (field : List ℕ). unknown) h))
+past-columns n f h = sym (ap (λ (g : List ℕ → ℕ). g f) (List·getD-eq-default columns (λ (field : List ℕ). unknown) (none-past (length columns) n h)))
 
--- the four bytes of a word, the channel's lowest
-bytesOf : ℕ → List ℕ
-bytesOf w = w % 256 ∷ w / 2 ^ 8 % 256 ∷ w / 2 ^ 16 % 256 ∷ w / 2 ^ 24 % 256 ∷ []
-
--- every word has the bytes of its answer
-each-word : map bytesOf answerWords ≡ map (λ (a : Answer). take 4 (wire a)) answers
-unfolding bytesOf answerWords answers responses
-each-word = refl
-
-pub word-bytes : (w place : ℕ) → w ≡ getD answerWords place 0
-    → _≡_ {A = List ℕ} (w % 256 ∷ w / 2 ^ 8 % 256 ∷ w / 2 ^ 16 % 256 ∷ w / 2 ^ 24 % 256 ∷ []) (answerBytes place)
-unfolding bytesOf answerBytes
-word-bytes w place h =
-    ap bytesOf h
-    ∙ sym (List·getD-map bytesOf answerWords place 0)
-    ∙ ap (λ (l : List (List ℕ)). getD l place (0 ∷ 0 ∷ 0 ∷ 0 ∷ [])) each-word
-
-pub past-words : (place : ℕ) → 22 ≤ place → 0 ≡ getD answerWords place 0
-unfolding answerWords answers responses
-past-words place h = sym (List·getD-eq-default answerWords 0 h)
+pub past-answers : (n : ℕ) → none n (length answers) → SnpResp-I ≡ answerAt n
+past-answers n h = sym (List·getD-eq-default answers SnpResp-I (none-past (length answers) n h))

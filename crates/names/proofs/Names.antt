@@ -10,13 +10,11 @@ use native.Mathlib.Nat.{pow-suc, le-trans, lt-of-lt-of-le, mul-le-mul-right, mul
 use native.Mathlib.Omega.{arith}
 use borrow.Author.Tests.{eqb-true, eqb-false, eq-eqb, ltb-true, ltb-false, lt-ltb, leb-true, not-true}
 use lib.Dec.{eqb, ltb, leb}
-use lib.ListN.{length, getD, take}
+use lib.ListN.{length}
 use Rattle.text.specs.Text.{bytes}
 use Rattle.kinds.specs.Tests.{same, all}
-use Rattle.kinds.specs.declared.Answer.{Answer}
-use Rattle.kinds.specs.Answers.{wire}
 use Rattle.kinds.proofs.Lists.{In, here, there, and-left, and-right, and-both, all-at}
-use Rattle.names.specs.Names.{Named, unknown, codeOf, requestNames, flagNames, tagNames, responses, responseNames, answers, answerBytes, tagOpNames, respErrNames, forwardNames, finalNames, isDigit, leadingZero, isPair, decimal, pairOf, columns, inColumn}
+use Rattle.names.specs.Names.{Named, unknown, codeOf, requestNames, flagNames, tagNames, responses, responseNames, tagOpNames, respErrNames, forwardNames, finalNames, mostDigits, isDigit, leadingZero, isPair, decimal, pairOf, columns}
 
 -- the test on two lists is their equality
 pub same-equal : (f n : List ℕ) → same f n ≡ true → f ≡ n
@@ -195,53 +193,46 @@ unfolding isPair
 all-digits f h =
     let a = all isDigit f in
     let b = a && ltb 0 (length f) in
-    let c = b && leb (length f) 4 in
-    and-left a (ltb 0 (length f)) (and-left b (leb (length f) 4) (and-left c (not (leadingZero f)) h))
+    let c = b && leb (length f) mostDigits in
+    and-left a (ltb 0 (length f)) (and-left b (leb (length f) mostDigits) (and-left c (not (leadingZero f)) h))
 
-four-long : (f : List ℕ) → isPair f ≡ true → length f ≤ 4
+not-long : (f : List ℕ) → isPair f ≡ true → length f ≤ mostDigits
 unfolding isPair
-four-long f h =
+not-long f h =
     let b = all isDigit f && ltb 0 (length f) in
-    let c = b && leb (length f) 4 in
-    leb-true (length f) 4 (and-right b (leb (length f) 4) (and-left c (not (leadingZero f)) h))
+    let c = b && leb (length f) mostDigits in
+    leb-true (length f) mostDigits (and-right b (leb (length f) mostDigits) (and-left c (not (leadingZero f)) h))
 
 some-digit : (f : List ℕ) → isPair f ≡ true → 0 < length f
 unfolding isPair
 some-digit f h =
     let a = all isDigit f in
     let b = a && ltb 0 (length f) in
-    let c = b && leb (length f) 4 in
-    ltb-true 0 (length f) (and-right a (ltb 0 (length f)) (and-left b (leb (length f) 4) (and-left c (not (leadingZero f)) h)))
+    let c = b && leb (length f) mostDigits in
+    ltb-true 0 (length f) (and-right a (ltb 0 (length f)) (and-left b (leb (length f) mostDigits) (and-left c (not (leadingZero f)) h)))
 
 not-zero : (d : ℕ) (ds : List ℕ) → isPair (d ∷ ds) ≡ true → 1 < length (d ∷ ds) → d ≡ 48 → ⊥
 unfolding isPair
 not-zero d ds h l e =
-    let c = all isDigit (d ∷ ds) && ltb 0 (length (d ∷ ds)) && leb (length (d ∷ ds)) 4 in
+    let c = all isDigit (d ∷ ds) && ltb 0 (length (d ∷ ds)) && leb (length (d ∷ ds)) mostDigits in
     true≢false
     (sym (and-both (eq-eqb d 48 e) (lt-ltb 1 (length (d ∷ ds)) l))
     ∙ not-true (leadingZero (d ∷ ds)) (and-right c (not (leadingZero (d ∷ ds))) h))
 
--- what every entry passes, and what stands past the last, an entry looked up passes
-getD-all {ℓ} : {A : Type ℓ} (p : A → Bool) (l : List A) (d : A) → all p l ≡ true → p d ≡ true → (i : ℕ) → p (getD l i d) ≡ true
-getD-all p [] d h k i = k
-getD-all p (x ∷ xs) d h k zero = and-left (p x) (all p xs) h
-getD-all p (x ∷ xs) d h k (suc i) = getD-all p xs d (and-right (p x) (all p xs) h) k i
+-- a pair's number is below this, for it has at most so many digits
+abbrev pub pairLimit : ℕ
+pairLimit = 10 ^ mostDigits
 
--- the four bytes of each answer
-entries : List (List ℕ)
-entries = map (λ (a : Answer). take 4 (wire a)) answers
-
--- a pair's number has at most four digits
-few-digits : (f : List ℕ) → isPair f ≡ true → decimal 0 f < 10000
+few-digits : (f : List ℕ) → isPair f ≡ true → decimal 0 f < pairLimit
 few-digits f h =
-    let le : 10 ^ length f ≤ 10 ^ 4 = pow-le-pow-right (omega arith) (four-long f h) in
+    let le : 10 ^ length f ≤ pairLimit = pow-le-pow-right (omega arith) (not-long f h) in
     omega (arith, le, decimal-below 0 f (all-digits f h))
 
-pub pair-below : (f : List ℕ) → (pairOf f ≡ unknown) ⊎ (pairOf f < 10000)
+pub pair-below : (f : List ℕ) → (pairOf f ≡ unknown) ⊎ (pairOf f < pairLimit)
 unfolding pairOf
 pair-below f = go (isPair f) refl
   where
-    go : (b : Bool) → isPair f ≡ b → (cond b (decimal 0 f) unknown ≡ unknown) ⊎ (cond b (decimal 0 f) unknown < 10000)
+    go : (b : Bool) → isPair f ≡ b → (cond b (decimal 0 f) unknown ≡ unknown) ⊎ (cond b (decimal 0 f) unknown < pairLimit)
     go false h = inl refl
     go true h = inr (few-digits f h)
 
@@ -321,23 +312,33 @@ pair-unknown f = (to (isPair f) refl, λ h. ap (λ (b : Bool). cond b (decimal 0
 
 -- below which number the codes of each column lie
 abbrev pub limits : List ℕ
-limits = 10000 ∷ 256 ∷ 2 ∷ 2 ∷ 2 ∷ 4 ∷ 22 ∷ 4 ∷ 4 ∷ 8 ∷ 8 ∷ []
+limits = pairLimit ∷ 256 ∷ 2 ∷ 2 ∷ 2 ∷ 4 ∷ 22 ∷ 4 ∷ 4 ∷ 8 ∷ 8 ∷ []
 
--- a field's code is unknown, or below its column's limit
-pub column-below : (number : ℕ) (f : List ℕ) → (inColumn number f ≡ unknown) ⊎ (inColumn number f < getD limits number 0)
-unfolding inColumn columns requestNames flagNames tagNames responses responseNames tagOpNames respErrNames forwardNames finalNames
-column-below zero f = pair-below f
-column-below (suc zero) f = codes-below requestNames 256 refl f
-column-below (suc (suc zero)) f = codes-below flagNames 2 refl f
-column-below (suc (suc (suc zero))) f = codes-below flagNames 2 refl f
-column-below (suc (suc (suc (suc zero)))) f = codes-below flagNames 2 refl f
-column-below (suc (suc (suc (suc (suc zero))))) f = codes-below tagNames 4 refl f
-column-below (suc (suc (suc (suc (suc (suc zero)))))) f = codes-below responseNames 22 refl f
-column-below (suc (suc (suc (suc (suc (suc (suc zero))))))) f = codes-below tagOpNames 4 refl f
-column-below (suc (suc (suc (suc (suc (suc (suc (suc zero)))))))) f = codes-below respErrNames 4 refl f
-column-below (suc (suc (suc (suc (suc (suc (suc (suc (suc zero))))))))) f = codes-below forwardNames 8 refl f
-column-below (suc (suc (suc (suc (suc (suc (suc (suc (suc (suc zero)))))))))) f = codes-below finalNames 8 refl f
-column-below (suc (suc (suc (suc (suc (suc (suc (suc (suc (suc (suc n))))))))))) f = inl refl
+-- a field's code in a column is unknown, or below a limit
+abbrev pub Limited : (List ℕ → ℕ) → ℕ → Type 0
+Limited column limit = (f : List ℕ) → (column f ≡ unknown) ⊎ (column f < limit)
+
+-- each column has its limit
+pub data AllLimited : List (List ℕ → ℕ) → List ℕ → Type 0 where
+  none-more : AllLimited [] []
+  one-more : {column : List ℕ → ℕ} {others : List (List ℕ → ℕ)} {limit : ℕ} {more : List ℕ} → Limited column limit → AllLimited others more
+      → AllLimited (column ∷ others) (limit ∷ more)
+
+pub columns-limited : AllLimited columns limits
+unfolding columns requestNames flagNames tagNames responses responseNames tagOpNames respErrNames forwardNames finalNames
+columns-limited =
+    one-more pair-below
+    (one-more (codes-below requestNames 256 refl)
+    (one-more (codes-below flagNames 2 refl)
+    (one-more (codes-below flagNames 2 refl)
+    (one-more (codes-below flagNames 2 refl)
+    (one-more (codes-below tagNames 4 refl)
+    (one-more (codes-below responseNames 22 refl)
+    (one-more (codes-below tagOpNames 4 refl)
+    (one-more (codes-below respErrNames 4 refl)
+    (one-more (codes-below forwardNames 8 refl)
+    (one-more (codes-below finalNames 8 refl)
+    none-more))))))))))
 
 -- pairs that are good, and some that are not: the limits of the field one by one
 pub some-pairs :
@@ -345,15 +346,3 @@ pub some-pairs :
     ≡ 0 ∷ 9 ∷ 10 ∷ 4095 ∷ 9999 ∷ unknown ∷ unknown ∷ unknown ∷ unknown ∷ unknown ∷ unknown ∷ unknown ∷ unknown ∷ []
 unfolding pairOf isPair decimal
 some-pairs = refl
-
--- four bytes an answer
-pub answer-length : (place : ℕ) → length (answerBytes place) ≡ 4
-unfolding entries answerBytes answers responses
-answer-length place = eqb-true (length (answerBytes place)) 4 (getD-all (λ (l : List ℕ). eqb (length l) 4) entries (0 ∷ 0 ∷ 0 ∷ 0 ∷ []) refl refl place)
-
--- they keep the ranges of event bytes 5 to 8: channel, opcode, Resp, FwdState
-pub answer-in-range : (place : ℕ) → ltb (getD (answerBytes place) 0 0) 2 && ltb (getD (answerBytes place) 1 0) 32
-    && ltb (getD (answerBytes place) 2 0) 8 && ltb (getD (answerBytes place) 3 0) 8 ≡ true
-unfolding entries answerBytes answers responses
-answer-in-range place =
-    getD-all (λ (l : List ℕ). ltb (getD l 0 0) 2 && ltb (getD l 1 0) 32 && ltb (getD l 2 0) 8 && ltb (getD l 3 0) 8) entries (0 ∷ 0 ∷ 0 ∷ 0 ∷ []) refl refl place

@@ -4,12 +4,14 @@ use Prim.Native.String.{String}
 use mathlib.Core.Bool.{Bool, cond, not, _&&_}
 use mathlib.Core.List.{List, [], _∷_, map}
 use lib.Dec.{eqb, ltb, leb}
-use lib.ListN.{length, getD, take}
+use lib.ListN.{length, getD}
 use Rattle.text.specs.Text.{bytes}
 use Rattle.kinds.specs.Tests.{same, all}
 use Rattle.kinds.specs.Codes.{SnpShared, SnpClean, SnpNotSharedDirty, SnpCleanFwd, SnpNotSharedDirtyFwd, SnpPreferUnique, SnpPreferUniqueFwd, tagInvalid, tagClean, tagDirty, tagNotSeen, opInvalid, opTransfer, opUpdate, opMatch, OK, EXOK, DERR, NDERR, Fwd-SC, Fwd-UC, Fwd-UD-PD, Fwd-SD-PD, I, UC, UCE, UD, UDP, SC, SD, stateNotSeen}
+use Rattle.kinds.specs.declared.Forward.{Forward}
+use Rattle.kinds.specs.declared.Forward.the-variants.{NoForward, CompData}
 use Rattle.kinds.specs.declared.Answer.{Answer}
-use Rattle.kinds.specs.Answers.{wire, SnpResp-I, SnpResp-SC, SnpRespData-I, SnpRespData-SC, SnpRespData-SD, SnpRespData-I-PD, SnpRespData-SC-PD, SnpRespDataPtl-I-PD, SnpResp-I-Fwded-SC, SnpResp-SC-Fwded-SC, SnpResp-SD-Fwded-SC, SnpResp-I-Fwded-SD-PD, SnpResp-SC-Fwded-SD-PD, SnpResp-I-Fwded-UC, SnpResp-I-Fwded-UD-PD, SnpRespData-I-Fwded-SC, SnpRespData-SC-Fwded-SC, SnpRespData-SD-Fwded-SC, SnpRespData-I-Fwded-SD-PD, SnpRespData-SC-Fwded-SD-PD, SnpRespData-I-PD-Fwded-SC, SnpRespData-SC-PD-Fwded-SC}
+use Rattle.kinds.specs.Answers.{SnpResp-I, SnpResp-SC, SnpRespData-I, SnpRespData-SC, SnpRespData-SD, SnpRespData-I-PD, SnpRespData-SC-PD, SnpRespDataPtl-I-PD, SnpResp-I-Fwded-SC, SnpResp-SC-Fwded-SC, SnpResp-SD-Fwded-SC, SnpResp-I-Fwded-SD-PD, SnpResp-SC-Fwded-SD-PD, SnpResp-I-Fwded-UC, SnpResp-I-Fwded-UD-PD, SnpRespData-I-Fwded-SC, SnpRespData-SC-Fwded-SC, SnpRespData-SD-Fwded-SC, SnpRespData-I-Fwded-SD-PD, SnpRespData-SC-Fwded-SD-PD, SnpRespData-I-PD-Fwded-SC, SnpRespData-SC-PD-Fwded-SC}
 
 -- a name, and the code it stands for
 pub record Named : Type 0 where
@@ -20,9 +22,9 @@ pub record Named : Type 0 where
 abbrev pub named : String → ℕ → Named
 named text code = record { name = bytes text; code = code }
 
--- in place of a code: the column doesn't know the field
+-- in place of a code: the column doesn't know the field; no code is as high
 abbrev pub unknown : ℕ
-unknown = 65535
+unknown = 4294967295
 
 -- the code of the name that the field is, or unknown
 unfoldable pub codeOf : List Named → List ℕ → ℕ
@@ -99,9 +101,9 @@ responseNames = numbered 0 responses
 unfoldable pub answers : List Answer
 answers = map (λ (r : Response). r .answer) responses
 
--- channel, opcode, Resp and FwdState of the answer at a place, event bytes 5 to 8; four zeros past the last
-unfoldable pub answerBytes : ℕ → List ℕ
-answerBytes place = getD (map (λ (a : Answer). take 4 (wire a)) answers) place (0 ∷ 0 ∷ 0 ∷ 0 ∷ [])
+-- the answer that a response is, by its code; past the last, the first
+abbrev pub answerAt : ℕ → Answer
+answerAt place = getD answers place SnpResp-I
 
 -- TagOp
 unfoldable pub tagOpNames : List Named
@@ -120,6 +122,10 @@ forwardNames =
     named "CompData_UD_PD" Fwd-UD-PD ∷
     named "CompData_SD_PD" Fwd-SD-PD ∷
     []
+
+-- what is forwarded, by its FwdState: nothing at 0
+abbrev pub forwardAt : ℕ → Forward
+forwardAt state = cond (eqb state 0) NoForward (CompData (record { 0 = state }))
 
 -- the states after, and ? for one that was not seen
 unfoldable pub finalNames : List Named
@@ -151,9 +157,13 @@ isDigit b = leb zeroDigit b && leb b nineDigit
 abbrev pub leadingZero : List ℕ → Bool
 leadingZero field = eqb (getD field 0 0) zeroDigit && ltb 1 (length field)
 
+-- it has at most this many digits
+abbrev pub mostDigits : ℕ
+mostDigits = 4
+
 -- 1 to 4 digits without a leading zero
 unfoldable pub isPair : List ℕ → Bool
-isPair field = all isDigit field && ltb 0 (length field) && leb (length field) 4 && not (leadingZero field)
+isPair field = all isDigit field && ltb 0 (length field) && leb (length field) mostDigits && not (leadingZero field)
 
 -- the number that digits are, read on from v
 unfoldable pub decimal : ℕ → List ℕ → ℕ

@@ -1,23 +1,29 @@
 // The fields of the bench sheet by their names: from the bytes of one field to its code, exactly.
+use kinds::Answer;
+use kinds::Forward;
 use kinds::FwdState;
 use kinds::LineState;
 use kinds::Request;
+use kinds::Resp;
 use kinds::RespErr;
 use kinds::TagOp;
 use kinds::TagState;
 ghost use mathlib.Core.Path.{_≡_};
 ghost use mathlib.Core.Bool.{cond};
 ghost use Prim.Native.Nat.{_≤_};
-ghost use lib.ListN.{length, getD};
+ghost use lib.ListN.{length};
 ghost use Rattle.kinds.specs.Tests.{same, all};
 ghost use Rattle.names.specs.Names.{codeOf, requestNames, flagNames, tagNames, responseNames, tagOpNames, respErrNames};
-ghost use Rattle.names.specs.Names.{forwardNames, finalNames, unknown, isDigit, decimal, pairOf, answerBytes, inColumn};
-ghost use Rattle.names.specs.Words.{answerWords};
+ghost use Rattle.names.specs.Names.{forwardNames, finalNames, unknown, mostDigits, isDigit, decimal, pairOf, inColumn};
+ghost use Rattle.names.specs.Names.{answerAt, forwardAt};
 
-mod answers;
+pub mod columns;
 
-// In place of a code: the column doesn't know the field.
-pub const UNKNOWN: u16 = 65535;
+// In place of a code: the column doesn't know the field. No code is as high.
+pub const UNKNOWN: u32 = 4294967295;
+
+// A pair's number has at most this many digits.
+const MOST_DIGITS: usize = 4;
 
 // The digits are the bytes from this one
 const ZERO: u8 = 48;
@@ -44,14 +50,14 @@ pub fn is(field: &[u8], name: &[u8]) -> bool
 }
 
 // The name's code if the field is the name, else the other: what the names after it in the column made of the field.
-fn known(field: &[u8], name: &[u8], code: u8, other: u16) -> u16
+fn known(field: &[u8], name: &[u8], code: u8, other: u32) -> u32
     ensures { λ r. ⌜ r ≡ cond (same (now (field .entry)) (now (name .entry))) code other ⌝ }
 {
-    if is(field, name) { code as u16 } else { other }
+    if is(field, name) { code as u32 } else { other }
 }
 
 // The request's code.
-pub fn request(field: &[u8]) -> u16
+pub fn request(field: &[u8]) -> u32
     ensures { λ r. ⌜ r ≡ codeOf requestNames (now (field .entry)) ⌝ }
 {
     let code = known(
@@ -84,7 +90,7 @@ pub fn request(field: &[u8]) -> u16
 }
 
 // The code of a flag: RetToSrc, DoNotGoToSD or excl.
-pub fn flag(field: &[u8]) -> u16
+pub fn flag(field: &[u8]) -> u32
     ensures { λ r. ⌜ r ≡ codeOf flagNames (now (field .entry)) ⌝ }
 {
     let code = known(field, b"1", 1, UNKNOWN);
@@ -92,7 +98,7 @@ pub fn flag(field: &[u8]) -> u16
 }
 
 // The tag state's code.
-pub fn tag(field: &[u8]) -> u16
+pub fn tag(field: &[u8]) -> u32
     ensures { λ r. ⌜ r ≡ codeOf tagNames (now (field .entry)) ⌝ }
 {
     let code = known(field, b"?", TagState::NOT_SEEN.0, UNKNOWN);
@@ -102,7 +108,7 @@ pub fn tag(field: &[u8]) -> u16
 }
 
 // The response's place among the 22.
-pub fn response(field: &[u8]) -> u16
+pub fn response(field: &[u8]) -> u32
     ensures { λ r. ⌜ r ≡ codeOf responseNames (now (field .entry)) ⌝ }
 {
     let code = known(field, b"SnpRespData_SC_PD_Fwded_SC", 21, UNKNOWN);
@@ -130,7 +136,7 @@ pub fn response(field: &[u8]) -> u16
 }
 
 // The code of TagOp.
-pub fn tag_op(field: &[u8]) -> u16
+pub fn tag_op(field: &[u8]) -> u32
     ensures { λ r. ⌜ r ≡ codeOf tagOpNames (now (field .entry)) ⌝ }
 {
     let code = known(field, b"Match", TagOp::MATCH.0, UNKNOWN);
@@ -140,7 +146,7 @@ pub fn tag_op(field: &[u8]) -> u16
 }
 
 // The code of RespErr.
-pub fn resp_err(field: &[u8]) -> u16
+pub fn resp_err(field: &[u8]) -> u32
     ensures { λ r. ⌜ r ≡ codeOf respErrNames (now (field .entry)) ⌝ }
 {
     let code = known(field, b"NDERR", RespErr::NDERR.0, UNKNOWN);
@@ -150,7 +156,7 @@ pub fn resp_err(field: &[u8]) -> u16
 }
 
 // The FwdState of what is forwarded.
-pub fn forward(field: &[u8]) -> u16
+pub fn forward(field: &[u8]) -> u32
     ensures { λ r. ⌜ r ≡ codeOf forwardNames (now (field .entry)) ⌝ }
 {
     let code = known(field, b"CompData_SD_PD", FwdState::SD_PD.0, UNKNOWN);
@@ -161,7 +167,7 @@ pub fn forward(field: &[u8]) -> u16
 }
 
 // The code of the state after.
-pub fn state_after(field: &[u8]) -> u16
+pub fn state_after(field: &[u8]) -> u32
     ensures { λ r. ⌜ r ≡ codeOf finalNames (now (field .entry)) ⌝ }
 {
     let code = known(field, b"?", LineState::NOT_SEEN.0, UNKNOWN);
@@ -174,31 +180,31 @@ pub fn state_after(field: &[u8]) -> u16
     known(field, b"I", LineState::I.0, code)
 }
 
-// The number that at most four digits are; unknown if some byte is no digit.
-fn digits(field: &[u8]) -> u16
-    requires { ⌜ length (now field) ≤ 4 ⌝ }
+// The number that as many digits are as a pair may have; unknown if some byte is no digit.
+fn digits(field: &[u8]) -> u32
+    requires { ⌜ length (now field) ≤ mostDigits ⌝ }
     ensures { λ r. ⌜ r ≡ cond (all isDigit (now (field .entry))) (decimal 0 (now (field .entry))) unknown ⌝ }
 {
     let n = field.len();
-    let mut v: u16 = 0;
+    let mut v: u32 = 0;
     let mut i: usize = 0;
     while i < n {
         let d = field[i];
         if !((ZERO <= d) & (d <= NINE)) {
             return UNKNOWN;
         }
-        v = v * 10 + ((d - ZERO) as u16);
+        v = v * 10 + ((d - ZERO) as u32);
         i += 1;
     }
     v
 }
 
 // The pair's number.
-pub fn pair(field: &[u8]) -> u16
+pub fn pair(field: &[u8]) -> u32
     ensures { λ r. ⌜ r ≡ pairOf (now (field .entry)) ⌝ }
 {
     let n = field.len();
-    if !((0 < n) & (n <= 4)) {
+    if !((0 < n) & (n <= MOST_DIGITS)) {
         return UNKNOWN;
     }
     if (field[0] == ZERO) & (1 < n) {
@@ -207,45 +213,64 @@ pub fn pair(field: &[u8]) -> u16
     digits(field)
 }
 
-// The answer at a place as a word, 0 past the last.
-fn answer_word(place: u16) -> u32
-    ensures { λ r. ⌜ r ≡ getD answerWords place 0 ⌝ }
+// The answer that a response is, by its place among the 22; past the last, the first.
+pub fn answer(place: u8) -> Answer
+    ensures { λ r. ⌜ r ≡ answerAt place ⌝ }
 {
-    let at = place as usize;
-    if at < answers::COUNT {
-        answers::WORDS[at]
-    } else {
-        0
+    match place {
+        0 => Answer::SnpResp(Resp::I, Forward::NoForward),
+        1 => Answer::SnpResp(Resp::SC, Forward::NoForward),
+        2 => Answer::SnpRespData(Resp::I, Forward::NoForward),
+        3 => Answer::SnpRespData(Resp::SC, Forward::NoForward),
+        4 => Answer::SnpRespData(Resp::SD, Forward::NoForward),
+        5 => Answer::SnpRespData(Resp::I_PD, Forward::NoForward),
+        6 => Answer::SnpRespData(Resp::SC_PD, Forward::NoForward),
+        7 => Answer::SnpRespDataPtl(Resp::I_PD),
+        8 => Answer::SnpResp(Resp::I, Forward::CompData(FwdState::SC)),
+        9 => Answer::SnpResp(Resp::SC, Forward::CompData(FwdState::SC)),
+        10 => Answer::SnpResp(Resp::SD, Forward::CompData(FwdState::SC)),
+        11 => Answer::SnpResp(Resp::I, Forward::CompData(FwdState::SD_PD)),
+        12 => Answer::SnpResp(Resp::SC, Forward::CompData(FwdState::SD_PD)),
+        13 => Answer::SnpResp(Resp::I, Forward::CompData(FwdState::UC)),
+        14 => Answer::SnpResp(Resp::I, Forward::CompData(FwdState::UD_PD)),
+        15 => Answer::SnpRespData(Resp::I, Forward::CompData(FwdState::SC)),
+        16 => Answer::SnpRespData(Resp::SC, Forward::CompData(FwdState::SC)),
+        17 => Answer::SnpRespData(Resp::SD, Forward::CompData(FwdState::SC)),
+        18 => Answer::SnpRespData(Resp::I, Forward::CompData(FwdState::SD_PD)),
+        19 => Answer::SnpRespData(Resp::SC, Forward::CompData(FwdState::SD_PD)),
+        20 => Answer::SnpRespData(Resp::I_PD, Forward::CompData(FwdState::SC)),
+        21 => Answer::SnpRespData(Resp::SC_PD, Forward::CompData(FwdState::SC)),
+        _ => Answer::SnpResp(Resp::I, Forward::NoForward),
     }
 }
 
-// Channel, opcode, Resp and FwdState of the answer at a place among the 22; four zeros past the last.
-pub fn answer_bytes(place: u16) -> [u8; 4]
-    ensures { λ r. ⌜ r ≡ answerBytes place ⌝ }
+// What is forwarded, by its FwdState.
+pub fn forward_of(state: u8) -> Forward
+    ensures { λ r. ⌜ r ≡ forwardAt state ⌝ }
 {
-    let word = answer_word(place);
-    [
-        (word % 256) as u8,
-        ((word >> answers::OPCODE_AT) % 256) as u8,
-        ((word >> answers::RESP_AT) % 256) as u8,
-        ((word >> answers::FWD_AT) % 256) as u8,
-    ]
+    if state == FwdState::NONE.0 {
+        Forward::NoForward
+    } else {
+        Forward::CompData(FwdState(state))
+    }
 }
 
 // The field's code in a column, by the column's number in the header, from 0.
-pub fn column(number: usize, field: &[u8]) -> u16
+pub fn column(number: usize, field: &[u8]) -> u32
     ensures { λ r. ⌜ r ≡ inColumn number (now (field .entry)) ⌝ }
 {
     match number {
-        0 => pair(field),
-        1 => request(field),
-        2 | 3 | 4 => flag(field),
-        5 => tag(field),
-        6 => response(field),
-        7 => tag_op(field),
-        8 => resp_err(field),
-        9 => forward(field),
-        10 => state_after(field),
+        columns::PAIR => pair(field),
+        columns::REQUEST => request(field),
+        columns::RET_TO_SRC => flag(field),
+        columns::DO_NOT_GO_TO_SD => flag(field),
+        columns::EXCL => flag(field),
+        columns::TAG => tag(field),
+        columns::RESPONSE => response(field),
+        columns::TAG_OP => tag_op(field),
+        columns::RESP_ERR => resp_err(field),
+        columns::FORWARD => forward(field),
+        columns::FINAL => state_after(field),
         _ => UNKNOWN,
     }
 }

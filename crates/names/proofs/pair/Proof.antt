@@ -1,7 +1,7 @@
 -- `names::pair` meets its contract: the length, the leading zero, then the digits.
 -- Assumes nothing.
 use denote.Ref.{now}
-use Rattle.names.proofs.Laws.{pair-length, pair-zero, pair-digits, some-byte, four-bytes}
+use Rattle.names.proofs.Laws.{pair-length, pair-zero, pair-digits, some-byte, few-bytes}
 use Rattle.names.proofs.pair.Statement.{statement}
 use Rattle.names.proofs.pair.Tie as tie
 
@@ -15,7 +15,7 @@ returns-2 : tie.Need-returns-2
 returns-2 c = pair-zero (now (c .before .before .before .before .args .field)) (c .if2 .taken)
 
 digits-requires : tie.Need-digits-requires
-digits-requires c κs = four-bytes (now (c .before .before .before .before .args .field)) (c .before .before .if1 .left)
+digits-requires c κs = few-bytes (now (c .before .before .before .before .args .field)) (c .before .before .if1 .left)
 
 returns-3 : tie.Need-returns-3
 returns-3 c = pair-digits (now (c .before .before .before .before .before .args .field)) (c .before .before .before .if1 .left) (c .before .if2 .left) (c .digits .ensures)

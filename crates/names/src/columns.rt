@@ -1,0 +1,25 @@
+// The columns of the sheet by their numbers, in the order of its header.
+pub const PAIR: usize = 0;
+
+pub const REQUEST: usize = 1;
+
+pub const RET_TO_SRC: usize = 2;
+
+pub const DO_NOT_GO_TO_SD: usize = 3;
+
+pub const EXCL: usize = 4;
+
+pub const TAG: usize = 5;
+
+pub const RESPONSE: usize = 6;
+
+pub const TAG_OP: usize = 7;
+
+pub const RESP_ERR: usize = 8;
+
+pub const FORWARD: usize = 9;
+
+pub const FINAL: usize = 10;
+
+// A line has a field for each.
+pub const COLUMNS: usize = 11;
