@@ -1,114 +1,96 @@
 -- Laws of the event that a line names: every code of a well formed line is below the limit of its column, so none is cut.
 -- Assumes nothing.
 use mathlib.Core.Path.{_≡_, refl, sym, _∙_, ap, ap₂, subst}
-use mathlib.Core.Bool.{true, false, cond, not, false≢true}
-use mathlib.Core.List.{List, [], _∷_, _++_}
+use mathlib.Core.Bool.{Bool, true, false, cond, not, _&&_, false≢true}
+use mathlib.Core.List.{List, [], _∷_, map}
 use mathlib.Core.Logic.{_⊎_, inl, inr}
-use Prim.Native.Nat.{ℕ, zero, suc, _%_, _≤_, _<_}
+use Prim.Native.Nat.{ℕ, _≤_, _<_}
 use native.Mathlib.Nat.{mod-eq-of-lt}
 use native.Mathlib.Omega.{arith}
-use borrow.Author.Tests.{lt-ltb, le-ltb, eq-eqb}
-use lib.Dec.{eqb, ltb}
-use lib.ListN.{length, getD}
+use borrow.Author.Tests.{ltb-true, leb-true, lt-ltb, le-ltb, eq-eqb}
+use lib.Dec.{eqb, ltb, leb}
+use lib.ListN.{length, drop}
 use Rattle.kinds.specs.Tests.{all}
-use Rattle.kinds.proofs.Lists.{and-left, and-right}
+use Rattle.kinds.specs.Places.{highestPair}
+use Rattle.kinds.proofs.Lists.{and-left, and-right, and-both}
 use Rattle.fields.specs.Fields.{fieldsOf}
-use Rattle.names.specs.Names.{unknown, columns, inColumn, answerBytes}
-use Rattle.names.proofs.Names.{limits, column-below, answer-length}
-use Rattle.entries.specs.declared.Codes.{Codes}
-use Rattle.entries.specs.Entries.{codesOf, lineCodes, known, wellFormed, present, eventOf, highestPair, entry, refusedEntry, entryOf}
-use Rattle.entries.specs.Read.{codesIn, eventBytes}
+use Rattle.names.specs.Names.{unknown, columns}
+use Rattle.names.specs.Columns.{pairCode}
+use Rattle.names.proofs.Names.{pairLimit, limits, Limited, AllLimited, none-more, one-more, columns-limited}
+use Rattle.entries.specs.declared.Entry.{Entry}
+use Rattle.entries.specs.declared.Found.{Found}
+use Rattle.entries.specs.Entries.{codesOf, lineCodes, known, wellFormed, eventOf, entry, refusedEntry, entryOf}
+use Rattle.entries.specs.Read.{codesIn, asByte}
 
--- what holds of every code that a column can give, and of unknown, holds of each code of a line
-each-code : (P : ℕ → ℕ → Type 0) (cs : List (List ℕ → ℕ)) (fs : List (List ℕ))
-    → ((i : ℕ) (f : List ℕ) → P i (getD cs i (λ (field : List ℕ). unknown) f)) → ((i : ℕ) → P i unknown) → (i : ℕ) → i < length cs → P i (getD (codesOf cs fs) i 0)
-each-code P [] fs p q i h = absurd (omega arith)
-each-code P (c ∷ cs) [] p q zero h = q zero
-each-code P (c ∷ cs) [] p q (suc i) h = each-code (λ (j x : ℕ). P (suc j) x) cs [] (λ j f. p (suc j) f) (λ j. q (suc j)) i (omega (arith, h))
-each-code P (c ∷ cs) (f ∷ fs) p q zero h = p zero f
-each-code P (c ∷ cs) (f ∷ fs) p q (suc i) h = each-code (λ (j x : ℕ). P (suc j) x) cs fs (λ j g. p (suc j) g) (λ j. q (suc j)) i (omega (arith, h))
+-- equally many numbers as limits, each below its own
+abbrev pub under : List ℕ → List ℕ → Bool
+under [] [] = true
+under [] (l ∷ ls) = false
+under (x ∷ xs) [] = false
+under (x ∷ xs) (l ∷ ls) = ltb x l && under xs ls
 
-length-codes : (cs : List (List ℕ → ℕ)) (fs : List (List ℕ)) → length (codesOf cs fs) ≡ length cs
-length-codes [] fs = refl
-length-codes (c ∷ cs) [] = ap suc (length-codes cs [])
-length-codes (c ∷ cs) (f ∷ fs) = ap suc (length-codes cs fs)
-
-known-at : (xs : List ℕ) (i : ℕ) → i < length xs → all known xs ≡ true → known (getD xs i 0) ≡ true
-known-at [] i h a = absurd (omega arith)
-known-at (x ∷ xs) zero h a = and-left (known x) (all known xs) a
-known-at (x ∷ xs) (suc i) h a = known-at xs i (omega (arith, h)) (and-right (known x) (all known xs) a)
-
-columns-count : length columns ≡ 11
-unfolding columns
-columns-count = refl
-
--- every code of a well formed line is below the limit of its column
-pub code-below : (line : List ℕ) → wellFormed line ≡ true → (i : ℕ) → i < 11 → getD (lineCodes line) i 0 < getD limits i 0
-unfolding wellFormed inColumn
-code-below line w i h = go (each-code (λ (j x : ℕ). (x ≡ unknown) ⊎ (x < getD limits j 0)) columns (fieldsOf line) column-below (λ j. inl refl) i inside)
+known-below : {column : List ℕ → ℕ} {limit : ℕ} → Limited column limit → (f : List ℕ) → known (column f) ≡ true → ltb (column f) limit ≡ true
+known-below {column} {limit} p f k = go (p f)
   where
-    inside : i < length columns
-    inside = subst (λ n. i < n) (sym columns-count) h
+    go : (column f ≡ unknown) ⊎ (column f < limit) → ltb (column f) limit ≡ true
+    go (inl e) = absurd (false≢true (sym (ap not (eq-eqb (column f) unknown e)) ∙ k))
+    go (inr b) = lt-ltb (column f) limit b
 
-    is-known : known (getD (lineCodes line) i 0) ≡ true
-    is-known =
-        known-at (lineCodes line) i (subst (λ n. i < n) (sym (length-codes columns (fieldsOf line))) inside)
-        (and-right (eqb (length (fieldsOf line)) (length columns)) (all known (lineCodes line)) w)
+codes-below : {cs : List (List ℕ → ℕ)} {ls : List ℕ} → AllLimited cs ls → (fs : List (List ℕ)) → all known (codesOf cs fs) ≡ true → under (codesOf cs fs) ls ≡ true
+codes-below none-more fs k = refl
+codes-below (one-more p ps) [] k = absurd (false≢true k)
+codes-below (one-more {column = c} {others = cs} p ps) (f ∷ fs) k =
+    and-both (known-below p f (and-left (known (c f)) (all known (codesOf cs fs)) k)) (codes-below ps fs (and-right (known (c f)) (all known (codesOf cs fs)) k))
 
-    go : (getD (lineCodes line) i 0 ≡ unknown) ⊎ (getD (lineCodes line) i 0 < getD limits i 0) → getD (lineCodes line) i 0 < getD limits i 0
-    go (inl e) = absurd (false≢true (sym (ap not (eq-eqb (getD (lineCodes line) i 0) unknown e)) ∙ is-known))
-    go (inr b) = b
+-- every code of a well formed line is known, and below the limit of its column
+pub codes-known : (line : List ℕ) → wellFormed line ≡ true → all known (lineCodes line) ≡ true
+unfolding wellFormed
+codes-known line w = and-right (eqb (length (fieldsOf line)) (length columns)) (all known (lineCodes line)) w
 
-four : (w : List ℕ) → length w ≡ 4 → (s : List ℕ) → getD w 0 0 ∷ getD w 1 0 ∷ getD w 2 0 ∷ getD w 3 0 ∷ s ≡ w ++ s
-four [] e s = absurd (omega (arith, e))
-four (a ∷ []) e s = absurd (omega (arith, e))
-four (a ∷ b ∷ []) e s = absurd (omega (arith, e))
-four (a ∷ b ∷ c ∷ []) e s = absurd (omega (arith, e))
-four (a ∷ b ∷ c ∷ d ∷ []) e s = refl
-four (a ∷ b ∷ c ∷ d ∷ x ∷ w) e s = absurd (omega (arith, e))
+pub codes-under : (line : List ℕ) → wellFormed line ≡ true → under (lineCodes line) limits ≡ true
+codes-under line w = codes-below columns-limited (fieldsOf line) (codes-known line w)
 
--- no code of a well formed line is cut
-event-whole : (line : List ℕ) → wellFormed line ≡ true → eventBytes (lineCodes line) ≡ eventOf (lineCodes line)
-unfolding eventBytes eventOf
-event-whole line w =
-    ap₂ (λ (m n : ℕ). m ∷ n ∷ c 3 % 256 ∷ c 4 % 256 ∷ c 5 % 256 ∷ wires (c 7 % 256 ∷ c 8 % 256 ∷ present (c 9) ∷ c 9 % 256 ∷ c 10 % 256 ∷ [])) (cut 1 (omega (arith, code-below line w 1 (omega arith)))) (cut 2 (omega (arith, code-below line w 2 (omega arith))))
-    ∙ ap₂ (λ (m n : ℕ). c 1 ∷ c 2 ∷ m ∷ n ∷ c 5 % 256 ∷ wires (c 7 % 256 ∷ c 8 % 256 ∷ present (c 9) ∷ c 9 % 256 ∷ c 10 % 256 ∷ [])) (cut 3 (omega (arith, code-below line w 3 (omega arith)))) (cut 4 (omega (arith, code-below line w 4 (omega arith))))
-    ∙ ap₂ (λ (m n : ℕ). c 1 ∷ c 2 ∷ c 3 ∷ c 4 ∷ m ∷ wires (n ∷ c 8 % 256 ∷ present (c 9) ∷ c 9 % 256 ∷ c 10 % 256 ∷ [])) (cut 5 (omega (arith, code-below line w 5 (omega arith)))) (cut 7 (omega (arith, code-below line w 7 (omega arith))))
-    ∙ ap₂ (λ (m n : ℕ). c 1 ∷ c 2 ∷ c 3 ∷ c 4 ∷ c 5 ∷ wires (c 7 ∷ m ∷ present (c 9) ∷ n ∷ c 10 % 256 ∷ [])) (cut 8 (omega (arith, code-below line w 8 (omega arith)))) (cut 9 (omega (arith, code-below line w 9 (omega arith))))
-    ∙ ap (λ (n : ℕ). c 1 ∷ c 2 ∷ c 3 ∷ c 4 ∷ c 5 ∷ wires (c 7 ∷ c 8 ∷ present (c 9) ∷ c 9 ∷ n ∷ [])) (cut 10 (omega (arith, code-below line w 10 (omega arith))))
-    ∙ ap (λ (s : List ℕ). c 1 ∷ c 2 ∷ c 3 ∷ c 4 ∷ c 5 ∷ s) (four (answerBytes (c 6)) (answer-length (c 6)) (c 7 ∷ c 8 ∷ present (c 9) ∷ c 9 ∷ c 10 ∷ []))
-  where
-    c : ℕ → ℕ
-    c i = getD (lineCodes line) i 0
+-- what is below limits that a byte keeps is a byte
+byte-kept : (xs ls : List ℕ) → under xs ls ≡ true → all (λ (l : ℕ). leb l 256) ls ≡ true → map asByte xs ≡ xs
+byte-kept [] ls h k = refl
+byte-kept (x ∷ xs) [] h k = absurd (false≢true h)
+byte-kept (x ∷ xs) (l ∷ ls) h k =
+    ap₂ (λ (y : ℕ) (ys : List ℕ). y ∷ ys)
+    (mod-eq-of-lt (omega (arith, ltb-true x l (and-left (ltb x l) (under xs ls) h), leb-true l 256 (and-left (leb l 256) (all (λ (m : ℕ). leb m 256) ls) k))))
+    (byte-kept xs ls (and-right (ltb x l) (under xs ls) h) (and-right (leb l 256) (all (λ (m : ℕ). leb m 256) ls) k))
 
-    wires : List ℕ → List ℕ
-    wires s = getD (answerBytes (c 6)) 0 0 ∷ getD (answerBytes (c 6)) 1 0 ∷ getD (answerBytes (c 6)) 2 0 ∷ getD (answerBytes (c 6)) 3 0 ∷ s
+-- only the pair's code may be above a byte, and the event doesn't have it
+event-kept : (codes : List ℕ) → under codes limits ≡ true → eventOf (map asByte codes) ≡ eventOf codes
+unfolding eventOf
+event-kept [] h = absurd (false≢true h)
+event-kept (pair ∷ codes) h =
+    ap (λ (cs : List ℕ). eventOf (pair ∷ cs)) (byte-kept codes (drop 1 limits) (and-right (ltb pair pairLimit) (under codes (drop 1 limits)) h) refl)
 
-    cut : (i : ℕ) → c i < 256 → c i % 256 ≡ c i
-    cut i h = mod-eq-of-lt h
+-- WHAT A LINE SAYS, by its cases
+saying : Bool → Bool → ℕ → List ℕ → Entry
+saying good high pair event = cond good (cond high (refusedEntry 3) (entry pair event)) (refusedEntry 8)
 
-pub entry-bad : (line : List ℕ) (f : Codes) → f ≡ codesIn line → f .good ≡ false → refusedEntry 8 ≡ entryOf line
-unfolding entryOf
-entry-bad line f e g =
-    sym (ap (λ b. cond b (cond (ltb highestPair (getD (lineCodes line) 0 0)) (refusedEntry 3) (entry (getD (lineCodes line) 0 0) (eventOf (lineCodes line)))) (refusedEntry 8))
-    (sym (ap (λ (x : Codes). x .good) e) ∙ g))
+module _ (line : List ℕ) (f : Found) (e : f ≡ codesIn line) where
+  good-so : f .good ≡ wellFormed line
+  good-so = ap (λ (x : Found). x .good) e
 
-pub entry-high : (line : List ℕ) (f : Codes) → f ≡ codesIn line → f .good ≡ true → highestPair < getD (f .codes) 0 0 → refusedEntry 3 ≡ entryOf line
-unfolding entryOf
-entry-high line f e g h =
-    sym (ap (λ b. cond b (cond (ltb highestPair (getD (lineCodes line) 0 0)) (refusedEntry 3) (entry (getD (lineCodes line) 0 0) (eventOf (lineCodes line)))) (refusedEntry 8))
-    (sym (ap (λ (x : Codes). x .good) e) ∙ g)
-    ∙ ap (λ b. cond b (refusedEntry 3) (entry (getD (lineCodes line) 0 0) (eventOf (lineCodes line))))
-    (lt-ltb highestPair (getD (lineCodes line) 0 0) (subst (λ (x : Codes). highestPair < getD (x .codes) 0 0) e h)))
+  pair-so : pairCode (f .codes) ≡ pairCode (lineCodes line)
+  pair-so = ap (λ (x : Found). pairCode (x .codes)) e
 
-pub entry-good : (line event : List ℕ) (f : Codes) → f ≡ codesIn line → f .good ≡ true → getD (f .codes) 0 0 ≤ highestPair → event ≡ eventBytes (f .codes)
-    → entry (getD (f .codes) 0 0) event ≡ entryOf line
-unfolding entryOf
-entry-good line event f e g h v =
-    ap₂ (λ (m : ℕ) (s : List ℕ). entry m s) (ap (λ (x : Codes). getD (x .codes) 0 0) e) (v ∙ ap (λ (x : Codes). eventBytes (x .codes)) e ∙ event-whole line w)
-    ∙ sym (ap (λ b. cond b (cond (ltb highestPair (getD (lineCodes line) 0 0)) (refusedEntry 3) (entry (getD (lineCodes line) 0 0) (eventOf (lineCodes line)))) (refusedEntry 8)) w
-    ∙ ap (λ b. cond b (refusedEntry 3) (entry (getD (lineCodes line) 0 0) (eventOf (lineCodes line))))
-    (le-ltb highestPair (getD (lineCodes line) 0 0) (subst (λ (x : Codes). getD (x .codes) 0 0 ≤ highestPair) e h)))
-  where
-    w : wellFormed line ≡ true
-    w = sym (ap (λ (x : Codes). x .good) e) ∙ g
+  pub entry-bad : f .good ≡ false → refusedEntry 8 ≡ entryOf line
+  unfolding entryOf saying
+  entry-bad g = sym (ap (λ b. saying b (ltb highestPair (pairCode (lineCodes line))) (pairCode (lineCodes line)) (eventOf (lineCodes line))) (sym good-so ∙ g))
+
+  pub entry-high : f .good ≡ true → highestPair < pairCode (f .codes) → refusedEntry 3 ≡ entryOf line
+  unfolding entryOf saying
+  entry-high g h =
+      sym (ap₂ (λ a b. saying a b (pairCode (lineCodes line)) (eventOf (lineCodes line))) (sym good-so ∙ g)
+      (lt-ltb highestPair (pairCode (lineCodes line)) (subst (λ n. highestPair < n) pair-so h)))
+
+  pub entry-good : (bytes event : List ℕ) → f .good ≡ true → pairCode (f .codes) ≤ highestPair → bytes ≡ map asByte (f .codes) → event ≡ eventOf bytes
+      → entry (pairCode (f .codes)) event ≡ entryOf line
+  unfolding entryOf saying
+  entry-good bytes event g h b v =
+      ap₂ entry pair-so (v ∙ ap eventOf (b ∙ ap (λ (x : Found). map asByte (x .codes)) e) ∙ event-kept (lineCodes line) (codes-under line (sym good-so ∙ g)))
+      ∙ sym (ap₂ (λ a b. saying a b (pairCode (lineCodes line)) (eventOf (lineCodes line))) (sym good-so ∙ g)
+      (le-ltb highestPair (pairCode (lineCodes line)) (subst (λ n. n ≤ highestPair) pair-so h)))

@@ -1,218 +1,251 @@
--- Laws of a line that is read field by field.
+-- Laws of a line whose fields are taken one after another, and of an event's bytes.
 -- Assumes nothing.
 use mathlib.Core.Path.{_≡_, refl, sym, _∙_, ap, ap₂, subst}
-use mathlib.Core.Bool.{Bool, true, false, _&&_}
-use mathlib.Core.List.{List, [], _∷_, _++_, append-nil, append-assoc}
-use Prim.Native.Nat.{ℕ, suc, _+_, _-_, _%_, _≤_, _<_}
-use native.Mathlib.Nat.{add-zero}
+use mathlib.Core.Bool.{Bool, true, false, cond, _&&_, false≢true}
+use mathlib.Core.List.{List, [], _∷_, _++_, map}
+use Prim.Native.Nat.{ℕ, suc, _+_, _-_, _≤_, _<_}
+use native.Mathlib.Numerals.{add-one}
 use native.Mathlib.Omega.{arith}
-use borrow.Author.Tests.{ltb-true, ltb-false, eq-eqb, ne-eqb}
-use lib.Dec.{eqb, ltb}
-use lib.ListN.{length, getD, take, drop, set, replicate, take-append-drop, length-set, length-drop, drop-of-length-le}
-use lib.Seq.{drop-cons, drop-drop, take-all, drop-set-lt, take-suc-set}
+use borrow.Author.Tests.{le-leb, lt-leb, leb-true, leb-false, lt-ltb, le-ltb, eq-eqb, ne-eqb, eqb-true, eqb-false}
+use lib.Dec.{eqb, ltb, leb, leb·suc-suc}
+use lib.ListN.{length, getD, take, drop, set, length-set, drop-of-length-le}
+use lib.Seq.{drop-cons, take-suc, take-suc-set, take-all}
 use Rattle.kinds.specs.Tests.{all}
+use Rattle.kinds.specs.declared.Answer.{Answer}
+use Rattle.kinds.specs.declared.Answer.the-variants.{SnpResp, SnpRespData, SnpRespDataPtl}
+use Rattle.kinds.specs.declared.Forward.{Forward}
+use Rattle.kinds.specs.declared.Forward.the-variants.{NoForward, CompData}
+use Rattle.kinds.specs.Answers.{wire, forwardWire}
+use Rattle.kinds.proofs.Lists.{and-right}
 use Rattle.fields.specs.Fields.{fieldsOf, fieldsFrom, fieldEnd}
 use Rattle.fields.proofs.Laws.{end-from, end-within, fields-start, fields-none, fields-step}
-use Rattle.names.specs.Names.{unknown, columns, inColumn, answerBytes}
-use Rattle.entries.specs.Entries.{codesOf, lineCodes, known, wellFormed, present}
-use Rattle.entries.specs.Read.{codesIn, eventBytes}
+use Rattle.names.specs.Names.{unknown, columns, inColumn, answerAt, forwardAt}
+use Rattle.names.specs.Columns.{requestCode, retToSrcCode, doNotGoToSDCode, exclCode, tagCode, responseCode, tagOpCode, respErrCode, forwardCode, finalCode}
+use Rattle.entries.specs.declared.Taken.{Taken}
+use Rattle.entries.specs.declared.Codes.{Codes}
+use Rattle.entries.specs.declared.Found.{Found}
+use Rattle.entries.specs.Entries.{codesOf, lineCodes, known, wellFormed, eventOf}
+use Rattle.entries.specs.Read.{takenBy, takenAt, allTaken, codesIn, asByte}
 
--- a line has this many columns
-abbrev pub width : ℕ
-width = 11
+-- A FIELD: at a place of the line, and past its end.
+taken : ℕ → ℕ → Taken
+taken code next = record { code = code; next = next }
 
-eleven : length columns ≡ width
-unfolding columns
-eleven = refl
+taken-here : (column : List ℕ → ℕ) (line : List ℕ) (at : ℕ) → at ≤ length line
+    → takenBy column line at ≡ taken (column (take (fieldEnd line at - at) (drop at line))) (fieldEnd line at + 1)
+unfolding takenBy taken
+taken-here column line at h =
+    ap (λ b. cond b (taken (column (take (fieldEnd line at - at) (drop at line))) (fieldEnd line at + 1)) (taken unknown at)) (le-leb at (length line) h)
 
--- a line of which some fields are read: their codes, what is left of it, and how many fields it has
-pub record Reading (line codes : List ℕ) (good : Bool) (at number : ℕ) : Type 0 where
-  pub so : lineCodes line ≡ take number codes ++ codesOf (drop number columns) (fieldsFrom line at)
-  pub blank : drop number codes ≡ replicate (width - number) unknown
-  pub knows : good ≡ all known (take number codes)
-  pub long : length codes ≡ width
-  pub few : number ≤ width
-  pub count : length (fieldsOf line) ≡ number + length (fieldsFrom line at)
-  pub near : at ≤ length line + 1
+taken-past : (column : List ℕ → ℕ) (line : List ℕ) (at : ℕ) → length line < at → takenBy column line at ≡ taken unknown at
+unfolding takenBy taken
+taken-past column line at h =
+    ap (λ b. cond b (taken (column (take (fieldEnd line at - at) (drop at line))) (fieldEnd line at + 1)) (taken unknown at)) (lt-leb at (length line) h)
 
-pub reading-start : (line : List ℕ) → Reading line (replicate width unknown) true 0 0
-reading-start line = record {
-  so = ap (codesOf columns) (sym (fields-start line));
-  blank = refl;
-  knows = refl;
-  long = refl;
-  few = omega arith;
-  count = ap length (sym (fields-start line)) ∙ omega arith;
-  near = omega arith;
-}
+pub field-past : (number : ℕ) (line : List ℕ) (at : ℕ) → length line < at → record { code = unknown; next = at } ≡ takenAt number line at
+unfolding takenAt taken
+field-past number line at h = sym (taken-past (inColumn number) line at h)
 
--- past the end every column is unknown
-none-left : (cs : List (List ℕ → ℕ)) → codesOf cs [] ≡ replicate (length cs) unknown
-none-left [] = refl
-none-left (c ∷ cs) = ap (λ (s : List ℕ). unknown ∷ s) (none-left cs)
-
-length-drop-columns : (number : ℕ) → length (drop number columns) ≡ width - number
-length-drop-columns number = length-drop number columns ∙ ap (λ n. n - number) eleven
-
--- the next column, and those behind it
-next-column : (number : ℕ) → number < width → drop number columns ≡ inColumn number ∷ drop (suc number) columns
-unfolding inColumn
-next-column number h = drop-cons columns number (λ (field : List ℕ). unknown) (subst (λ n. number < n) (sym eleven) h)
-
-all-snoc : (xs : List ℕ) (x : ℕ) → all known (xs ++ x ∷ []) ≡ all known xs && known x
-all-snoc [] x = go (known x)
-  where
-    go : (b : Bool) → b && true ≡ b
-    go true = refl
-    go false = refl
-all-snoc (y ∷ xs) x = go (known y) (all-snoc xs x)
-  where
-    go : (b : Bool) → all known (xs ++ x ∷ []) ≡ all known xs && known x → b && all known (xs ++ x ∷ []) ≡ (b && all known xs) && known x
-    go true e = e
-    go false e = refl
-
-fewer-blank : (codes : List ℕ) (number : ℕ) → number < width → drop number codes ≡ replicate (width - number) unknown
-    → drop (suc number) codes ≡ replicate (width - suc number) unknown
-fewer-blank codes number h e =
-    ap (λ n. drop n codes) (next-place number) ∙ sym (drop-drop 1 number codes) ∙ ap (drop 1) e
-    ∙ ap (λ n. drop 1 (replicate n unknown)) (gap number h)
-  where
-    next-place : (n : ℕ) → suc n ≡ n + 1
-    next-place n = omega arith
-
-    gap : (n : ℕ) → n < width → width - n ≡ suc (width - suc n)
-    gap n k = omega (arith, k)
-
-pub reading-next : {line codes : List ℕ} {good : Bool} {at number : ℕ} (end code : ℕ) → Reading line codes good at number → number < width → at ≤ length line
-    → end ≡ fieldEnd line at → code ≡ inColumn number (take (end - at) (drop at line))
-    → Reading line (set codes number code) (good && known code) (end + 1) (number + 1)
-reading-next {line} {codes} {good} {at} {number} end code r h k e f = record {
-  so = r .so
-      ∙ ap₂ (λ (cs : List (List ℕ → ℕ)) (fs : List (List ℕ)). take number codes ++ codesOf cs fs) (next-column number h) step
-      ∙ ap (λ (n : ℕ). take number codes ++ n ∷ codesOf (drop (suc number) columns) (fieldsFrom line (end + 1))) (sym f)
-      ∙ sym (append-assoc (take number codes) (code ∷ []) _)
-      ∙ ap (λ (s : List ℕ). s ++ codesOf (drop (suc number) columns) (fieldsFrom line (end + 1))) (sym put)
-      ∙ ap (λ n. take n (set codes number code) ++ codesOf (drop n columns) (fieldsFrom line (end + 1))) (next-place number);
-  blank = ap (λ n. drop n (set codes number code)) (sym (next-place number)) ∙ drop-set-lt (suc number) codes number code (omega arith)
-      ∙ fewer-blank codes number h (r .blank) ∙ ap (λ n. replicate (width - n) unknown) (next-place number);
-  knows = ap (λ b. b && known code) (r .knows) ∙ sym (all-snoc (take number codes) code)
-      ∙ ap (all known) (sym put) ∙ ap (λ n. all known (take n (set codes number code))) (next-place number);
-  long = length-set codes number code ∙ r .long;
-  few = omega (arith, h);
-  count = r .count ∙ ap (λ (fs : List (List ℕ)). number + length fs) step ∙ omega arith;
-  near = subst (λ n. n + 1 ≤ length line + 1) (sym e) (omega (arith, end-within line at k));
-}
-  where
-    next-place : (n : ℕ) → suc n ≡ n + 1
-    next-place n = omega arith
-
-    step : fieldsFrom line at ≡ take (end - at) (drop at line) ∷ fieldsFrom line (end + 1)
-    step = fields-step line at k ∙ ap (λ n. take (n - at) (drop at line) ∷ fieldsFrom line (n + 1)) (sym e)
-
-    put : take (suc number) (set codes number code) ≡ take number codes ++ code ∷ []
-    put = take-suc-set codes number code (subst (λ n. number < n) (sym (r .long)) h)
-
--- the line ends before the last column
-pub reading-short : {line codes : List ℕ} {good : Bool} {at number : ℕ} → Reading line codes good at number → number < width → length line < at
-    → record { codes = codes; good = false } ≡ codesIn line
-unfolding wellFormed
-reading-short {line} {codes} {good} {at} {number} r h k = ap₂ (λ (cs : List ℕ) (b : Bool). record { codes = cs; good = b }) (sym all-codes) (sym short)
-  where
-    all-codes : lineCodes line ≡ codes
-    all-codes =
-        r .so ∙ ap (λ (fs : List (List ℕ)). take number codes ++ codesOf (drop number columns) fs) (fields-none line at k)
-        ∙ ap (λ (s : List ℕ). take number codes ++ s) (none-left (drop number columns) ∙ ap (λ n. replicate n unknown) (length-drop-columns number) ∙ sym (r .blank))
-        ∙ take-append-drop number codes
-
-    counted : length (fieldsOf line) ≡ number
-    counted = r .count ∙ ap (λ (fs : List (List ℕ)). number + length fs) (fields-none line at k) ∙ add-zero number
-
-    short : wellFormed line ≡ false
-    short = ap (λ b. b && all known (lineCodes line)) (ne-eqb (length (fieldsOf line)) (length columns) (λ e. omega (arith, h, e, counted, eleven)))
-
--- a field for each column is read
-pub reading-end : {line codes : List ℕ} {good : Bool} {at number : ℕ} → Reading line codes good at number → width ≤ number
-    → record { codes = codes; good = good && ltb (length line) at } ≡ codesIn line
-unfolding wellFormed
-reading-end {line} {codes} {good} {at} {number} r h = ap₂ (λ (cs : List ℕ) (b : Bool). record { codes = cs; good = b }) (sym all-codes) (swap ∙ ap₂ (λ (b c : Bool). b && c) (sym (full (ltb (length line) at) refl)) (r .knows ∙ ap (all known) all-taken ∙ sym (ap (all known) all-codes)))
-  where
-    is-width : number ≡ width
-    is-width = omega (arith, h, r .few)
-
-    all-taken : take number codes ≡ codes
-    all-taken = take-all number codes (omega (arith, h, r .long))
-
-    no-columns : drop number columns ≡ []
-    no-columns = drop-of-length-le columns {i = number} (omega (arith, h, eleven))
-
-    all-codes : lineCodes line ≡ codes
-    all-codes =
-        r .so ∙ ap (λ (cs : List (List ℕ → ℕ)). take number codes ++ codesOf cs (fieldsFrom line at)) no-columns
-        ∙ append-nil (take number codes) ∙ all-taken
-
-    full : (b : Bool) → ltb (length line) at ≡ b → eqb (length (fieldsOf line)) (length columns) ≡ b
-    full true e =
-        eq-eqb (length (fieldsOf line)) (length columns)
-        (r .count ∙ ap (λ (fs : List (List ℕ)). number + length fs) (fields-none line at (ltb-true (length line) at e)) ∙ omega (arith, is-width, eleven))
-    full false e =
-        ne-eqb (length (fieldsOf line)) (length columns)
-        (λ q. omega (arith, q, eleven, is-width, r .count, ap length (fields-step line at (ltb-false (length line) at e))))
-
-    swap : good && ltb (length line) at ≡ ltb (length line) at && good
-    swap = go good (ltb (length line) at)
-      where
-        go : (a b : Bool) → a && b ≡ b && a
-        go true true = refl
-        go true false = refl
-        go false true = refl
-        go false false = refl
+pub field-here : (number : ℕ) (line : List ℕ) (at end code : ℕ) → at ≤ length line → end ≡ fieldEnd line at → code ≡ inColumn number (take (end - at) (drop at line))
+    → record { code = code; next = end + 1 } ≡ takenAt number line at
+unfolding takenAt taken
+field-here number line at end code h e f =
+    ap₂ (λ (c n : ℕ). taken c (n + 1)) (f ∙ ap (λ (n : ℕ). inColumn number (take (n - at) (drop at line))) e) e ∙ sym (taken-here (inColumn number) line at h)
 
 pub end-next : (line : List ℕ) (at end : ℕ) → at ≤ length line → end ≡ fieldEnd line at → (at ≤ end) × (end ≤ length line)
 end-next line at end h e = (subst (λ n. at ≤ n) (sym e) (end-from line at), subst (λ n. n ≤ length line) (sym e) (end-within line at h))
 
--- the fourteen bytes, by what makes them
-pub event-bytes : {a b c d e f g h i j : ℕ} (codes answer : List ℕ) → answer ≡ answerBytes (getD codes 6 0)
-    → a ≡ getD codes 1 0 % 256 → b ≡ getD codes 2 0 % 256 → c ≡ getD codes 3 0 % 256 → d ≡ getD codes 4 0 % 256 → e ≡ getD codes 5 0 % 256
-    → f ≡ getD codes 7 0 % 256 → g ≡ getD codes 8 0 % 256 → h ≡ present (getD codes 9 0) → i ≡ getD codes 9 0 % 256 → j ≡ getD codes 10 0 % 256
-    → a ∷ b ∷ c ∷ d ∷ e ∷ getD answer 0 0 ∷ getD answer 1 0 ∷ getD answer 2 0 ∷ getD answer 3 0 ∷ f ∷ g ∷ h ∷ i ∷ j ∷ [] ≡ eventBytes codes
-unfolding eventBytes
-event-bytes {a} {b} {c} {d} {e} {f} {g} {h} {i} {j} codes answer w p q r s t u v x y z =
-    ap₂ (λ (m n : ℕ). m ∷ n ∷ c ∷ d ∷ e ∷ wires answer (f ∷ g ∷ h ∷ i ∷ j ∷ [])) p q
-    ∙ ap₂ (λ (m n : ℕ). A ∷ B ∷ m ∷ n ∷ e ∷ wires answer (f ∷ g ∷ h ∷ i ∷ j ∷ [])) r s
-    ∙ ap₂ (λ (m : ℕ) (l : List ℕ). A ∷ B ∷ C ∷ D ∷ m ∷ wires l (f ∷ g ∷ h ∷ i ∷ j ∷ [])) t w
-    ∙ ap₂ (λ (m n : ℕ). A ∷ B ∷ C ∷ D ∷ E ∷ wires W (m ∷ n ∷ h ∷ i ∷ j ∷ [])) u v
-    ∙ ap₂ (λ (m n : ℕ). A ∷ B ∷ C ∷ D ∷ E ∷ wires W (F ∷ G ∷ m ∷ n ∷ j ∷ [])) x y
-    ∙ ap (λ (n : ℕ). A ∷ B ∷ C ∷ D ∷ E ∷ wires W (F ∷ G ∷ H ∷ I ∷ n ∷ [])) z
+-- ALL FIELDS, one after another for any columns
+takenFrom : List (List ℕ → ℕ) → List ℕ → ℕ → Codes
+takenFrom [] line at = record { codes = []; end = at }
+takenFrom (c ∷ cs) line at = record {
+  codes = takenBy c line at .code ∷ takenFrom cs line (takenBy c line at .next) .codes;
+  end = takenFrom cs line (takenBy c line at .next) .end;
+}
+
+one-by-one : (line : List ℕ) → allTaken line ≡ takenFrom columns line 0
+unfolding allTaken takenAt inColumn columns takenFrom
+one-by-one line = refl
+
+-- they are the codes of the fields from there on, and the end is past the line's exactly when there are no more fields than columns
+record Follows (cs : List (List ℕ → ℕ)) (line : List ℕ) (at : ℕ) : Type 0 where
+  codes-so : takenFrom cs line at .codes ≡ codesOf cs (fieldsFrom line at)
+  end-so : ltb (length line) (takenFrom cs line at .end) ≡ leb (length (fieldsFrom line at)) (length cs)
+
+module _ (line : List ℕ) (at : ℕ) where
+  follows-none : Follows [] line at
+  unfolding takenFrom
+  follows-none = record { codes-so = refl; end-so = go (leb at (length line)) refl }
+    where
+      go : (b : Bool) → leb at (length line) ≡ b → ltb (length line) at ≡ leb (length (fieldsFrom line at)) 0
+      go true e =
+          let h = leb-true at (length line) e in
+          le-ltb (length line) at h ∙ sym (ap (λ (fs : List (List ℕ)). leb (length fs) 0) (fields-step line at h) ∙ lt-leb (suc (length (fieldsFrom line (fieldEnd line at + 1)))) 0 (omega arith))
+      go false e =
+          let h = leb-false at (length line) e in
+          lt-ltb (length line) at h ∙ sym (ap (λ (fs : List (List ℕ)). leb (length fs) 0) (fields-none line at h))
+
+  module _ (c : List ℕ → ℕ) (cs : List (List ℕ → ℕ)) where
+    follows-here : at ≤ length line → Follows cs line (fieldEnd line at + 1) → Follows (c ∷ cs) line at
+    unfolding takenFrom taken
+    follows-here h f = record {
+      codes-so = ap (λ (t : Taken). t .code ∷ takenFrom cs line (t .next) .codes) (taken-here c line at h)
+          ∙ ap (λ (s : List ℕ). c (take (fieldEnd line at - at) (drop at line)) ∷ s) (f .codes-so)
+          ∙ sym (ap (codesOf (c ∷ cs)) (fields-step line at h));
+      end-so = ap (λ (t : Taken). ltb (length line) (takenFrom cs line (t .next) .end)) (taken-here c line at h)
+          ∙ f .end-so
+          ∙ sym (ap (λ (fs : List (List ℕ)). leb (length fs) (suc (length cs))) (fields-step line at h) ∙ leb·suc-suc (length (fieldsFrom line (fieldEnd line at + 1))) (length cs));
+    }
+
+    follows-past : length line < at → Follows cs line at → Follows (c ∷ cs) line at
+    unfolding takenFrom taken
+    follows-past h f = record {
+      codes-so = ap (λ (t : Taken). t .code ∷ takenFrom cs line (t .next) .codes) (taken-past c line at h)
+          ∙ ap (λ (s : List ℕ). unknown ∷ s) (f .codes-so ∙ ap (codesOf cs) (fields-none line at h))
+          ∙ sym (ap (codesOf (c ∷ cs)) (fields-none line at h));
+      end-so = ap (λ (t : Taken). ltb (length line) (takenFrom cs line (t .next) .end)) (taken-past c line at h)
+          ∙ f .end-so
+          ∙ ap (λ (fs : List (List ℕ)). leb (length fs) (length cs)) (fields-none line at h)
+          ∙ le-leb 0 (length cs) (omega arith)
+          ∙ sym (ap (λ (fs : List (List ℕ)). leb (length fs) (suc (length cs))) (fields-none line at h) ∙ le-leb 0 (suc (length cs)) (omega arith));
+    }
+
+follows : (cs : List (List ℕ → ℕ)) (line : List ℕ) (at : ℕ) → Follows cs line at
+follows [] line at = follows-none line at
+follows (c ∷ cs) line at = go (leb at (length line)) refl (λ p. follows cs line p)
   where
-    wires : List ℕ → List ℕ → List ℕ
-    wires l more = getD l 0 0 ∷ getD l 1 0 ∷ getD l 2 0 ∷ getD l 3 0 ∷ more
+    go : (b : Bool) → leb at (length line) ≡ b → ((p : ℕ) → Follows cs line p) → Follows (c ∷ cs) line at
+    go true e f = follows-here line at c cs (leb-true at (length line) e) (f (fieldEnd line at + 1))
+    go false e f = follows-past line at c cs (leb-false at (length line) e) (f at)
 
-    W : List ℕ
-    W = answerBytes (getD codes 6 0)
+-- where every code is known, no field is missing
+none-missing : (cs : List (List ℕ → ℕ)) (fs : List (List ℕ)) → all known (codesOf cs fs) ≡ true → length cs ≤ length fs
+none-missing [] fs h = omega arith
+none-missing (c ∷ cs) [] h = absurd (false≢true h)
+none-missing (c ∷ cs) (f ∷ fs) h = omega (arith, none-missing cs fs (and-right (known (c f)) (all known (codesOf cs fs)) h))
 
-    A : ℕ
-    A = getD codes 1 0 % 256
+-- as many as there have to be: no fewer, and no more
+as-many : (a : Bool) (m n : ℕ) → (a ≡ true → n ≤ m) → a && leb m n ≡ eqb m n && a
+as-many true m n h = go (eqb m n) refl
+  where
+    go : (b : Bool) → eqb m n ≡ b → leb m n ≡ b && true
+    go true e = le-leb m n (omega (arith, eqb-true m n e))
+    go false e = lt-leb m n (omega (arith, eqb-false m n e, h refl))
+as-many false m n h = go (eqb m n)
+  where
+    go : (b : Bool) → false ≡ b && false
+    go true = refl
+    go false = refl
 
-    B : ℕ
-    B = getD codes 2 0 % 256
+found : List ℕ → Bool → Found
+found codes good = record { codes = codes; good = good }
 
-    C : ℕ
-    C = getD codes 3 0 % 256
+-- THE LINE'S CODES, and that it is well formed exactly when every code is known and the last field ends the line
+pub codes-found : (line : List ℕ) (t : Codes) (k : Bool) → t ≡ allTaken line → k ≡ all known (t .codes)
+    → record { codes = t .codes; good = k && ltb (length line) (t .end) } ≡ codesIn line
+unfolding found wellFormed
+codes-found line t k e h = ap₂ found codes-so (ap₂ (λ (a b : Bool). a && b) (h ∙ ap (all known) codes-so) end-so ∙ as-many (all known (lineCodes line)) (length (fieldsOf line)) (length columns) (none-missing columns (fieldsOf line)))
+  where
+    t-so : t ≡ takenFrom columns line 0
+    t-so = e ∙ one-by-one line
 
-    D : ℕ
-    D = getD codes 4 0 % 256
+    codes-so : t .codes ≡ lineCodes line
+    codes-so = ap (λ (x : Codes). x .codes) t-so ∙ follows columns line 0 .codes-so ∙ ap (codesOf columns) (fields-start line)
 
-    E : ℕ
-    E = getD codes 5 0 % 256
+    end-so : ltb (length line) (t .end) ≡ leb (length (fieldsOf line)) (length columns)
+    end-so =
+        ap (λ (x : Codes). ltb (length line) (x .end)) t-so ∙ follows columns line 0 .end-so
+        ∙ ap (λ (fs : List (List ℕ)). leb (length fs) (length columns)) (fields-start line)
 
-    F : ℕ
-    F = getD codes 7 0 % 256
+-- EVERY CODE KNOWN: t says so of the first i
+pub record KnownSoFar (codes : List ℕ) (n : ℕ) (t : Bool) (i : ℕ) : Type 0 where
+  pub within : i ≤ n
+  pub long : length codes ≡ n
+  pub rest : t && all known (drop i codes) ≡ all known codes
 
-    G : ℕ
-    G = getD codes 8 0 % 256
+pub known-start : (codes : List ℕ) (n : ℕ) → length codes ≡ n → KnownSoFar codes n true 0
+known-start codes n l = record { within = omega arith; long = l; rest = refl }
 
-    H : ℕ
-    H = present (getD codes 9 0)
+and-assoc : (a b c : Bool) → (a && b) && c ≡ a && (b && c)
+and-assoc true b c = refl
+and-assoc false b c = refl
 
-    I : ℕ
-    I = getD codes 9 0 % 256
+and-true : (a : Bool) → a && true ≡ a
+and-true true = refl
+and-true false = refl
+
+pub known-next : {codes : List ℕ} {n : ℕ} {t : Bool} {i : ℕ} → KnownSoFar codes n t i → i < n → KnownSoFar codes n (t && known (getD codes i 0)) (i + 1)
+known-next {codes} {n} {t} {i} k h = record {
+  within = omega arith;
+  long = k .long;
+  rest = ap (λ (j : ℕ). (t && known (getD codes i 0)) && all known (drop j codes)) (add-one i)
+      ∙ and-assoc t (known (getD codes i 0)) (all known (drop (suc i) codes))
+      ∙ ap (λ (s : List ℕ). t && all known s) (sym (drop-cons codes i 0 (omega (arith, k .long, h))))
+      ∙ k .rest;
+}
+
+pub known-end : {codes : List ℕ} {n : ℕ} {t : Bool} {i : ℕ} → KnownSoFar codes n t i → n ≤ i → t ≡ all known codes
+known-end {codes} {n} {t} {i} k h =
+    sym (and-true t) ∙ ap (λ (s : List ℕ). t && all known s) (sym (drop-of-length-le codes {i = i} (omega (arith, k .long, h)))) ∙ k .rest
+
+-- CODES AS BYTES: the first i are cut
+pub record CutSoFar (codes bytes : List ℕ) (n i : ℕ) : Type 0 where
+  pub within : i ≤ n
+  pub long : length codes ≡ n
+  pub as-long : length bytes ≡ n
+  pub so : take i bytes ≡ map asByte (take i codes)
+
+map-snoc : (xs : List ℕ) (x : ℕ) → map asByte (xs ++ (x ∷ [])) ≡ map asByte xs ++ (asByte x ∷ [])
+map-snoc [] x = refl
+map-snoc (y ∷ xs) x = ap (λ (s : List ℕ). asByte y ∷ s) (map-snoc xs x)
+
+pub cut-next : {codes bytes : List ℕ} {n i : ℕ} → CutSoFar codes bytes n i → i < n → CutSoFar codes (set bytes i (asByte (getD codes i 0))) n (i + 1)
+cut-next {codes} {bytes} {n} {i} k h = record {
+  within = omega arith;
+  long = k .long;
+  as-long = length-set bytes i (asByte (getD codes i 0)) ∙ k .as-long;
+  so = ap (λ (j : ℕ). take j (set bytes i (asByte (getD codes i 0)))) (add-one i)
+      ∙ take-suc-set bytes i (asByte (getD codes i 0)) (omega (arith, k .as-long, h))
+      ∙ ap (λ (s : List ℕ). s ++ (asByte (getD codes i 0) ∷ [])) (k .so)
+      ∙ sym (map-snoc (take i codes) (getD codes i 0))
+      ∙ ap (map asByte) (sym (take-suc codes i 0 (omega (arith, k .long, h))))
+      ∙ ap (λ (j : ℕ). map asByte (take j codes)) (sym (add-one i));
+}
+
+pub cut-end : {codes bytes : List ℕ} {n i : ℕ} → CutSoFar codes bytes n i → n ≤ i → bytes ≡ map asByte codes
+cut-end {codes} {bytes} {n} {i} k h =
+    sym (take-all i bytes (omega (arith, k .as-long, h))) ∙ k .so ∙ ap (map asByte) (take-all i codes (omega (arith, k .long, h)))
+
+-- THE EVENT'S BYTES, by what makes them
+abbrev pub four : List ℕ → List ℕ → List ℕ
+four w s = getD w 0 0 ∷ getD w 1 0 ∷ getD w 2 0 ∷ getD w 3 0 ∷ s
+
+abbrev pub two : List ℕ → List ℕ → List ℕ
+two w s = getD w 0 0 ∷ getD w 1 0 ∷ s
+
+four-so : (a : Answer) (s : List ℕ) → four (wire a) s ≡ take 4 (wire a) ++ s
+four-so (SnpResp r NoForward) s = refl
+four-so (SnpResp r (CompData f)) s = refl
+four-so (SnpRespData r NoForward) s = refl
+four-so (SnpRespData r (CompData f)) s = refl
+four-so (SnpRespDataPtl r) s = refl
+
+two-so : (f : Forward) (s : List ℕ) → two (forwardWire f) s ≡ forwardWire f ++ s
+two-so NoForward s = refl
+two-so (CompData f) s = refl
+
+module _ (codes : List ℕ) where
+  front : List ℕ → List ℕ
+  front s = requestCode codes ∷ retToSrcCode codes ∷ doNotGoToSDCode codes ∷ exclCode codes ∷ tagCode codes ∷ s
+
+  middle : List ℕ → List ℕ
+  middle s = tagOpCode codes ∷ respErrCode codes ∷ s
+
+  pub event-parts : {a : Answer} {f : Forward} (w v : List ℕ) → a ≡ answerAt (responseCode codes) → w ≡ wire a → f ≡ forwardAt (forwardCode codes) → v ≡ forwardWire f
+      → requestCode codes ∷ retToSrcCode codes ∷ doNotGoToSDCode codes ∷ exclCode codes ∷ tagCode codes ∷ four w (tagOpCode codes ∷ respErrCode codes ∷ two v (finalCode codes ∷ []))
+      ≡ eventOf codes
+  unfolding front middle eventOf
+  event-parts w v a-so w-so f-so v-so =
+      ap₂ (λ (x y : List ℕ). front (four x (middle (two y (finalCode codes ∷ []))))) (w-so ∙ ap wire a-so) (v-so ∙ ap forwardWire f-so)
+      ∙ ap front (four-so (answerAt (responseCode codes)) (middle (two (forwardWire (forwardAt (forwardCode codes))) (finalCode codes ∷ []))))
+      ∙ ap (λ (s : List ℕ). front (take 4 (wire (answerAt (responseCode codes))) ++ middle s)) (two-so (forwardAt (forwardCode codes)) (finalCode codes ∷ []))

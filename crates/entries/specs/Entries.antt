@@ -3,11 +3,13 @@ use Prim.Native.Nat.{ℕ}
 use mathlib.Core.Bool.{Bool, cond, not, _&&_}
 use mathlib.Core.List.{List, [], _∷_, _++_}
 use lib.Dec.{eqb, ltb}
-use lib.ListN.{length, getD, replicate}
+use lib.ListN.{length, take, replicate}
 use Rattle.kinds.specs.Tests.{all}
-use Rattle.kinds.specs.Places.{eventLength}
+use Rattle.kinds.specs.Answers.{wire, forwardWire}
+use Rattle.kinds.specs.Places.{eventLength, highestPair}
 use Rattle.fields.specs.Fields.{fieldsOf}
-use Rattle.names.specs.Names.{unknown, columns, answerBytes}
+use Rattle.names.specs.Names.{unknown, answerAt, forwardAt, columns}
+use Rattle.names.specs.Columns.{pairCode, requestCode, retToSrcCode, doNotGoToSDCode, exclCode, tagCode, responseCode, tagOpCode, respErrCode, forwardCode, finalCode}
 use Rattle.entries.specs.declared.Entry.{Entry}
 
 -- each field's code in its column; a field that is missing is unknown
@@ -28,24 +30,16 @@ known code = not (eqb code unknown)
 unfoldable pub wellFormed : List ℕ → Bool
 wellFormed line = eqb (length (fieldsOf line)) (length columns) && all known (lineCodes line)
 
--- forwarded data present: 0 for no forward, else 1
-abbrev pub present : ℕ → ℕ
-present forward = cond (eqb forward 0) 0 1
-
--- the event's bytes, from the codes of pair, request, RetToSrc, DoNotGoToSD, excl, tag, response, TagOp, RespErr, forward, final
+-- the event's bytes, from the codes of a line's fields: what the bus shows of the answer stands in bytes 5 to 8, of the forward in 11 and 12
 unfoldable pub eventOf : List ℕ → List ℕ
 eventOf codes =
-    getD codes 1 0 ∷
-    getD codes 2 0 ∷
-    getD codes 3 0 ∷
-    getD codes 4 0 ∷
-    getD codes 5 0 ∷
-    answerBytes (getD codes 6 0)
-    ++ getD codes 7 0 ∷ getD codes 8 0 ∷ present (getD codes 9 0) ∷ getD codes 9 0 ∷ getD codes 10 0 ∷ []
-
--- the highest number of a pair
-abbrev pub highestPair : ℕ
-highestPair = 4095
+    requestCode codes ∷
+    retToSrcCode codes ∷
+    doNotGoToSDCode codes ∷
+    exclCode codes ∷
+    tagCode codes ∷
+    (take 4 (wire (answerAt (responseCode codes)))
+    ++ (tagOpCode codes ∷ respErrCode codes ∷ (forwardWire (forwardAt (forwardCode codes)) ++ (finalCode codes ∷ []))))
 
 -- a line with nothing amiss: its pair and its event
 abbrev pub entry : ℕ → List ℕ → Entry
@@ -59,5 +53,5 @@ refusedEntry number = record { refusal = record { 0 = number }; pair = record { 
 unfoldable pub entryOf : List ℕ → Entry
 entryOf line =
     cond (wellFormed line)
-    (cond (ltb highestPair (getD (lineCodes line) 0 0)) (refusedEntry 3) (entry (getD (lineCodes line) 0 0) (eventOf (lineCodes line))))
+    (cond (ltb highestPair (pairCode (lineCodes line))) (refusedEntry 3) (entry (pairCode (lineCodes line)) (eventOf (lineCodes line))))
     (refusedEntry 8)

@@ -1,6 +1,7 @@
 -- `entries::read` meets its contract: 8, then 3, else the pair and the event.
 -- Assumes nothing.
 use mathlib.Core.Path.{_∙_}
+use native.Mathlib.Omega.{arith}
 use borrow.Author.Tests.{not-true, not-false}
 use denote.Ref.{now}
 use Rattle.entries.proofs.Events.{entry-bad, entry-high, entry-good}
@@ -26,11 +27,17 @@ refused-requires-2 c κs = search needs
 returns-2 : tie.Need-returns-2
 returns-2 c = c .refused2 .ensures ∙ entry-high (now (c .before .before .before .before .before .before .args .line)) (c .before .before .before .before .codes-of .result) (c .before .before .before .before .codes-of .ensures) (not-false _ (c .before .before .if1 .left)) (c .before .if2 .taken)
 
+cast-t13 : tie.Need-cast-t13
+cast-t13 c = search needs
+
+as-bytes-requires : tie.Need-as-bytes-requires
+as-bytes-requires c κs = search needs
+
 event-of-requires : tie.Need-event-of-requires
 event-of-requires c κs = search needs
 
 returns-3 : tie.Need-returns-3
-returns-3 c = entry-good (now (c .before .before .before .before .before .before .args .line)) (c .event-of .result) (c .before .before .before .before .codes-of .result) (c .before .before .before .before .codes-of .ensures) (not-false _ (c .before .before .if1 .left)) (c .before .if2 .left) (c .event-of .ensures)
+returns-3 c = entry-good (now (c .before .before .before .before .before .before .before .args .line)) (c .before .before .before .before .before .codes-of .result) (c .before .before .before .before .before .codes-of .ensures) (c .before .as-bytes .result) (c .event-of .result) (not-false _ (c .before .before .before .if1 .left)) (c .before .before .if2 .left) (c .before .as-bytes .ensures) (c .event-of .ensures)
 
 pub read-spec : {M : Type 1} → statement M
 read-spec =
@@ -42,5 +49,7 @@ read-spec =
     array-read-pair
     refused-requires-2
     returns-2
+    cast-t13
+    as-bytes-requires
     event-of-requires
     returns-3)
