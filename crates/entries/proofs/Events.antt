@@ -67,30 +67,38 @@ event-kept (pair ∷ codes) h =
     ap (λ (cs : List ℕ). eventOf (pair ∷ cs)) (byte-kept codes (drop 1 limits) (and-right (ltb pair pairLimit) (under codes (drop 1 limits)) h) refl)
 
 -- WHAT A LINE SAYS, by its cases
-saying : Bool → Bool → ℕ → List ℕ → Entry
-saying good high pair event = cond good (cond high (refusedEntry 3) (entry pair event)) (refusedEntry 8)
+module _ (line : List ℕ) where
+  saying : Bool → Bool → Entry
+  saying good high = cond good (cond high (refusedEntry 3) (entry (pairCode (lineCodes line)) (eventOf (lineCodes line)))) (refusedEntry 8)
 
+  pub entry-ill : wellFormed line ≡ false → entryOf line ≡ refusedEntry 8
+  unfolding entryOf saying
+  entry-ill w = ap (λ (b : Bool). saying b (ltb highestPair (pairCode (lineCodes line)))) w
+
+  pub entry-high : wellFormed line ≡ true → highestPair < pairCode (lineCodes line) → entryOf line ≡ refusedEntry 3
+  unfolding entryOf saying
+  entry-high w h = ap₂ saying w (lt-ltb highestPair (pairCode (lineCodes line)) h)
+
+  pub entry-fine : wellFormed line ≡ true → pairCode (lineCodes line) ≤ highestPair → entryOf line ≡ entry (pairCode (lineCodes line)) (eventOf (lineCodes line))
+  unfolding entryOf saying
+  entry-fine w h = ap₂ saying w (le-ltb highestPair (pairCode (lineCodes line)) h)
+
+-- the same by what the code finds
 module _ (line : List ℕ) (f : Found) (e : f ≡ codesIn line) where
-  good-so : f .good ≡ wellFormed line
-  good-so = ap (λ (x : Found). x .good) e
+  good-so : {b : Bool} → f .good ≡ b → wellFormed line ≡ b
+  good-so g = sym (ap (λ (x : Found). x .good) e) ∙ g
 
-  pair-so : pairCode (f .codes) ≡ pairCode (lineCodes line)
-  pair-so = ap (λ (x : Found). pairCode (x .codes)) e
+  codes-so : f .codes ≡ lineCodes line
+  codes-so = ap (λ (x : Found). x .codes) e
 
-  pub entry-bad : f .good ≡ false → refusedEntry 8 ≡ entryOf line
-  unfolding entryOf saying
-  entry-bad g = sym (ap (λ b. saying b (ltb highestPair (pairCode (lineCodes line))) (pairCode (lineCodes line)) (eventOf (lineCodes line))) (sym good-so ∙ g))
+  pub found-ill : f .good ≡ false → refusedEntry 8 ≡ entryOf line
+  found-ill g = sym (entry-ill line (good-so g))
 
-  pub entry-high : f .good ≡ true → highestPair < pairCode (f .codes) → refusedEntry 3 ≡ entryOf line
-  unfolding entryOf saying
-  entry-high g h =
-      sym (ap₂ (λ a b. saying a b (pairCode (lineCodes line)) (eventOf (lineCodes line))) (sym good-so ∙ g)
-      (lt-ltb highestPair (pairCode (lineCodes line)) (subst (λ n. highestPair < n) pair-so h)))
+  pub found-high : f .good ≡ true → highestPair < pairCode (f .codes) → refusedEntry 3 ≡ entryOf line
+  found-high g h = sym (entry-high line (good-so g) (subst (λ (cs : List ℕ). highestPair < pairCode cs) codes-so h))
 
-  pub entry-good : (bytes event : List ℕ) → f .good ≡ true → pairCode (f .codes) ≤ highestPair → bytes ≡ map asByte (f .codes) → event ≡ eventOf bytes
+  pub found-fine : (bytes event : List ℕ) → f .good ≡ true → pairCode (f .codes) ≤ highestPair → bytes ≡ map asByte (f .codes) → event ≡ eventOf bytes
       → entry (pairCode (f .codes)) event ≡ entryOf line
-  unfolding entryOf saying
-  entry-good bytes event g h b v =
-      ap₂ entry pair-so (v ∙ ap eventOf (b ∙ ap (λ (x : Found). map asByte (x .codes)) e) ∙ event-kept (lineCodes line) (codes-under line (sym good-so ∙ g)))
-      ∙ sym (ap₂ (λ a b. saying a b (pairCode (lineCodes line)) (eventOf (lineCodes line))) (sym good-so ∙ g)
-      (le-ltb highestPair (pairCode (lineCodes line)) (subst (λ n. n ≤ highestPair) pair-so h)))
+  found-fine bytes event g h b v =
+      ap₂ entry (ap pairCode codes-so) (v ∙ ap eventOf (b ∙ ap (map asByte) codes-so) ∙ event-kept (lineCodes line) (codes-under line (good-so g)))
+      ∙ sym (entry-fine line (good-so g) (subst (λ (cs : List ℕ). pairCode cs ≤ highestPair) codes-so h))

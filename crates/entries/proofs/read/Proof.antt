@@ -4,7 +4,7 @@ use mathlib.Core.Path.{_∙_}
 use native.Mathlib.Omega.{arith}
 use borrow.Author.Tests.{not-true, not-false}
 use denote.Ref.{now}
-use Rattle.entries.proofs.Events.{entry-bad, entry-high, entry-good}
+use Rattle.entries.proofs.Events.{found-ill, found-high, found-fine}
 use borrow.Author.Needs.{needs}
 use Rattle.entries.proofs.read.Statement.{statement}
 use Rattle.entries.proofs.read.Tie as tie
@@ -16,7 +16,7 @@ refused-requires : tie.Need-refused-requires
 refused-requires c κs = search needs
 
 returns : tie.Need-returns
-returns c = c .refused .ensures ∙ entry-bad (now (c .before .before .before .before .before .args .line)) (c .before .before .before .codes-of .result) (c .before .before .before .codes-of .ensures) (not-true _ (c .before .if1 .taken))
+returns c = c .refused .ensures ∙ found-ill (now (c .before .before .before .before .before .args .line)) (c .before .before .before .codes-of .result) (c .before .before .before .codes-of .ensures) (not-true _ (c .before .if1 .taken))
 
 array-read-pair : tie.Need-array-read-pair
 array-read-pair c = search needs
@@ -25,7 +25,7 @@ refused-requires-2 : tie.Need-refused-requires-2
 refused-requires-2 c κs = search needs
 
 returns-2 : tie.Need-returns-2
-returns-2 c = c .refused2 .ensures ∙ entry-high (now (c .before .before .before .before .before .before .args .line)) (c .before .before .before .before .codes-of .result) (c .before .before .before .before .codes-of .ensures) (not-false _ (c .before .before .if1 .left)) (c .before .if2 .taken)
+returns-2 c = c .refused2 .ensures ∙ found-high (now (c .before .before .before .before .before .before .args .line)) (c .before .before .before .before .codes-of .result) (c .before .before .before .before .codes-of .ensures) (not-false _ (c .before .before .if1 .left)) (c .before .if2 .taken)
 
 cast-t13 : tie.Need-cast-t13
 cast-t13 c = search needs
@@ -37,7 +37,7 @@ event-of-requires : tie.Need-event-of-requires
 event-of-requires c κs = search needs
 
 returns-3 : tie.Need-returns-3
-returns-3 c = entry-good (now (c .before .before .before .before .before .before .before .args .line)) (c .before .before .before .before .before .codes-of .result) (c .before .before .before .before .before .codes-of .ensures) (c .before .as-bytes .result) (c .event-of .result) (not-false _ (c .before .before .before .if1 .left)) (c .before .before .if2 .left) (c .before .as-bytes .ensures) (c .event-of .ensures)
+returns-3 c = found-fine (now (c .before .before .before .before .before .before .before .args .line)) (c .before .before .before .before .before .codes-of .result) (c .before .before .before .before .before .codes-of .ensures) (c .before .as-bytes .result) (c .event-of .result) (not-false _ (c .before .before .before .if1 .left)) (c .before .before .if2 .left) (c .before .as-bytes .ensures) (c .event-of .ensures)
 
 pub read-spec : {M : Type 1} → statement M
 read-spec =
