@@ -10,7 +10,7 @@ use lib.ListN.{length, getD, take, length-append}
 use lib.Seq.{take-at, drop-at, getD-at}
 use Rattle.kinds.specs.Tests.{all, _∈?_}
 use Rattle.kinds.specs.Codes.{requests}
-use Rattle.kinds.specs.Places.{eventLength, pairIn}
+use Rattle.kinds.specs.Places.{eventLength, mostEvents, mostPairs, pairIn}
 use Rattle.kinds.proofs.Lists.{and-left, and-right}
 use Rattle.event.specs.Refusals.{issueE, below}
 use Rattle.verdicts.specs.Verdicts.{after, verdict, dutyByte}
@@ -33,7 +33,7 @@ use Rattle.sheets.proofs.Reached.{start-length, start-set}
 -- an event that the trace call takes on the starting table
 record Fine (x : TraceEvent) : Type 0 where
   long : length (x .bytes) ≡ eventLength
-  pair-in : x .pair < 4096
+  pair-in : x .pair < mostPairs
   in-range : below (x .bytes) 1 (issueE .limits) ≡ true
   is-request : getD (x .bytes) 0 0 ∈? requests ≡ true
 
@@ -104,7 +104,7 @@ fine-at bs ps i (suc k) (one {x = x} {xs = xs} g gs) e f h =
     one-on a b = omega arith
 
 -- THE CALL.
-module _ (lines : List (List ℕ)) (verdicts duties afters : List ℕ) (g : all good lines ≡ true) (few : length lines ≤ 4096)
+module _ (lines : List (List ℕ)) (verdicts duties afters : List ℕ) (g : all good lines ≡ true) (few : length lines ≤ mostEvents)
     (v : length verdicts ≡ length lines) (d : length duties ≡ length lines) (a : length afters ≡ length lines) where
   l : Lent
   l = callOf lines verdicts duties afters

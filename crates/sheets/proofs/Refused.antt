@@ -8,12 +8,16 @@ use native.Mathlib.Nat.{add-zero}
 use native.Mathlib.Omega.{arith}
 use borrow.Author.Tests.{eqb-true, eqb-false, eq-eqb, ne-eqb, ltb-true, ltb-false, lt-ltb, le-ltb, le-leb}
 use lib.Dec.{eqb, ltb}
-use lib.ListN.{length, getD}
+use lib.ListN.{length}
 use Rattle.kinds.specs.Tests.{same}
+use Rattle.kinds.specs.Places.{highestPair}
 use Rattle.kinds.proofs.Lists.{and-both}
+use Rattle.names.specs.Columns.{pairCode}
 use Rattle.names.proofs.Names.{same-equal, same-self}
 use Rattle.trace.specs.Events.{run}
-use Rattle.entries.specs.Entries.{lineCodes, wellFormed, eventOf, highestPair, entry, refusedEntry, entryOf}
+use Rattle.entries.specs.Entries.{lineCodes, wellFormed, entryOf}
+use Rattle.entries.specs.declared.Entry.{Entry}
+use Rattle.entries.proofs.Events.{entry-ill, entry-high, entry-fine}
 use Rattle.replies.specs.Replies.{refusedLine}
 use Rattle.sheet.specs.Sheet.{Told, told, refuse, header, longest, mostLines, onHeader, onEntry, onLine, answers, startTable}
 use Rattle.sheet.proofs.Bites.{tooLongTold, long-told}
@@ -27,23 +31,6 @@ not-same line h = go (same line header) refl
     go : (b : Bool) → same line header ≡ b → b ≡ false
     go true e = absurd (h (same-equal line header e))
     go false e = refl
-
-entry-ill : (line : List ℕ) → wellFormed line ≡ false → entryOf line ≡ refusedEntry 8
-unfolding entryOf
-entry-ill line h =
-    ap (λ b. cond b (cond (ltb highestPair (getD (lineCodes line) 0 0)) (refusedEntry 3) (entry (getD (lineCodes line) 0 0) (eventOf (lineCodes line)))) (refusedEntry 8)) h
-
-entry-high : (line : List ℕ) → wellFormed line ≡ true → highestPair < getD (lineCodes line) 0 0 → entryOf line ≡ refusedEntry 3
-unfolding entryOf
-entry-high line h k =
-    ap (λ b. cond b (cond (ltb highestPair (getD (lineCodes line) 0 0)) (refusedEntry 3) (entry (getD (lineCodes line) 0 0) (eventOf (lineCodes line)))) (refusedEntry 8)) h
-    ∙ ap (λ b. cond b (refusedEntry 3) (entry (getD (lineCodes line) 0 0) (eventOf (lineCodes line)))) (lt-ltb highestPair (getD (lineCodes line) 0 0) k)
-
-entry-fine : (line : List ℕ) → wellFormed line ≡ true → getD (lineCodes line) 0 0 ≤ highestPair → entryOf line .refusal .0 ≡ 0
-unfolding entryOf
-entry-fine line h k =
-    ap (λ b. cond b (cond (ltb highestPair (getD (lineCodes line) 0 0)) (refusedEntry 3) (entry (getD (lineCodes line) 0 0) (eventOf (lineCodes line)))) (refusedEntry 8) .refusal .0) h
-    ∙ ap (λ b. cond b (refusedEntry 3) (entry (getD (lineCodes line) 0 0) (eventOf (lineCodes line))) .refusal .0) (le-ltb highestPair (getD (lineCodes line) 0 0) k)
 
 -- a line that is refused ends the run with that number
 pub refused-told : {k : ℕ} {line : List ℕ} {number : ℕ} (table : List ℕ) → RefusedWith k line number → onLine k table line ≡ refuse number k table
@@ -66,14 +53,14 @@ positive (suc n) p = omega arith
 
 -- a line that is read is good or refused
 read-is : (k : ℕ) (line : List ℕ) → 0 < k → k < mostLines → length line ≤ longest → LineIs k line
-read-is k line p q r = go (wellFormed line) refl (ltb highestPair (getD (lineCodes line) 0 0)) refl
+read-is k line p q r = go (wellFormed line) refl (ltb highestPair (pairCode (lineCodes line))) refl
   where
-    go : (a : Bool) → wellFormed line ≡ a → (b : Bool) → ltb highestPair (getD (lineCodes line) 0 0) ≡ b → LineIs k line
+    go : (a : Bool) → wellFormed line ≡ a → (b : Bool) → ltb highestPair (pairCode (lineCodes line)) ≡ b → LineIs k line
     go false e b f = is-refused 8 (ill-formed p q r e)
-    go true e true f = is-refused 3 (high-pair p q r e (ltb-true highestPair (getD (lineCodes line) 0 0) f))
+    go true e true f = is-refused 3 (high-pair p q r e (ltb-true highestPair (pairCode (lineCodes line)) f))
     go true e false f =
         is-good p q
-        (and-both (le-leb (length line) longest r) (eq-eqb (entryOf line .refusal .0) 0 (entry-fine line e (ltb-false highestPair (getD (lineCodes line) 0 0) f))))
+        (and-both (le-leb (length line) longest r) (eq-eqb (entryOf line .refusal .0) 0 (ap (λ (x : Entry). x .refusal .0) (entry-fine line e (ltb-false highestPair (pairCode (lineCodes line)) f)))))
 
 behind-is : (k : ℕ) (line : List ℕ) → 0 < k → LineIs k line
 behind-is k line p = go (ltb mostLines (k + 1)) refl (ltb longest (length line)) refl

@@ -3,8 +3,10 @@ use Prim.Native.Nat.{ℕ, _+_, _≤_, _<_}
 use mathlib.Core.Path.{_≡_}
 use mathlib.Core.Bool.{true, false}
 use mathlib.Core.List.{List, [], _∷_, _++_}
-use lib.ListN.{length, getD}
-use Rattle.entries.specs.Entries.{lineCodes, wellFormed, highestPair}
+use lib.ListN.{length}
+use Rattle.kinds.specs.Places.{highestPair}
+use Rattle.names.specs.Columns.{pairCode}
+use Rattle.entries.specs.Entries.{lineCodes, wellFormed}
 use Rattle.replies.specs.Replies.{refusedLine}
 use Rattle.sheet.specs.Sheet.{header, longest, mostLines, startTable}
 use Rattle.sheets.specs.Good.{eventsOf, good, AllGood, answerLines}
@@ -20,7 +22,7 @@ pub data RefusedWith (k : ℕ) (line : List ℕ) : ℕ → Type 0 where
   -- neither of these, and not a known field for each column
   ill-formed : 0 < k → k < mostLines → length line ≤ longest → wellFormed line ≡ false → RefusedWith k line 8
   -- none of these, and a pair above 4,095
-  high-pair : 0 < k → k < mostLines → length line ≤ longest → wellFormed line ≡ true → highestPair < getD (lineCodes line) 0 0 → RefusedWith k line 3
+  high-pair : 0 < k → k < mostLines → length line ≤ longest → wellFormed line ≡ true → highestPair < pairCode (lineCodes line) → RefusedWith k line 3
 
 -- the cases of a line with k lines before it: the header, a good line behind it, or a refused one
 pub data LineIs (k : ℕ) (line : List ℕ) : Type 0 where
