@@ -23,7 +23,7 @@ use Rattle.trace.specs.Events.{run}
 use Rattle.trace.specs.Lent.{Left}
 use Rattle.trace.specs.Judged.{judged}
 use Rattle.lines.specs.Lines.{linesOf}
-use Rattle.names.specs.Names.{codeOf, requestNames, flagNames, tagNames, responses, responseNames, answers as namedAnswers, answerBytes, tagOpNames, respErrNames, forwardNames, finalNames, isPair, decimal as readDecimal, pairOf, columns}
+use Rattle.names.specs.Names.{codeOf, requestNames, flagNames, tagNames, responses, responseNames, answers as namedAnswers, tagOpNames, respErrNames, forwardNames, finalNames, isPair, decimal as readDecimal, pairOf, columns}
 use Rattle.entries.specs.Entries.{lineCodes, wellFormed, eventOf, entryOf}
 use Rattle.replies.specs.Replies.{room, decimal, verdictText, dutyText, statesText, headerLine, answerLine, refusedLine}
 use Rattle.sheet.specs.Sheet.{refuse, header, mostLines, onLine, answers, startTable, sheetOut}
@@ -49,12 +49,12 @@ use Rattle.sheets.proofs.Calls.{judged-so, spelled-so}
 
 -- THE PAGE'S EXAMPLE: the whole input gives the whole output, byte for byte.
 pub page-example : sheetOut exampleIn ≡ exampleOut
-unfolding setOf bit rows asked answered tagged permitted steps duty after verdict dutyByte codeOf requestNames flagNames tagNames responses responseNames namedAnswers answerBytes tagOpNames respErrNames forwardNames finalNames isPair readDecimal pairOf columns wellFormed eventOf entryOf decimal verdictText dutyText statesText headerLine answerLine refusedLine header onLine startTable
+unfolding setOf bit rows asked answered tagged permitted steps duty after verdict dutyByte codeOf requestNames flagNames tagNames responses responseNames namedAnswers tagOpNames respErrNames forwardNames finalNames isPair readDecimal pairOf columns wellFormed eventOf entryOf decimal verdictText dutyText statesText headerLine answerLine refusedLine header onLine startTable
 page-example = refl
 
 -- THE REFUSALS BY EXAMPLES: each input gives exactly the output that is said of it.
 pub refusal-cases : all asSaid cases ≡ true
-unfolding setOf bit rows asked answered tagged permitted steps duty after verdict dutyByte codeOf requestNames flagNames tagNames responses responseNames namedAnswers answerBytes tagOpNames respErrNames forwardNames finalNames isPair readDecimal pairOf columns wellFormed eventOf entryOf decimal verdictText dutyText statesText headerLine answerLine refusedLine header onLine startTable
+unfolding setOf bit rows asked answered tagged permitted steps duty after verdict dutyByte codeOf requestNames flagNames tagNames responses responseNames namedAnswers tagOpNames respErrNames forwardNames finalNames isPair readDecimal pairOf columns wellFormed eventOf entryOf decimal verdictText dutyText statesText headerLine answerLine refusedLine header onLine startTable
 refusal-cases = refl
 
 -- THE REFUSAL TABLE OF THE SHEET: a line that a row gives a number for ends the run with that number and the line's own.
@@ -149,7 +149,7 @@ table-carried = good-then-more
 
 -- The page's example is of that kind: its four lines are good.
 pub example-good : AllGood 1 (drop 1 (linesOf exampleIn))
-unfolding codeOf requestNames flagNames tagNames responses responseNames namedAnswers answerBytes tagOpNames respErrNames forwardNames finalNames isPair readDecimal pairOf columns wellFormed eventOf entryOf
+unfolding codeOf requestNames flagNames tagNames responses responseNames namedAnswers tagOpNames respErrNames forwardNames finalNames isPair readDecimal pairOf columns wellFormed eventOf entryOf
 example-good = record { behind-header = omega arith; not-too-many = omega arith; each-good = refl }
 
 -- A LINE'S OWN ANSWER: behind the answers to the lines before it stands its number and what it is found to be.
