@@ -25,7 +25,7 @@ use Rattle.entries.specs.declared.Taken.{Taken}
 use Rattle.entries.specs.declared.Codes.{Codes}
 use Rattle.entries.specs.declared.Found.{Found}
 use Rattle.entries.specs.Entries.{codesOf, lineCodes, known, wellFormed, eventOf}
-use Rattle.entries.specs.Read.{takenBy, takenAt, allTaken, codesIn, asByte}
+use Rattle.entries.specs.Read.{takenBy, takenAt, gatheredOf, allTaken, codesIn, asByte}
 
 -- A FIELD: at a place of the line, and past its end.
 taken : ℕ → ℕ → Taken
@@ -54,6 +54,38 @@ field-here number line at end code h e f =
 
 pub end-next : (line : List ℕ) (at end : ℕ) → at ≤ length line → end ≡ fieldEnd line at → (at ≤ end) × (end ≤ length line)
 end-next line at end h e = (subst (λ n. at ≤ n) (sym e) (end-from line at), subst (λ n. n ≤ length line) (sym e) (end-within line at h))
+
+-- where two fields are the same, so are those taken behind them
+behind : (number : ℕ) (line : List ℕ) {f g : Taken} → f ≡ g → takenAt number line (f .next) ≡ takenAt number line (g .next)
+behind number line e = ap (λ (f : Taken). takenAt number line (f .next)) e
+
+-- fields each of which is the one taken behind the one before, gathered, are all that is taken of the line
+pub all-taken : (line : List ℕ) {f₀ f₁ f₂ f₃ f₄ f₅ f₆ f₇ f₈ f₉ f₁₀ : Taken} {r : Codes}
+    → f₀ ≡ takenAt 0 line 0
+    → f₁ ≡ takenAt 1 line (f₀ .next)
+    → f₂ ≡ takenAt 2 line (f₁ .next)
+    → f₃ ≡ takenAt 3 line (f₂ .next)
+    → f₄ ≡ takenAt 4 line (f₃ .next)
+    → f₅ ≡ takenAt 5 line (f₄ .next)
+    → f₆ ≡ takenAt 6 line (f₅ .next)
+    → f₇ ≡ takenAt 7 line (f₆ .next)
+    → f₈ ≡ takenAt 8 line (f₇ .next)
+    → f₉ ≡ takenAt 9 line (f₈ .next)
+    → f₁₀ ≡ takenAt 10 line (f₉ .next)
+    → r ≡ gatheredOf f₀ f₁ f₂ f₃ f₄ f₅ f₆ f₇ f₈ f₉ f₁₀ → r ≡ allTaken line
+unfolding allTaken
+all-taken line e₀ e₁ e₂ e₃ e₄ e₅ e₆ e₇ e₈ e₉ e₁₀ e =
+    let p₁ = e₁ ∙ behind 1 line e₀ in
+    let p₂ = e₂ ∙ behind 2 line p₁ in
+    let p₃ = e₃ ∙ behind 3 line p₂ in
+    let p₄ = e₄ ∙ behind 4 line p₃ in
+    let p₅ = e₅ ∙ behind 5 line p₄ in
+    let p₆ = e₆ ∙ behind 6 line p₅ in
+    let p₇ = e₇ ∙ behind 7 line p₆ in
+    let p₈ = e₈ ∙ behind 8 line p₇ in
+    let p₉ = e₉ ∙ behind 9 line p₈ in
+    let p₁₀ = e₁₀ ∙ behind 10 line p₉ in
+    e ∙ (λ i. gatheredOf (e₀ i) (p₁ i) (p₂ i) (p₃ i) (p₄ i) (p₅ i) (p₆ i) (p₇ i) (p₈ i) (p₉ i) (p₁₀ i))
 
 -- ALL FIELDS, one after another for any columns
 takenFrom : List (List ℕ → ℕ) → List ℕ → ℕ → Codes
