@@ -328,6 +328,10 @@ times-not-more : (n : ℕ) (ended : Bool) (space : ℕ) (h : Held) → size (tim
 times-not-more zero ended space h = omega arith
 times-not-more (suc n) ended space h = omega (arith, times-not-more n ended space (bite ended space h), bite-not-more ended space h)
 
+pub eaten-not-more : (ended : Bool) (space : ℕ) (h : Held) → size (eaten ended space h) ≤ size h
+unfolding eaten
+eaten-not-more ended space h = times-not-more (suc (length (h .rest))) ended space h
+
 -- where a run is ready, eating leaves less to do
 pub eaten-less : (ended : Bool) (space : ℕ) (h : Held) → ready ended space h ≡ true → size (eaten ended space h) < size h
 unfolding eaten

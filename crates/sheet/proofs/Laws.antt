@@ -471,6 +471,12 @@ rest-moved piece rest n h r =
     back : n - length rest + length rest ≡ n
     back = omega (arith, short)
 
+-- no more is taken than the piece has
+pub ate-most : {table′ out′ : List ℕ} {r : Eaten} (ended : Bool) (piece : List ℕ) (lines : ℕ) (going : Bool) (table out : List ℕ)
+    → left r table′ out′ ≡ ate ended piece lines going table out → r .taken ≤ length piece
+unfolding ate
+ate-most ended piece lines going table out e = subst (λ n. n ≤ length piece) (sym (ap (λ (x : Left). x .answer .taken) e)) (omega arith)
+
 -- a turn, as the contract says it
 module _ (c : Carried) (got : ℕ) (piece table out : List ℕ) {table′ out′ : List ℕ} {b : Bool} {n : ℕ} {e : Eaten}
     (is-wanted : b ≡ wanted c) (is-held : n ≡ min (c .held + got) (length piece))
@@ -496,12 +502,6 @@ module _ (c : Carried) (got : ℕ) (piece table out : List ℕ) {table′ out′
 
   kept-long : n - e .taken ≡ length (h .rest)
   kept-long = omega (arith, is-taken, rest-short is-rest, length-front n piece within)
-
-  pub taken-most : e .taken ≤ n
-  taken-most = omega (arith, is-taken)
-
-  pub held-most : n ≤ length piece
-  held-most = within
 
   all-of : leftBy ended piece out h ≡ turned c got piece table out
   unfolding turned

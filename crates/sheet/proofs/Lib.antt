@@ -2,3 +2,4 @@ pub mod Laws
 pub mod Bites
 pub mod Runs
 pub mod Turns
+pub mod Ending

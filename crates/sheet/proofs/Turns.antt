@@ -27,7 +27,7 @@ use Rattle.sheet.proofs.Bites.{nothing, eaten-stops}
 use Rattle.sheet.proofs.Runs.{run-is-sheet}
 
 -- what is put in front of a buffer is found there
-in-front : (s buffer : List ℕ) → take (length s) (inFront s buffer) ≡ s
+pub in-front : (s buffer : List ℕ) → take (length s) (inFront s buffer) ≡ s
 in-front s buffer = take-at s (drop (length s) buffer) (length s) refl
 
 -- ONE TURN by what is held before it: the bytes that arrived are read, and all that is held is eaten into the buffer.
@@ -76,7 +76,7 @@ over-runs ended h input f e = go (h .going) refl e
         (ltb-true 0 (h .lines) (and-right (eqb (length (h .rest)) 0) _ none)))
 
 -- no input is left behind a turn that finds its end
-none-left : (ended : Bool) (h : Held) (arrived input : List ℕ) → (ended ≡ true → arrived ++ input ≡ [])
+pub none-left : (ended : Bool) (h : Held) (arrived input : List ℕ) → (ended ≡ true → arrived ++ input ≡ [])
     → (wanted (carriedOf ended h) ≡ true → arrived ≡ [] → input ≡ []) → endedBy (carriedOf ended h) (length arrived) ≡ true → input ≡ []
 none-left ended h arrived input f g e = go ended refl e
   where

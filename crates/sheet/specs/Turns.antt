@@ -91,3 +91,8 @@ pub data Turns : Turned → List ℕ → List ℕ → List ℕ → List ℕ → 
       → r ≡ turned (a .carried) (length arrived) piece′ table out
       → Turns (r .answer) (r .piece) (r .table) (r .out) input written
       → Turns a piece table out (arrived ++ input) (take (a .put) out ++ written)
+
+-- behind such a call, with this input to come, something is written: there are turns to the end
+pub record SomeTurns (a : Turned) (piece table out input : List ℕ) : Type 0 where
+  pub written : List ℕ
+  pub turns : Turns a piece table out input written

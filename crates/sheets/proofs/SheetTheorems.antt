@@ -30,7 +30,7 @@ use Rattle.sheet.specs.Sheet.{refuse, header, mostLines, onLine, answers, start
 use Rattle.sheet.specs.declared.Carried.{Carried}
 use Rattle.sheet.specs.Pieces.{Held, sure, ready, eaten, total}
 use Rattle.sheet.specs.Runs.{emptied, withPiece, Run, SomeRun, start}
-use Rattle.sheet.specs.Turns.{answerWith, begunWith, begun, inFront, endedBy, carriedOf, leftBy, turned, Turns}
+use Rattle.sheet.specs.Turns.{enough, answerWith, begunWith, begun, inFront, endedBy, carriedOf, leftBy, turned, Turns, SomeTurns}
 use Rattle.sheets.specs.Pages.{exampleIn, exampleOut, cases, asSaid}
 use Rattle.sheets.specs.Good.{eventOn, eventsOf, good, AllGood, foundBehind, answerLines, names}
 use Rattle.sheets.specs.Refused.{RefusedWith, LineIs, SheetSays}
@@ -40,6 +40,7 @@ use Rattle.sheets.specs.Calls.{callOf, spelled}
 use Rattle.sheet.proofs.Bites.{eaten-keeps, eaten-stops}
 use Rattle.sheet.proofs.Runs.{run-is-sheet, runs-agree, run-exists}
 use Rattle.sheet.proofs.Turns.{turn-eats, turn-runs, turn-stops, begun-start, turns-write}
+use Rattle.sheet.proofs.Ending.{turns-exist}
 use Rattle.sheets.proofs.Good.{no-fault, entry-no-fault}
 use Rattle.sheets.proofs.Answers.{good-accepted, good-then-more, good-alone, answer-behind}
 use Rattle.sheets.proofs.Named.{named}
@@ -99,6 +100,11 @@ piece-progress = eaten-stops
 pub program-writes-sheet : (piece table out : List ℕ) {input written : List ℕ} → length table ≡ mostPairs → room ≤ length out
     → Turns (begun table out .answer) piece (begun table out .table) (begun table out .out) input written → written ≡ sheetOut input
 program-writes-sheet = turns-write
+
+-- There are such turns for every input, where a piece has room for enough bytes: each turn leaves less to do.
+pub program-ends : (piece table out input : List ℕ) → length table ≡ mostPairs → room ≤ length out → enough ≤ length piece
+    → SomeTurns (begun table out .answer) piece (begun table out .table) (begun table out .out) input
+program-ends = turns-exist
 
 -- It begins at the start of a run, with the header's line put.
 pub begins-at-start : (table out : List ℕ) → length table ≡ mostPairs → room ≤ length out

@@ -3,7 +3,7 @@
 use native.Mathlib.Omega.{arith}
 use denote.Ref.{now}
 use lib.ListN.{length-take}
-use Rattle.sheet.proofs.Laws.{turn-is, taken-most, held-most}
+use Rattle.sheet.proofs.Laws.{ate-most, turn-is}
 use borrow.Author.Needs.{needs}
 use Rattle.sheet.proofs.turn.Statement.{statement}
 use Rattle.sheet.proofs.turn.Tie as tie
@@ -24,10 +24,10 @@ eat-requires : tie.Need-eat-requires
 eat-requires c κs = tt
 
 sub-rest : tie.Need-sub-rest
-sub-rest c = taken-most (c .before .before .before .before .before .before .before .before .before .before .before .before .before .before .args .carried) (c .before .before .before .before .before .before .before .before .before .before .before .before .before .before .args .got) (now (c .before .before .before .before .before .before .before .before .before .before .before .before .before .before .args .piece)) (now (c .before .before .before .before .before .before .before .before .before .before .before .before .before .before .args .table)) (now (c .before .before .before .before .before .before .before .before .before .before .before .before .before .before .args .out)) (c .before .before .before .before .before .before .before .before .before .before .wants-more .ensures) (c .before .before .before .before .before .before .before .before .held-with .ensures) (c .before .before .before .before .eat .ensures)
+sub-rest c = omega (arith, ate-most _ _ _ _ _ _ (c .before .before .before .before .eat .ensures), length-take (c .before .before .before .before .before .before .before .before .held-with .result) (now (c .before .before .before .before .before .before .before .before .before .before .before .before .before .before .args .piece)))
 
 move-down-requires : tie.Need-move-down-requires
-move-down-requires c κs = omega (arith, taken-most (c .before .before .before .before .before .before .before .before .before .before .before .before .before .before .before .args .carried) (c .before .before .before .before .before .before .before .before .before .before .before .before .before .before .before .args .got) (now (c .before .before .before .before .before .before .before .before .before .before .before .before .before .before .before .args .piece)) (now (c .before .before .before .before .before .before .before .before .before .before .before .before .before .before .before .args .table)) (now (c .before .before .before .before .before .before .before .before .before .before .before .before .before .before .before .args .out)) (c .before .before .before .before .before .before .before .before .before .before .before .wants-more .ensures) (c .before .before .before .before .before .before .before .before .before .held-with .ensures) (c .before .before .before .before .before .eat .ensures), held-most (c .before .before .before .before .before .before .before .before .before .before .before .before .before .before .before .args .carried) (c .before .before .before .before .before .before .before .before .before .before .before .before .before .before .before .args .got) (now (c .before .before .before .before .before .before .before .before .before .before .before .before .before .before .before .args .piece)) (now (c .before .before .before .before .before .before .before .before .before .before .before .before .before .before .before .args .table)) (now (c .before .before .before .before .before .before .before .before .before .before .before .before .before .before .before .args .out)) (c .before .before .before .before .before .before .before .before .before .before .before .wants-more .ensures) (c .before .before .before .before .before .before .before .before .before .held-with .ensures) (c .before .before .before .before .before .eat .ensures))
+move-down-requires c κs = omega (arith, ate-most _ _ _ _ _ _ (c .before .before .before .before .before .eat .ensures), length-take (c .before .before .before .before .before .before .before .before .before .held-with .result) (now (c .before .before .before .before .before .before .before .before .before .before .before .before .before .before .before .args .piece)), c .before .before .before .before .before .before .before .before .before .held-with .ensures)
 
 answer-requires : tie.Need-answer-requires
 answer-requires c κs = tt
