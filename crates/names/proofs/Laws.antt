@@ -14,7 +14,7 @@ use lib.Seq.{drop-cons}
 use Rattle.kinds.specs.Tests.{same, all}
 use Rattle.kinds.specs.Answers.{SnpResp-I}
 use Rattle.kinds.proofs.Lists.{and-left, and-right}
-use Rattle.names.specs.Names.{Named, unknown, codeOf, mostDigits, isDigit, leadingZero, isPair, decimal, pairOf, responses, answers, answerAt, columns, inColumn}
+use Rattle.names.specs.Names.{Named, unknown, codeOf, mostDigits, isDigit, leadingZero, isPair, decimal, pairOf, answers, answerAt, columns, inColumn}
 
 and-false : (b : Bool) {a : Bool} → a ≡ false → b && a ≡ false
 and-false true h = h

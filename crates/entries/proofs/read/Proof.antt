@@ -1,7 +1,6 @@
 -- `entries::read` meets its contract: 8, then 3, else the pair and the event.
 -- Assumes nothing.
 use mathlib.Core.Path.{_∙_}
-use native.Mathlib.Omega.{arith}
 use borrow.Author.Tests.{not-true, not-false}
 use denote.Ref.{now}
 use Rattle.entries.proofs.Events.{found-ill, found-high, found-fine}
