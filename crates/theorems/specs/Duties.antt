@@ -6,7 +6,7 @@ use mathlib.Core.List.{List}
 use lib.Dec.{eqb}
 use Rattle.kinds.specs.Tests.{any}
 use Rattle.kinds.specs.Codes.{SC, UD, dirty, NDERR, DAT, SnpPreferUniqueFwd, respPD, fwdPD}
-use Rattle.rows.specs.Event.{byte, requestOf, exclOf, respOf, respErrOf}
+use Rattle.rows.specs.Event.{requestOf, exclOf, channelOf, respOf, respErrOf, forwardedOf, forwardedRespOf}
 use Rattle.rows.specs.Rows.{rows·B4·60}
 use Rattle.rows.specs.Permitted.{holds, permitted}
 use Rattle.steps.specs.Steps.{duty, noDuty, Home, Requester, lost}
@@ -17,7 +17,7 @@ tellsHome e = respPD (respOf e)
 
 -- the Requester is told: by the Resp of the data forwarded to it
 abbrev pub tellsRequester : List ℕ → Bool
-tellsRequester e = eqb (byte e 11) 1 && fwdPD (byte e 12)
+tellsRequester e = eqb (forwardedOf e) 1 && fwdPD (forwardedRespOf e)
 
 -- the answer is a non-data error
 abbrev pub nonDataError : List ℕ → Bool
@@ -43,7 +43,7 @@ pub record NobodyTold (e : List ℕ) (wasDirty : Bool) (d : ℕ) : Type 0 where
 
 -- Wrong: data sent Home is the duty to Home.
 abbrev pub DataIsDuty : Type 0
-DataIsDuty = (e : List ℕ) (t s s′ : ℕ) → permitted e t s s′ ≡ true → dirty s ≡ true → dirty s′ ≡ false → byte e 5 ≡ DAT → duty e (2 ^ s) ≡ Home
+DataIsDuty = (e : List ℕ) (t s s′ : ℕ) → permitted e t s s′ ≡ true → dirty s ≡ true → dirty s′ ≡ false → channelOf e ≡ DAT → duty e (2 ^ s) ≡ Home
 
 -- Wrong: SC in the answer, as SC or as SC_PD, is SC kept.
 abbrev pub SCIsKept : ℕ → Type 0
