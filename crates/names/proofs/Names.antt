@@ -13,19 +13,10 @@ use lib.Dec.{eqb, ltb, leb}
 use lib.ListN.{length}
 use Rattle.text.specs.Text.{bytes}
 use Rattle.kinds.specs.Tests.{same, all}
-use Rattle.kinds.proofs.Lists.{In, here, there, and-left, and-right, and-both, all-at}
+use Rattle.kinds.proofs.Lists.{In, here, there, and-left, and-right, and-both, all-at, same-equal}
 use Rattle.names.specs.Names.{Named, unknown, codeOf, requestNames, flagNames, tagNames, responses, responseNames, tagOpNames, respErrNames, forwardNames, finalNames, mostDigits, isDigit, leadingZero, isPair, decimal, pairOf, columns}
 
--- the test on two lists is their equality
-pub same-equal : (f n : List ℕ) → same f n ≡ true → f ≡ n
-same-equal [] [] h = refl
-same-equal [] (y ∷ ys) h = absurd (false≢true h)
-same-equal (x ∷ xs) [] h = absurd (false≢true h)
-same-equal (x ∷ xs) (y ∷ ys) h =
-    let p = eqb-true x y (and-left (eqb x y) (same xs ys) h) in
-    let q = same-equal xs ys (and-right (eqb x y) (same xs ys) h) in
-    cc
-
+-- the test on two lists is their equality: `same-equal` of kinds, and the other way round
 pub same-self : (f : List ℕ) → same f f ≡ true
 same-self [] = refl
 same-self (x ∷ xs) = and-both (eq-eqb x x refl) (same-self xs)

@@ -13,7 +13,8 @@ use Rattle.kinds.specs.Tests.{same}
 use Rattle.kinds.specs.Places.{highestPair}
 use Rattle.kinds.proofs.Lists.{and-both}
 use Rattle.names.specs.Columns.{pairCode}
-use Rattle.names.proofs.Names.{same-equal, same-self}
+use Rattle.kinds.proofs.Lists.{same-equal}
+use Rattle.names.proofs.Names.{same-self}
 use Rattle.trace.specs.Events.{run}
 use Rattle.entries.specs.Entries.{lineCodes, wellFormed, entryOf}
 use Rattle.entries.specs.declared.Entry.{Entry}
