@@ -31,8 +31,8 @@ pub struct Carried {
     pub ended: bool,
 }
 
-// A turn's answer: what is carried on, how many bytes of the buffer are to be written now, whether a read is wanted before the next turn, and
-// whether the run is over.
+// A turn's answer: what is carried on, how many bytes of the buffer are to be written now, whether a read is wanted before the next turn,
+// and whether the run is over.
 pub struct Turned {
     pub carried: Carried,
     pub put: usize,

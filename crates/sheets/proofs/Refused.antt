@@ -11,9 +11,8 @@ use lib.Dec.{eqb, ltb}
 use lib.ListN.{length}
 use Rattle.kinds.specs.Tests.{same}
 use Rattle.kinds.specs.Places.{highestPair}
-use Rattle.kinds.proofs.Lists.{and-both}
+use Rattle.kinds.proofs.Lists.{and-both, same-equal}
 use Rattle.names.specs.Columns.{pairCode}
-use Rattle.kinds.proofs.Lists.{same-equal}
 use Rattle.names.proofs.Names.{same-self}
 use Rattle.trace.specs.Events.{run}
 use Rattle.entries.specs.Entries.{lineCodes, wellFormed, entryOf}
