@@ -3,9 +3,9 @@
 use mathlib.Core.Path.{_≡_, refl}
 use mathlib.Core.List.{_++_}
 use Prim.Native.Nat.{ℕ, _+_}
-use Rattle.kinds.specs.Codes.{I, SC}
+use Rattle.kinds.specs.Codes.{allStates}
 use Rattle.sets.specs.Sets.{bit}
-use Rattle.steps.specs.Steps.{noDuty, Home}
+use Rattle.steps.specs.Steps.{noDuty, Home, Requester, lost}
 use Rattle.verdicts.specs.Verdicts.{explained, unexplained, notJudged}
 use Rattle.verdicts.specs.declared.Finding.{Finding}
 use Rattle.text.specs.Text.{bytes, eol}
@@ -36,7 +36,7 @@ page = refl
 
 -- a late event with every state, a duty of the Requester and one that is lost
 pub all-states :
-    answerLine 999999 (found explained 2 127) ++ answerLine 1000000 (found explained 3 1)
+    answerLine 999999 (found explained Requester allStates) ++ answerLine 1000000 (found explained lost 1)
     ≡ bytes "999999,explained,Requester,I UC UCE UD UDP SC SD" ++ eol ++ bytes "1000000,explained,lost,I" ++ eol
 unfolding answerLine decimal verdictText dutyText statesText bit
 all-states = refl

@@ -5,22 +5,27 @@ use mathlib.Core.Path.{_≡_}
 use Prim.Native.Nat.{ℕ, _≤_}
 use native.Mathlib.Omega.{arith}
 use lib.ListN.{length, length-replicate}
+use Rattle.kinds.specs.Places.{mostPairs}
 use Rattle.sheet.proofs.Laws.{begun-within, turned-within}
 use borrow.Author.Needs.{needs}
 use Rattle.bench_sheet.proofs.main.Statement.{statement}
 use Rattle.bench_sheet.proofs.main.Tie as tie
 
+-- the size of the two buffers
+abbrev size : ℕ
+size = 65536
+
 abbrev Inv-loop : tie.InvT-loop
-Inv-loop piece₀ table₀ out₀ run₀ turns₀ piece table out run turns = (length piece ≡ 65536) × (length table ≡ 4096) × (length out ≡ 65536) × (run .carried .held ≤ 65536)
+Inv-loop piece₀ table₀ out₀ run₀ turns₀ piece table out run turns = (length piece ≡ size) × (length table ≡ mostPairs) × (length out ≡ size) × (run .carried .held ≤ size)
 
 abbrev μ-loop : tie.MeasureT-loop
 μ-loop piece₀ table₀ out₀ run₀ turns₀ piece table out run turns = turns
 
 slice-aggregate-begin : tie.Need-slice-aggregate-begin Inv-loop μ-loop
-slice-aggregate-begin c = length-replicate {A = ℕ} 4096 0
+slice-aggregate-begin c = length-replicate {A = ℕ} mostPairs 0
 
 slice-aggregate-begin-2 : tie.Need-slice-aggregate-begin-2 Inv-loop μ-loop
-slice-aggregate-begin-2 c = length-replicate {A = ℕ} 65536 0
+slice-aggregate-begin-2 c = length-replicate {A = ℕ} size 0
 
 begin-requires : tie.Need-begin-requires Inv-loop μ-loop
 begin-requires c κs = tt
@@ -29,13 +34,13 @@ slice-aggregate-write-out : tie.Need-slice-aggregate-write-out Inv-loop μ-loop
 slice-aggregate-write-out c = search needs
 
 write-out-requires : tie.Need-write-out-requires Inv-loop μ-loop
-write-out-requires c κs = begun-within _ _ (omega (arith, length-replicate {A = ℕ} 65536 0)) (c .before .before .before .begin .ensures) .1
+write-out-requires c κs = begun-within _ _ (omega (arith, length-replicate {A = ℕ} size 0)) (c .before .before .before .begin .ensures) .1
 
 returns : tie.Need-returns Inv-loop μ-loop
 returns c = tt
 
 loop-holds : tie.Need-loop-holds Inv-loop μ-loop
-loop-holds c = (length-replicate {A = ℕ} 65536 0, search needs, search needs, omega (arith, begun-within _ _ (omega (arith, length-replicate {A = ℕ} 65536 0)) (c .before .before .before .before .before .begin .ensures) .0))
+loop-holds c = (length-replicate {A = ℕ} size 0, search needs, search needs, omega (arith, begun-within _ _ (omega (arith, length-replicate {A = ℕ} size 0)) (c .before .before .before .before .before .begin .ensures) .0))
 
 slice-aggregate-read-wanted : tie.Need-slice-aggregate-read-wanted Inv-loop μ-loop
 slice-aggregate-read-wanted c = search needs
