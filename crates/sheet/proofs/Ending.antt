@@ -2,21 +2,20 @@
 -- Assumes nothing.
 use mathlib.Core.Path.{_≡_, refl, sym, _∙_, ap, ap₂, subst}
 use mathlib.Core.Bool.{Bool, true, false, cond, not, _&&_, _||_, false≢true}
-use mathlib.Core.List.{List, [], _∷_, _++_, append-nil}
+use mathlib.Core.List.{List, [], _++_, append-nil}
 use Prim.Native.Nat.{ℕ, zero, suc, _+_, _-_, _≤_, _<_}
 use native.Mathlib.Nat.{le-trans}
 use native.Mathlib.Omega.{arith}
 use borrow.Author.Tests.{le-leb, lt-ltb, le-ltb, ltb-true, ltb-false, eq-eqb, ne-eqb, eqb-true, eqb-false}
-use lib.Dec.{eqb, leb, ltb}
+use lib.Dec.{eqb, ltb}
 use lib.ListN.{length, take, drop, take-append-drop, length-append, length-take, length-drop}
-use lib.Seq.{take-at}
 use Rattle.kinds.specs.Places.{mostPairs}
 use Rattle.kinds.proofs.Lists.{and-left, and-right, and-both, or-right}
 use Rattle.lines.specs.Seen.{tooLong}
 use Rattle.replies.specs.Replies.{room, headerLine}
 use Rattle.sheet.specs.Pieces.{Held, held, whole, sure, ready, eaten}
 use Rattle.sheet.specs.Runs.{emptied, withPiece, start}
-use Rattle.sheet.specs.Turns.{enough, wanted, isOver, answerWith, Begun, begun, inFront, endedBy, carriedOf, leftBy, turned, Left, Turns, ends, goes, SomeTurns}
+use Rattle.sheet.specs.Turns.{enough, wanted, isOver, answerWith, Begun, begun, inFront, endedBy, carriedOf, leftBy, last, more, SomeTurns}
 use Rattle.sheet.proofs.Bites.{nothing, size, eaten-less, eaten-not-more}
 use Rattle.sheet.proofs.Laws.{positive}
 use Rattle.sheet.proofs.Turns.{in-front, turn-eats, none-left, begun-start}
@@ -207,7 +206,7 @@ module _ (ended : Bool) (h : Held) (piece out input : List ℕ) where
       (record {
         written = take put out ++ x .written;
         turns =
-            goes arrived filled (leftBy now filled out h′) o (stands ∙ ap (λ (s : List ℕ). s ++ arrived) (sym front)) (none-taken w free input)
+            more arrived filled (leftBy now filled out h′) o (stands ∙ ap (λ (s : List ℕ). s ++ arrived) (sym front)) (none-taken w free input)
             (all-taken w free input (has-place long)) (sym (turn-eats ended h arrived filled out stands)) (x .turns);
       })
 
@@ -215,9 +214,9 @@ module _ (ended : Bool) (h : Held) (piece out input : List ℕ) where
 turns-on : (n : ℕ) (ended : Bool) (h : Held) (put : ℕ) (piece out input : List ℕ) → take (length (h .rest)) piece ≡ h .rest → enough ≤ length piece
     → room ≤ length out → (ended ≡ true → input ≡ []) → toDo ended (size h) (length input) ≤ n → (b : Bool) → isOver (carriedOf ended h) ≡ b
     → SomeTurns (answerWith (carriedOf ended h) put) piece (h .table) out input
-turns-on zero ended h put piece out input front long roomy f few true o = record { written = take put out; turns = ends o }
+turns-on zero ended h put piece out input front long roomy f few true o = record { written = take put out; turns = last o }
 turns-on zero ended h put piece out input front long roomy f few false o = absurd (omega (arith, few, fewer ended h piece out input roomy o))
-turns-on (suc n) ended h put piece out input front long roomy f few true o = record { written = take put out; turns = ends o }
+turns-on (suc n) ended h put piece out input front long roomy f few true o = record { written = take put out; turns = last o }
 turns-on (suc n) ended h put piece out input front long roomy f few false o =
     step ended h piece out input put front long o
     (turns-on n (now ended h piece out input) (h′ ended h piece out input) (length (h′ ended h piece out input .text))

@@ -2,7 +2,7 @@
 -- Assumes nothing.
 use mathlib.Core.Path.{_≡_, refl, sym, _∙_, ap, ap₂, subst}
 use mathlib.Core.Bool.{Bool, true, false, cond, _&&_, _||_, false≢true}
-use mathlib.Core.List.{List, [], _∷_, _++_, append-nil}
+use mathlib.Core.List.{List, [], _++_, append-nil}
 use Prim.Native.Nat.{ℕ, zero, suc, _+_, _-_, _≤_, _<_, _^_, min}
 use native.Mathlib.Nat.{add-zero, zero-add, add-assoc, add-comm, le-of-eq}
 use native.Mathlib.Omega.{arith}
@@ -19,7 +19,7 @@ use Rattle.trace.specs.Events.{moved}
 use Rattle.entries.specs.Entries.{entryOf}
 use Rattle.entries.specs.declared.Entry.{Entry}
 use Rattle.replies.specs.Laid.{Laid, laid, lay, layAll}
-use Rattle.replies.specs.Replies.{room, headerLine, answerLine, refusedLine, answerTexts, refusalTexts}
+use Rattle.replies.specs.Replies.{room, headerLine, answerLine, answerTexts, refusalTexts}
 use Rattle.replies.proofs.Laws.{length-in, answer-short, answer-laid, refusal-short, refusal-laid, header-laid, length-lay}
 use Rattle.lines.specs.Lines.{crlf}
 use Rattle.lines.specs.Seen.{tooLong, reach, lineEnd}

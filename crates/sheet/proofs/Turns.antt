@@ -2,8 +2,8 @@
 -- Assumes nothing.
 use mathlib.Core.Path.{_≡_, refl, sym, _∙_, ap, ap₂, subst}
 use mathlib.Core.Bool.{Bool, true, false, not, _&&_, _||_, false≢true}
-use mathlib.Core.List.{List, [], _∷_, _++_, append-nil}
-use Prim.Native.Nat.{ℕ, _+_, _≤_, _<_}
+use mathlib.Core.List.{List, [], _++_, append-nil}
+use Prim.Native.Nat.{ℕ, _+_, _≤_}
 use native.Mathlib.Nat.{le-of-eq}
 use native.Mathlib.Omega.{arith}
 use borrow.Author.Tests.{eqb-true, ltb-true}
@@ -13,16 +13,15 @@ use lib.Seq.{take-at}
 use Rattle.kinds.specs.Codes.{allStates}
 use Rattle.kinds.specs.Places.{mostPairs}
 use Rattle.kinds.proofs.Lists.{and-left, and-right}
-use Rattle.replies.specs.Laid.{Laid, laid, lay}
+use Rattle.replies.specs.Laid.{Laid}
 use Rattle.replies.specs.Replies.{room, headerLine}
 use Rattle.replies.proofs.Laws.{header-laid}
 use Rattle.sheet.specs.declared.Carried.{Carried}
 use Rattle.sheet.specs.declared.Turned.{Turned}
 use Rattle.sheet.specs.Sheet.{startTable, sheetOut}
 use Rattle.sheet.specs.Pieces.{Held, held, sure, ready, eaten}
-use Rattle.sheet.specs.Runs.{emptied, withPiece, Run, reads, eats, refused, done, start}
-use Rattle.sheet.specs.Runs as runs
-use Rattle.sheet.specs.Turns.{wanted, isOver, answerWith, Begun, begunWith, begun, Left, leftWith, inFront, endedBy, carriedOf, leftBy, turned, Turns, ends, goes}
+use Rattle.sheet.specs.Runs.{emptied, withPiece, Run, reads, eats, ends, refused, done, start}
+use Rattle.sheet.specs.Turns.{wanted, isOver, answerWith, Begun, begunWith, begun, Left, inFront, endedBy, carriedOf, leftBy, turned, Turns, last, more}
 use Rattle.sheet.proofs.Bites.{nothing, eaten-stops}
 use Rattle.sheet.proofs.Runs.{run-is-sheet}
 
@@ -50,7 +49,7 @@ turn-runs {h} {input} {out} ended space arrived f r = reads arrived (go ended f 
     go false g x = eats space x
     go true g x =
         subst (λ (s : List ℕ). Run (withPiece h arrived) s (eaten true space (emptied (withPiece h arrived)) .text ++ out)) (sym (g refl))
-        (runs.ends space (subst (λ (s : List ℕ). Run (eaten true space (emptied (withPiece h arrived))) s out) (g refl) x))
+        (ends space (subst (λ (s : List ℕ). Run (eaten true space (emptied (withPiece h arrived))) s out) (g refl) x))
 
 -- IT GOES AS FAR AS IT CAN: behind a turn a refusal has ended the run, or the buffer has no room for a line, or too little is known of the next.
 pub turn-stops : (c : Carried) (got : ℕ) (piece table out : List ℕ)
@@ -105,12 +104,12 @@ one-more put h ended space arrived f e x = record {
 turns-run : {a : Turned} {piece table out input written : List ℕ} → Turns a piece table out input written → (ended : Bool) (h : Held) (put : ℕ)
     → a ≡ answerWith (carriedOf ended h) put → take (length (h .rest)) piece ≡ h .rest → table ≡ h .table → (ended ≡ true → input ≡ [])
     → Then (take (a .put) out) h input written
-turns-run (ends {a = a} {out = out} {input = input} q) ended h put e front t f = record {
+turns-run (last {a = a} {out = out} {input = input} q) ended h put e front t f = record {
   out = [];
   so = sym (append-nil (take (a .put) out));
   run = over-runs ended h input f (sym (ap (λ (x : Turned). x .over) e) ∙ q);
 }
-turns-run (goes {a = a} {piece = piece} {table = table} {out = out} {input = input} {written = written} arrived piece′ r not-over stands unwanted at-end is-r more) ended h put e front t f =
+turns-run (more {a = a} {piece = piece} {table = table} {out = out} {input = input} {written = written} arrived piece′ r not-over stands unwanted at-end is-r others) ended h put e front t f =
     let now-ended : Bool = endedBy (carriedOf ended h) (length arrived) in
     let h′ : Held = eaten now-ended (length out) (emptied (withPiece h arrived)) in
     let is-c : a .carried ≡ carriedOf ended h = ap (λ (x : Turned). x .carried) e in
@@ -122,7 +121,7 @@ turns-run (goes {a = a} {piece = piece} {table = table} {out = out} {input = inp
     let no-input : now-ended ≡ true → input ≡ [] = none-left ended h arrived input f (λ w. at-end (ap (λ (x : Turned). x .wants) e ∙ w)) in
     one-more (take (a .put) out) h now-ended (length out) arrived no-input
     (ap (λ (x : Left). take (x .answer .put) (x .out)) is-left ∙ in-front (h′ .text) out)
-    (turns-run more now-ended h′ (length (h′ .text)) (ap (λ (x : Left). x .answer) is-left)
+    (turns-run others now-ended h′ (length (h′ .text)) (ap (λ (x : Left). x .answer) is-left)
     (ap (λ (x : Left). take (length (h′ .rest)) (x .piece)) is-left ∙ in-front (h′ .rest) piece′) (ap (λ (x : Left). x .table) is-left) no-input)
 
 -- with room for a line and a table of as many pairs as a sheet has, the program begins with the header's line and the start of a run

@@ -81,10 +81,10 @@ turned c got piece table out =
 -- `Turns a piece table out input written`: behind a call that answered a and left these buffers, with this input to come, the program writes this
 pub data Turns : Turned → List ℕ → List ℕ → List ℕ → List ℕ → List ℕ → Type 0 where
   -- the run is over: what was put is written
-  ends : {a : Turned} {piece table out input : List ℕ} → a .over ≡ true → Turns a piece table out input (take (a .put) out)
+  last : {a : Turned} {piece table out input : List ℕ} → a .over ≡ true → Turns a piece table out input (take (a .put) out)
   -- it is not: what was put is written, bytes arrive behind those that are held, and `turn` is called. None arrive where no read is wanted;
   -- where one is, none arrive only at the end of the input
-  goes : {a : Turned} {piece table out input written : List ℕ} (arrived piece′ : List ℕ) (r : Left) → a .over ≡ false
+  more : {a : Turned} {piece table out input written : List ℕ} (arrived piece′ : List ℕ) (r : Left) → a .over ≡ false
       → take (a .carried .held + length arrived) piece′ ≡ take (a .carried .held) piece ++ arrived
       → (a .wants ≡ false → arrived ≡ [])
       → (a .wants ≡ true → arrived ≡ [] → input ≡ [])
