@@ -15,11 +15,11 @@ use Rattle.kinds.specs.declared.Answer.{Answer}
 use Rattle.kinds.specs.declared.Answer.the-variants.{SnpResp, SnpRespData, SnpRespDataPtl}
 use Rattle.kinds.specs.declared.Forward.{Forward}
 use Rattle.kinds.specs.declared.Forward.the-variants.{NoForward, CompData}
-use Rattle.kinds.specs.Answers.{wire, forwardWire}
+use Rattle.kinds.specs.Answers.{forwardAt, wire, forwardWire}
 use Rattle.kinds.proofs.Lists.{and-right}
 use Rattle.fields.specs.Fields.{fieldsOf, fieldsFrom, fieldEnd}
 use Rattle.fields.proofs.Laws.{end-from, end-within, fields-start, fields-none, fields-step}
-use Rattle.names.specs.Names.{unknown, columns, inColumn, answerAt, forwardAt}
+use Rattle.names.specs.Names.{unknown, columns, inColumn, answerAt}
 use Rattle.names.specs.Columns.{requestCode, retToSrcCode, doNotGoToSDCode, exclCode, tagCode, responseCode, tagOpCode, respErrCode, forwardCode, finalCode}
 use Rattle.entries.specs.declared.Taken.{Taken}
 use Rattle.entries.specs.declared.Codes.{Codes}

@@ -5,10 +5,10 @@ use mathlib.Core.List.{List, [], _∷_, _++_}
 use lib.Dec.{eqb, ltb}
 use lib.ListN.{length, take, replicate}
 use Rattle.kinds.specs.Tests.{all}
-use Rattle.kinds.specs.Answers.{wire, forwardWire}
+use Rattle.kinds.specs.Answers.{forwardAt, wire, forwardWire}
 use Rattle.kinds.specs.Places.{eventLength, highestPair}
 use Rattle.fields.specs.Fields.{fieldsOf}
-use Rattle.names.specs.Names.{unknown, answerAt, forwardAt, columns}
+use Rattle.names.specs.Names.{unknown, answerAt, columns}
 use Rattle.names.specs.Columns.{pairCode, requestCode, retToSrcCode, doNotGoToSDCode, exclCode, tagCode, responseCode, tagOpCode, respErrCode, forwardCode, finalCode}
 use Rattle.entries.specs.declared.Entry.{Entry}
 

@@ -1,5 +1,7 @@
 // A line of the bench sheet read: the pair and the event that it names, or why it is refused.
 use kinds::EVENT_BYTES;
+use kinds::Forward;
+use kinds::FwdState;
 use kinds::HIGHEST_PAIR;
 use kinds::PairNumber;
 use kinds::Refusal;
@@ -179,7 +181,7 @@ fn event_of(codes: [u8; COLUMNS]) -> [u8; EVENT_BYTES]
     ensures { λ r. ⌜ r ≡ eventOf codes ⌝ }
 {
     let answer = names::answer(codes[columns::RESPONSE]).wire();
-    let forward = names::forward_of(codes[columns::FORWARD]).wire();
+    let forward = Forward::from_state(FwdState(codes[columns::FORWARD])).wire();
     [
         codes[columns::REQUEST],
         codes[columns::RET_TO_SRC],

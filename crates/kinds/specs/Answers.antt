@@ -1,13 +1,18 @@
 -- The answers to Home, each with the forwarded data inside it, and the page's values for each case.
 use Prim.Native.Nat.{ℕ}
-use mathlib.Core.Bool.{Bool, true, false}
+use mathlib.Core.Bool.{Bool, true, false, cond}
 use mathlib.Core.List.{List, [], _∷_}
+use lib.Dec.{eqb}
 use Rattle.kinds.specs.Codes.{RSP, DAT, op-SnpResp, op-SnpRespFwded, op-SnpRespData, op-SnpRespDataPtl, op-SnpRespDataFwded, Resp-I, Resp-SC, Resp-SD, Resp-I-PD, Resp-SC-PD, Fwd-SC, Fwd-UC, Fwd-UD-PD, Fwd-SD-PD}
 use Rattle.kinds.specs.declared.Resp.{Resp}
 use Rattle.kinds.specs.declared.Forward.{Forward}
 use Rattle.kinds.specs.declared.Forward.the-variants.{NoForward, CompData}
 use Rattle.kinds.specs.declared.Answer.{Answer}
 use Rattle.kinds.specs.declared.Answer.the-variants.{SnpResp, SnpRespData, SnpRespDataPtl}
+
+-- what a FwdState says is forwarded: nothing at 0
+abbrev pub forwardAt : ℕ → Forward
+forwardAt state = cond (eqb state 0) NoForward (CompData (record { 0 = state }))
 
 -- forwarded data present, its Resp: event bytes 11 and 12
 abbrev pub forwardWire : Forward → List ℕ

@@ -2,7 +2,7 @@
 ghost use mathlib.Core.Path.{_≡_};
 ghost use Rattle.kinds.specs.Codes.{dirty, requests, respPD, fwdPD};
 ghost use Rattle.kinds.specs.Tests.{_∈?_};
-ghost use Rattle.kinds.specs.Answers.{forwardWire, wire, hasData, answerResp, answerFwd};
+ghost use Rattle.kinds.specs.Answers.{forwardAt, forwardWire, wire, hasData, answerResp, answerFwd};
 ghost use Rattle.kinds.specs.Places.{setIn, pairIn, eventIn};
 ghost use lib.Dec.{ltb};
 ghost use lib.ListN.{length, set};
@@ -202,6 +202,18 @@ pub enum Forward {
 }
 
 impl Forward {
+    // What a FwdState says is forwarded.
+    pub fn from_state(state: FwdState) -> Forward
+        ensures { λ r. ⌜ r ≡ forwardAt (state .0) ⌝ }
+    {
+        let n = state.0;
+        if n == FwdState::NONE.0 {
+            Forward::NoForward
+        } else {
+            Forward::CompData(state)
+        }
+    }
+
     // What the bus shows of it: whether data is forwarded, and its Resp.
     pub fn wire(self) -> [u8; 2]
         ensures { λ r. ⌜ r ≡ forwardWire self ⌝ }

@@ -8,8 +8,6 @@ use lib.ListN.{length, getD}
 use Rattle.text.specs.Text.{bytes}
 use Rattle.kinds.specs.Tests.{same, all}
 use Rattle.kinds.specs.Codes.{SnpShared, SnpClean, SnpNotSharedDirty, SnpCleanFwd, SnpNotSharedDirtyFwd, SnpPreferUnique, SnpPreferUniqueFwd, tagInvalid, tagClean, tagDirty, tagNotSeen, opInvalid, opTransfer, opUpdate, opMatch, OK, EXOK, DERR, NDERR, Fwd-SC, Fwd-UC, Fwd-UD-PD, Fwd-SD-PD, I, UC, UCE, UD, UDP, SC, SD, stateNotSeen}
-use Rattle.kinds.specs.declared.Forward.{Forward}
-use Rattle.kinds.specs.declared.Forward.the-variants.{NoForward, CompData}
 use Rattle.kinds.specs.declared.Answer.{Answer}
 use Rattle.kinds.specs.Answers.{SnpResp-I, SnpResp-SC, SnpRespData-I, SnpRespData-SC, SnpRespData-SD, SnpRespData-I-PD, SnpRespData-SC-PD, SnpRespDataPtl-I-PD, SnpResp-I-Fwded-SC, SnpResp-SC-Fwded-SC, SnpResp-SD-Fwded-SC, SnpResp-I-Fwded-SD-PD, SnpResp-SC-Fwded-SD-PD, SnpResp-I-Fwded-UC, SnpResp-I-Fwded-UD-PD, SnpRespData-I-Fwded-SC, SnpRespData-SC-Fwded-SC, SnpRespData-SD-Fwded-SC, SnpRespData-I-Fwded-SD-PD, SnpRespData-SC-Fwded-SD-PD, SnpRespData-I-PD-Fwded-SC, SnpRespData-SC-PD-Fwded-SC}
 
@@ -122,10 +120,6 @@ forwardNames =
     named "CompData_UD_PD" Fwd-UD-PD ∷
     named "CompData_SD_PD" Fwd-SD-PD ∷
     []
-
--- what is forwarded, by its FwdState: nothing at 0
-abbrev pub forwardAt : ℕ → Forward
-forwardAt state = cond (eqb state 0) NoForward (CompData (record { 0 = state }))
 
 -- the states after, and ? for one that was not seen
 unfoldable pub finalNames : List Named

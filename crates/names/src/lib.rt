@@ -15,7 +15,7 @@ ghost use lib.ListN.{length};
 ghost use Rattle.kinds.specs.Tests.{same, all};
 ghost use Rattle.names.specs.Names.{codeOf, requestNames, flagNames, tagNames, responseNames, tagOpNames, respErrNames};
 ghost use Rattle.names.specs.Names.{forwardNames, finalNames, unknown, mostDigits, isDigit, decimal, pairOf, inColumn};
-ghost use Rattle.names.specs.Names.{answerAt, forwardAt};
+ghost use Rattle.names.specs.Names.{answerAt};
 
 pub mod columns;
 
@@ -241,17 +241,6 @@ pub fn answer(place: u8) -> Answer
         20 => Answer::SnpRespData(Resp::I_PD, Forward::CompData(FwdState::SC)),
         21 => Answer::SnpRespData(Resp::SC_PD, Forward::CompData(FwdState::SC)),
         _ => Answer::SnpResp(Resp::I, Forward::NoForward),
-    }
-}
-
-// What is forwarded, by its FwdState.
-pub fn forward_of(state: u8) -> Forward
-    ensures { λ r. ⌜ r ≡ forwardAt state ⌝ }
-{
-    if state == FwdState::NONE.0 {
-        Forward::NoForward
-    } else {
-        Forward::CompData(FwdState(state))
     }
 }
 

@@ -13,11 +13,11 @@ use Rattle.kinds.specs.Codes.{requests}
 use Rattle.kinds.specs.Places.{eventLength, mostPairs, highestPair}
 use Rattle.kinds.specs.declared.Answer.{Answer}
 use Rattle.kinds.specs.declared.Forward.the-variants.{NoForward, CompData}
-use Rattle.kinds.specs.Answers.{wire, forwardWire, SnpResp-I}
+use Rattle.kinds.specs.Answers.{forwardAt, wire, forwardWire, SnpResp-I}
 use Rattle.kinds.proofs.Lists.{and-left, and-right, and-both, all-at}
 use Rattle.event.specs.Refusals.{issueE, below, fault}
 use Rattle.fields.specs.Fields.{fieldsOf}
-use Rattle.names.specs.Names.{Named, codeOf, requestNames, responses, answers, answerAt, pairOf, forwardAt, columns}
+use Rattle.names.specs.Names.{Named, codeOf, requestNames, responses, answers, answerAt, pairOf, columns}
 use Rattle.names.specs.Columns.{pairCode, requestCode, retToSrcCode, doNotGoToSDCode, exclCode, tagCode, responseCode, tagOpCode, respErrCode, forwardCode, finalCode}
 use Rattle.names.proofs.Names.{Sought, none, found, seek, pairLimit, limits}
 use Rattle.entries.specs.Entries.{codesOf, lineCodes, known, wellFormed, eventOf, entry, entryOf}

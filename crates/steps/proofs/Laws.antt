@@ -23,9 +23,10 @@ use Rattle.rows.specs.declared.Table.the-variants.{NdErr}
 use Rattle.sets.specs.Sets.{setOf, holdsDirty}
 use Rattle.rows.specs.Event.{byte, requestOf, channelOf, opcodeOf, respOf, fwdStateOf, respErrOf, seen}
 use Rattle.steps.specs.Steps.{duty, noDuty, Home, Requester, lost}
-use Rattle.steps.specs.Code.{bytesFrom, eventBytes, mark, at-before, at-ret, at-table, at-resp, at-fwd, at-message, columnAt, tableAt, forwardAt, answerAt, rowAt, rowFits, rowAdds, tablesOf, messageOf, rowKey, wireKey, eventKey}
+use Rattle.steps.specs.Code.{bytesFrom, eventBytes, mark, at-before, at-ret, at-table, at-resp, at-fwd, at-message, columnAt, tableAt, answerAt, rowAt, rowFits, rowAdds, tablesOf, messageOf, rowKey, wireKey, eventKey}
 use Rattle.steps.specs.declared.Row as code
 use Rattle.kinds.specs.declared.Forward.{Forward}
+use Rattle.kinds.specs.Answers.{forwardAt}
 
 -- the sets of the states after that were seen, as the code has them: the seven states one by one, and all of them
 abbrev weights : List ℕ

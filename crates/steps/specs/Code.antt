@@ -10,8 +10,7 @@ use Rattle.kinds.specs.Places.{eventLength}
 use Rattle.kinds.specs.Codes.{RSP, op-SnpRespDataPtl, NDERR, SnpPreferUniqueFwd}
 use Rattle.kinds.specs.declared.Answer.{Answer}
 use Rattle.kinds.specs.declared.Answer.the-variants.{SnpResp, SnpRespData, SnpRespDataPtl}
-use Rattle.kinds.specs.declared.Forward.{Forward}
-use Rattle.kinds.specs.declared.Forward.the-variants.{NoForward, CompData}
+use Rattle.kinds.specs.Answers.{forwardAt}
 use Rattle.sets.specs.Sets.{setOf}
 use Rattle.rows.specs.declared.Table.{Table}
 use Rattle.rows.specs.declared.Table.the-variants.{B46, B57, B59, B60, NdErr}
@@ -69,9 +68,6 @@ columnAt w place = w / 2 ^ place % 16
 
 abbrev pub tableAt : ℕ → Table
 tableAt n = cond (eqb n 0) B46 (cond (eqb n 1) B57 (cond (eqb n 2) B59 (cond (eqb n 3) B60 NdErr)))
-
-abbrev pub forwardAt : ℕ → Forward
-forwardAt f = cond (eqb f 0) NoForward (CompData (record { 0 = f }))
 
 abbrev pub answerAt : ℕ → ℕ → ℕ → Answer
 answerAt m r f = cond (eqb m 0) (SnpResp (record { 0 = r }) (forwardAt f)) (cond (eqb m 1) (SnpRespData (record { 0 = r }) (forwardAt f)) (SnpRespDataPtl (record { 0 = r })))

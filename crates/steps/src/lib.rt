@@ -19,7 +19,7 @@ ghost use Rattle.kinds.specs.Codes.{stateNotSeen};
 ghost use Rattle.sets.specs.Sets.{setOf};
 ghost use Rattle.rows.specs.Event.{seen};
 ghost use Rattle.steps.specs.Steps.{setsAfter, duty};
-ghost use Rattle.steps.specs.Code.{columnAt, tableAt, forwardAt, answerAt, rowAt, eventBytes, rowFits, rowAdds};
+ghost use Rattle.steps.specs.Code.{columnAt, tableAt, answerAt, rowAt, eventBytes, rowFits, rowAdds};
 ghost use Rattle.steps.specs.Code.{tablesOf, messageOf, rowKey, eventKey};
 
 mod printed;
@@ -55,22 +55,11 @@ fn table_of(number: u8) -> Table
     }
 }
 
-// What is forwarded, by the column of its state.
-fn forward_of(state: u8) -> Forward
-    ensures { λ r. ⌜ r ≡ forwardAt state ⌝ }
-{
-    if state == 0 {
-        Forward::NoForward
-    } else {
-        Forward::CompData(FwdState(state))
-    }
-}
-
 // The answer, by its columns.
 fn answer_of(message: u8, resp: u8, state: u8) -> Answer
     ensures { λ r. ⌜ r ≡ answerAt message resp state ⌝ }
 {
-    let forward = forward_of(state);
+    let forward = Forward::from_state(FwdState(state));
     match message {
         0 => Answer::SnpResp(Resp(resp), forward),
         1 => Answer::SnpRespData(Resp(resp), forward),

@@ -14,59 +14,59 @@ answer-requires c κs = search needs
 wire-requires : tie.Need-wire-requires
 wire-requires c κs = search needs
 
-array-read-forward-of : tie.Need-array-read-forward-of
-array-read-forward-of c = search needs
+array-read-t9 : tie.Need-array-read-t9
+array-read-t9 c = search needs
 
-forward-of-requires : tie.Need-forward-of-requires
-forward-of-requires c κs = search needs
+from-state-requires : tie.Need-from-state-requires
+from-state-requires c κs = search needs
 
 wire-requires-2 : tie.Need-wire-requires-2
 wire-requires-2 c κs = search needs
 
-array-read-t9 : tie.Need-array-read-t9
-array-read-t9 c = search needs
+array-read-t9-2 : tie.Need-array-read-t9-2
+array-read-t9-2 c = search needs
 
-array-read-t18 : tie.Need-array-read-t18
-array-read-t18 c = search needs
+array-read-t19 : tie.Need-array-read-t19
+array-read-t19 c = search needs
 
-array-read-t21 : tie.Need-array-read-t21
-array-read-t21 c = search needs
+array-read-t22 : tie.Need-array-read-t22
+array-read-t22 c = search needs
 
-array-read-t24 : tie.Need-array-read-t24
-array-read-t24 c = search needs
+array-read-t25 : tie.Need-array-read-t25
+array-read-t25 c = search needs
 
-array-read-t27 : tie.Need-array-read-t27
-array-read-t27 c = search needs
+array-read-t28 : tie.Need-array-read-t28
+array-read-t28 c = search needs
 
-array-read-t30 : tie.Need-array-read-t30
-array-read-t30 c = search needs
+array-read-t31 : tie.Need-array-read-t31
+array-read-t31 c = search needs
 
-array-read-t33 : tie.Need-array-read-t33
-array-read-t33 c = search needs
+array-read-t34 : tie.Need-array-read-t34
+array-read-t34 c = search needs
 
-array-read-t36 : tie.Need-array-read-t36
-array-read-t36 c = search needs
+array-read-t37 : tie.Need-array-read-t37
+array-read-t37 c = search needs
 
-array-read-t39 : tie.Need-array-read-t39
-array-read-t39 c = search needs
+array-read-t40 : tie.Need-array-read-t40
+array-read-t40 c = search needs
 
-array-read-t42 : tie.Need-array-read-t42
-array-read-t42 c = search needs
+array-read-t43 : tie.Need-array-read-t43
+array-read-t43 c = search needs
 
-array-read-t45 : tie.Need-array-read-t45
-array-read-t45 c = search needs
+array-read-t46 : tie.Need-array-read-t46
+array-read-t46 c = search needs
 
-array-read-t48 : tie.Need-array-read-t48
-array-read-t48 c = search needs
+array-read-t49 : tie.Need-array-read-t49
+array-read-t49 c = search needs
 
-array-read-t51 : tie.Need-array-read-t51
-array-read-t51 c = search needs
+array-read-t52 : tie.Need-array-read-t52
+array-read-t52 c = search needs
 
-array-read-t54 : tie.Need-array-read-t54
-array-read-t54 c = search needs
+array-read-t55 : tie.Need-array-read-t55
+array-read-t55 c = search needs
 
 returns : tie.Need-returns
-returns c = event-parts (c .before .before .before .before .args .t1) (c .before .before .wire .result) (c .wire2 .result) (c .before .before .before .answer .ensures) (c .before .before .wire .ensures) (c .before .forward-of .ensures) (c .wire2 .ensures)
+returns c = event-parts (c .before .before .before .before .args .t1) (c .before .before .wire .result) (c .wire2 .result) (c .before .before .before .answer .ensures) (c .before .before .wire .ensures) (c .before .from-state .ensures) (c .wire2 .ensures)
 
 pub event-of-spec : {M : Type 1} → statement M
 event-of-spec =
@@ -75,21 +75,21 @@ event-of-spec =
     array-read-answer
     answer-requires
     wire-requires
-    array-read-forward-of
-    forward-of-requires
-    wire-requires-2
     array-read-t9
-    array-read-t18
-    array-read-t21
-    array-read-t24
-    array-read-t27
-    array-read-t30
-    array-read-t33
-    array-read-t36
-    array-read-t39
-    array-read-t42
-    array-read-t45
-    array-read-t48
-    array-read-t51
-    array-read-t54
+    from-state-requires
+    wire-requires-2
+    array-read-t9-2
+    array-read-t19
+    array-read-t22
+    array-read-t25
+    array-read-t28
+    array-read-t31
+    array-read-t34
+    array-read-t37
+    array-read-t40
+    array-read-t43
+    array-read-t46
+    array-read-t49
+    array-read-t52
+    array-read-t55
     returns)
