@@ -79,11 +79,11 @@ fn refusal_alone(event: &[u8]) -> Refusal
 }
 
 // The duty from one state, given as its set, and the set of states after from it.
-fn duty_from(event: &[u8], before: u8, after_set: u8) -> u8
-    ensures { λ r. ⌜ r ≡ cond (eqb after_set 0) noDuty (duty (now (event .entry)) before) ⌝ }
+fn duty_from(event: &[u8], before: u8, after: u8) -> u8
+    ensures { λ r. ⌜ r ≡ cond (eqb after 0) noDuty (duty (now (event .entry)) before) ⌝ }
 {
     let duty = steps::duty(event, before);
-    kinds::choose_byte(after_set == 0, Duty::NONE.0, duty.0)
+    kinds::choose_byte(after == 0, Duty::NONE.0, duty.0)
 }
 
 // The seven duties, each judged from its state alone.

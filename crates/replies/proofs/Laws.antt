@@ -35,9 +35,9 @@ pub concat-answer : (k : ℕ) (found : Finding) → concat (answerTexts k found)
 unfolding answerTexts answerLine
 concat-answer k found =
     ap (λ (r : List ℕ). decimalText k ++ ((comma ∷ verdictText (found .verdict .0) ++ comma ∷ []) ++ ((dutyText (found .duty .0) ++ comma ∷ []) ++ r)))
-    (concat-append (statesTexts (found .after_set)) (eol ∷ [])
-    ∙ ap (λ (r : List ℕ). r ++ (eol ++ [])) (concat-states (found .after_set)))
-    ∙ parts-of-five (comma ∷ []) (decimalText k) (verdictText (found .verdict .0)) (dutyText (found .duty .0)) (statesText (found .after_set)) eol
+    (concat-append (statesTexts (found .after)) (eol ∷ [])
+    ∙ ap (λ (r : List ℕ). r ++ (eol ++ [])) (concat-states (found .after)))
+    ∙ parts-of-five (comma ∷ []) (decimalText k) (verdictText (found .verdict .0)) (dutyText (found .duty .0)) (statesText (found .after)) eol
 
 parts-of-three : (n l e : List ℕ) → bytes "refused," ++ (n ++ ((comma ∷ []) ++ (l ++ (e ++ [])))) ≡ bytes "refused" ++ comma ∷ n ++ comma ∷ l ++ e
 parts-of-three n l e = simp (append-assoc, append-nil)
@@ -102,11 +102,11 @@ unfolding answerLine
 answer-short k found h =
     let v : length (verdictText (found .verdict .0)) ≤ 11 = verdict-short (found .verdict .0) in
     let d : length (dutyText (found .duty .0)) ≤ 9 = duty-short (found .duty .0) in
-    let t : length (statesText (found .after_set)) ≤ 22 = states-short (found .after_set) in
+    let t : length (statesText (found .after)) ≤ 22 = states-short (found .after) in
     let n : length (decimalText k) ≤ 7 = decimal-short 6 k h in
     le-trans
     (le-of-eq
-    (length-five (decimalText k) (comma ∷ verdictText (found .verdict .0)) (comma ∷ dutyText (found .duty .0)) (comma ∷ statesText (found .after_set)) eol))
+    (length-five (decimalText k) (comma ∷ verdictText (found .verdict .0)) (comma ∷ dutyText (found .duty .0)) (comma ∷ statesText (found .after)) eol))
     (omega arith)
 
 length-four : (r n l e : List ℕ) → length (r ++ n ++ l ++ e) ≡ length r + length n + length l + length e

@@ -13,7 +13,7 @@ use Rattle.replies.specs.Replies.{decimalText, verdictText, dutyText, st
 
 -- what was found of an event: verdict, duty and the set after
 abbrev pub found : ℕ → ℕ → ℕ → Finding
-found verdict duty after_set = record { after_set = after; verdict = record { 0 = verdict }; duty = record { 0 = duty } }
+found verdict duty after = record { after = after; verdict = record { 0 = verdict }; duty = record { 0 = duty } }
 
 -- the set of I and SC
 abbrev pub I-SC : ℕ

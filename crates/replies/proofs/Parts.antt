@@ -111,12 +111,12 @@ same-long l ss e = ap (λ (k : Laid). length (k .out)) e ∙ length-lay-all l ss
 
 -- an answer's parts in their order
 pub answered : {r₀ r₁ r₂ r₃ r₄ : Laid} (l : Laid) (k : ℕ) (found : Finding) → r₀ ≡ lay l (decimalText k) → r₁ ≡ lay r₀ (verdictPart (found .verdict .0))
-    → r₂ ≡ lay r₁ (dutyPart (found .duty .0)) → r₃ ≡ layAll r₂ (statesTexts (found .after_set)) → r₄ ≡ lay r₃ eol
+    → r₂ ≡ lay r₁ (dutyPart (found .duty .0)) → r₃ ≡ layAll r₂ (statesTexts (found .after)) → r₄ ≡ lay r₃ eol
     → r₄ ≡ layAll l (answerTexts k found)
 unfolding answerTexts
 answered l k found e₀ e₁ e₂ e₃ e₄ =
-    then _ e₄ (e₃ ∙ ap (λ (x : Laid). layAll x (statesTexts (found .after_set))) (then _ e₂ (then _ e₁ e₀)))
-    ∙ sym (lay-all-append _ (statesTexts (found .after_set)) (eol ∷ []))
+    then _ e₄ (e₃ ∙ ap (λ (x : Laid). layAll x (statesTexts (found .after))) (then _ e₂ (then _ e₁ e₀)))
+    ∙ sym (lay-all-append _ (statesTexts (found .after)) (eol ∷ []))
 
 -- a refusal's parts in their order
 pub refused : {r₀ r₁ r₂ r₃ r₄ : Laid} (l : Laid) (number line : ℕ) → r₀ ≡ lay l (bytes "refused,") → r₁ ≡ lay r₀ (decimalText number) → r₂ ≡ lay r₁ (comma ∷ [])

@@ -88,7 +88,7 @@ headerLine = bytes "event,verdict,duty,states" ++ eol
 -- the line that answers event k
 unfoldable pub answerLine : ℕ → Finding → List ℕ
 answerLine k found =
-    decimalText k ++ comma ∷ verdictText (found .verdict .0) ++ comma ∷ dutyText (found .duty .0) ++ comma ∷ statesText (found .after_set) ++ eol
+    decimalText k ++ comma ∷ verdictText (found .verdict .0) ++ comma ∷ dutyText (found .duty .0) ++ comma ∷ statesText (found .after) ++ eol
 
 -- the line that ends a run: the number of the refusal, and the line that is refused
 unfoldable pub refusedLine : ℕ → ℕ → List ℕ
@@ -116,7 +116,7 @@ answerTexts k found =
     decimalText k ∷
     (comma ∷ verdictText (found .verdict .0) ++ comma ∷ []) ∷
     (dutyText (found .duty .0) ++ comma ∷ []) ∷
-    (statesTexts (found .after_set) ++ eol ∷ [])
+    (statesTexts (found .after) ++ eol ∷ [])
 
 -- the line that ends a run, in the parts in which it is put
 unfoldable pub refusalTexts : ℕ → ℕ → List (List ℕ)

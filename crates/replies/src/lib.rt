@@ -167,7 +167,7 @@ pub fn put_answer(out: &mut [u8], at: usize, event: EventNumber, found: Finding)
     let numbered = put_number(out, at, number as u64);
     let judged = put_verdict(out, numbered, found.verdict);
     let owed = put_duty(out, judged, found.duty);
-    let named = put_states(out, owed, found.after_set);
+    let named = put_states(out, owed, found.after);
     put(out, named, b"\r\n")
 }
 

@@ -15,7 +15,7 @@ pub record Permits (e : List ℕ) (t s s′ : ℕ) : Type 0 where
   pub row : Row
   pub inside : In row rows
   pub from : eqb s (row .before) ≡ true
-  pub to : s′ ∈? row .statesAfter ≡ true
+  pub to : s′ ∈? row .finals ≡ true
   pub is-asked : asked e (row .table) (row .ret) (row .marked) ≡ true
   pub is-answered : answered e (row .table) (row .answer) ≡ true
   pub is-tagged : tagged e t (row .table) (row .before) (row .answer) ≡ true
@@ -26,7 +26,7 @@ permitted-row e t s s′ h =
     let f = any-found (holds e t s s′) rows h in
     let r = f .one in
     let a = eqb s (r .before) in
-    let b = s′ ∈? r .statesAfter in
+    let b = s′ ∈? r .finals in
     let c = asked e (r .table) (r .ret) (r .marked) in
     let d = answered e (r .table) (r .answer) in
     let g = tagged e t (r .table) (r .before) (r .answer) in

@@ -83,7 +83,7 @@ someTag e T s a = any (λ t. seen tagNotSeen (tagOf e) t && tagged e t T s a) ta
 abbrev pub holds : List ℕ → ℕ → ℕ → ℕ → Row → Bool
 holds e t s s′ r =
     eqb s (r .before)
-    && (s′ ∈? r .statesAfter)
+    && (s′ ∈? r .finals)
     && asked e (r .table) (r .ret) (r .marked)
     && answered e (r .table) (r .answer)
     && tagged e t (r .table) (r .before) (r .answer)

@@ -14,16 +14,16 @@ use Rattle.rows.specs.declared.Table.the-variants.{B46, B57, B59, B60, N
 pub record Row : Type 0 where
   pub table : Table
   pub before : ℕ
-  pub statesAfter : List ℕ
+  pub finals : List ℕ
   pub ret : ℕ
   pub answer : Answer
   pub marked : Bool
 
 abbrev pub row : Table → ℕ → List ℕ → ℕ → Answer → Row
-row T s s′ r a = record { table = T; before = s; statesAfter = s′; ret = r; answer = a; marked = false }
+row T s s′ r a = record { table = T; before = s; finals = s′; ret = r; answer = a; marked = false }
 
 abbrev pub row* : Table → ℕ → List ℕ → ℕ → Answer → Row
-row* T s s′ r a = record { table = T; before = s; statesAfter = s′; ret = r; answer = a; marked = true }
+row* T s s′ r a = record { table = T; before = s; finals = s′; ret = r; answer = a; marked = true }
 
 -- in a column of RetToSrc or excl: it doesn't matter
 abbrev pub X : ℕ

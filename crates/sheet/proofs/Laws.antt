@@ -317,7 +317,7 @@ refuse-put number lines at n out out′ h k roomy e =
     (omega (arith, roomy, refusal-short number (lines + 1) h (omega (arith, k))))
 
 pub answer-put : (k at n : ℕ) (table out out′ table′ : List ℕ) (e : ParsedLine) (found : Finding) (before : ℕ) → 0 < k → k < mostLines → Roomy out at → e .refusal .0 ≡ 0
-    → before ≡ setIn table (e .pair .0) → found ≡ finding (e .event) before → table′ ≡ set table (e .pair .0) (found .after_set)
+    → before ≡ setIn table (e .pair .0) → found ≡ finding (e .event) before → table′ ≡ set table (e .pair .0) (found .after)
     → laid n out′ ≡ layAll (laid at out) (answerTexts (k - 1) found)
     → AnswersOn (onParsed k table e) out at (record { at = n; goes = true }) out′ table′
 answer-put k at n table out out′ table′ e found before pos few roomy zero-is b f t l =
@@ -328,7 +328,7 @@ answer-put k at n table out out′ table′ e found before pos few roomy zero-is
           put-answers (parsedTold k table e) out out′ at n
           (l ∙ ap (λ (x : Finding). layAll (laid at out) (answerTexts (k - 1) x)) is-found ∙ answer-laid at (k - 1) out found′ roomy (omega (arith, few)))
           (omega (arith, roomy, answer-short (k - 1) found′ (omega (arith, few))));
-      table-so = t ∙ ap (λ (x : Finding). set table (e .pair .0) (x .after_set)) is-found;
+      table-so = t ∙ ap (λ (x : Finding). set table (e .pair .0) (x .after)) is-found;
     })
   where
     found′ : Finding

@@ -1,10 +1,10 @@
 // The bench sheet judged as it arrives, piece by piece.
-use parser::ParsedLine;
 use kinds::ALL_STATES;
 use kinds::EventNumber;
 use kinds::Refusal;
 use lines::LONGEST;
 use lines::TOO_LONG;
+use parser::ParsedLine;
 use replies::ROOM;
 ghost use Prim.Native.Nat.{_+_, _≤_, _<_, _^_, min};
 ghost use mathlib.Core.Path.{_≡_};
@@ -90,7 +90,13 @@ fn judge_header(line: &[u8], out: &mut [u8], at: usize) -> Answered
 }
 
 // What a line says, judged on the set of its pair, or refused.
-fn judge_parsed(lines: u32, parsed: ParsedLine, table: &mut [u8], out: &mut [u8], at: usize) -> Answered
+fn judge_parsed(
+    lines: u32,
+    parsed: ParsedLine,
+    table: &mut [u8],
+    out: &mut [u8],
+    at: usize,
+) -> Answered
     requires { ⌜ Roomy (now out) at ⌝ }
     requires { ⌜ 0 < lines ⌝ }
     requires { ⌜ lines < mostLines ⌝ }
@@ -104,8 +110,8 @@ fn judge_parsed(lines: u32, parsed: ParsedLine, table: &mut [u8], out: &mut [u8]
     let event = parsed.event;
     let before = pair.set_in(table);
     let found = verdicts::judge(&event, before);
-    let after_set = found.after_set;
-    pair.put_in(table, after_set);
+    let after = found.after;
+    pair.put_in(table, after);
     let k = lines - 1;
     let next = replies::put_answer(out, at, EventNumber(k), found);
     Answered {

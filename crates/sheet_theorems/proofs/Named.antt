@@ -43,10 +43,10 @@ any-from p m n (x ∷ xs) = go (bit m n) ∙ ap (λ b. (p x && bit m n) || b) (a
     go false = ap (λ a. a || any p rest) (sym (and-false (p x)))
 
 -- A STATE IS NAMED exactly when it is in the set
-pub named : (found : Finding) (s : ℕ) → s < 7 → names found s ≡ bit (found .after_set) s
+pub named : (found : Finding) (s : ℕ) → s < 7 → names found s ≡ bit (found .after) s
 unfolding anyFrom
 named found =
-    each-state (λ s. names found s ≡ bit (found .after_set) s)
+    each-state (λ s. names found s ≡ bit (found .after) s)
     (any-from (same (getD stateNames I [])) m I stateNames ∙ or-false (bit m I))
     (any-from (same (getD stateNames UC [])) m I stateNames ∙ or-false (bit m UC))
     (any-from (same (getD stateNames UCE [])) m I stateNames ∙ or-false (bit m UCE))
@@ -56,4 +56,4 @@ named found =
     (any-from (same (getD stateNames SD [])) m I stateNames ∙ or-false (bit m SD))
   where
     m : ℕ
-    m = found .after_set
+    m = found .after

@@ -97,7 +97,7 @@ module _ (before : List (List ℕ)) (line : List ℕ) (g : good line ≡ true) w
   e = eventOn line .bytes
 
   -- and after it
-  set-moves : setAfterLines (before ++ (line ∷ [])) (pairOn line) ≡ foundBehind before line .after_set
+  set-moves : setAfterLines (before ++ (line ∷ [])) (pairOn line) ≡ foundBehind before line .after
   set-moves =
       ap (λ (xs : List TraceEvent). setIn (run startTable xs) (pairOn line)) (events-append before (line ∷ []))
       ∙ ap (λ (t : List ℕ). setIn t (pairOn line)) (run-append startTable (eventsOf before) (eventOn line ∷ []))
@@ -106,7 +106,7 @@ module _ (before : List (List ℕ)) (line : List ℕ) (g : good line ≡ true) w
       inside : pairOn line < length (run startTable (eventsOf before))
       inside = subst (λ n. pairOn line < n) (sym (length-run startTable (eventsOf before) ∙ start-length)) pair-inside
 
-  pub shown-exact : (s : ℕ) → bit (foundBehind before line .after_set) s ≡ true ↔ PassesTo before line s
+  pub shown-exact : (s : ℕ) → bit (foundBehind before line .after) s ≡ true ↔ PassesTo before line s
   shown-exact s = subst (λ n. bit n s ≡ true ↔ PassesTo before line s) set-moves (set-exact (before ++ (line ∷ [])) (pairOn line) pair-inside s)
 
   pass : Held (afterSet e m) → Passes before line

@@ -187,7 +187,7 @@ sheet-spells-trace input lines verdicts duties afters e g few v d a =
 module _ (before : List (List ℕ)) (line : List ℕ) (g : good line ≡ true) where
   -- DEMAND 3 ON THE SHEET: the states that a line's answer shows are exactly those in which some history ends, of the line's pair, from one of
   -- the seven states, through that pair's events on the lines before it and on the line itself.
-  pub sheet-states-exact : (s : ℕ) → bit (foundBehind before line .after_set) s ≡ true ↔ PassesTo before line s
+  pub sheet-states-exact : (s : ℕ) → bit (foundBehind before line .after) s ≡ true ↔ PassesTo before line s
   sheet-states-exact = shown-exact before line g
 
   -- The same in the answer's text: a state's name stands in it exactly when some history ends there.

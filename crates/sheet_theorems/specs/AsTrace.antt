@@ -27,4 +27,4 @@ spelled n [] duties afters = []
 spelled n (v ∷ verdicts) [] afters = []
 spelled n (v ∷ verdicts) (d ∷ duties) [] = []
 spelled n (v ∷ verdicts) (d ∷ duties) (a ∷ afters) =
-    answerLine n (record { after_set = a; verdict = record { 0 = v }; duty = record { 0 = d } }) ++ spelled (n + 1) verdicts duties afters
+    answerLine n (record { after = a; verdict = record { 0 = v }; duty = record { 0 = d } }) ++ spelled (n + 1) verdicts duties afters

@@ -49,4 +49,4 @@ foundBehind before line = foundOn (run startTable (eventsOf before)) (eventOn li
 
 -- the answer names state s: its name is one of those that are written, with spaces between them, behind the last comma
 abbrev pub names : Finding → ℕ → Bool
-names found s = any (same (getD stateNames s [])) (namesIn (found .after_set) I stateNames)
+names found s = any (same (getD stateNames s [])) (namesIn (found .after) I stateNames)

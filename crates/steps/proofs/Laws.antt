@@ -78,11 +78,11 @@ bytes-end e bytes i h k l q =
 -- a row by its columns
 pub row-parts : (w t b m r f ret : ℕ) (T : Table) (a : Answer) → t ≡ columnAt w at-table → T ≡ tableAt t → b ≡ columnAt w at-before → m ≡ columnAt w at-message
     → r ≡ columnAt w at-resp → f ≡ columnAt w at-fwd → a ≡ answerAt m r f → ret ≡ columnAt w at-ret
-    → _≡_ {A = code.Row} (record { table = T; before = record { 0 = b }; ret = ret; answer = a; states_after = w % mark; marked = eqb (w / mark % 2) 1 }) (rowAt w)
+    → _≡_ {A = code.Row} (record { table = T; before = record { 0 = b }; ret = ret; answer = a; finals = w % mark; marked = eqb (w / mark % 2) 1 }) (rowAt w)
 unfolding rowAt
 row-parts w t b m r f ret T a ht hT hb hm hr hf ha hret =
-    ap₂ (λ (x : Table) (y : ℕ). record { table = x; before = record { 0 = y }; ret = ret; answer = a; states_after = w % mark; marked = eqb (w / mark % 2) 1 }) (hT ∙ ap tableAt ht) hb
-    ∙ ap₂ (λ (x : ℕ) (y : Answer). record { table = tableAt (columnAt w at-table); before = record { 0 = columnAt w at-before }; ret = x; answer = y; states_after = w % mark; marked = eqb (w / mark % 2) 1 }) hret
+    ap₂ (λ (x : Table) (y : ℕ). record { table = x; before = record { 0 = y }; ret = ret; answer = a; finals = w % mark; marked = eqb (w / mark % 2) 1 }) (hT ∙ ap tableAt ht) hb
+    ∙ ap₂ (λ (x : ℕ) (y : Answer). record { table = tableAt (columnAt w at-table); before = record { 0 = columnAt w at-before }; ret = x; answer = y; finals = w % mark; marked = eqb (w / mark % 2) 1 }) hret
     (ha ∙ ap₂ (λ (x y : ℕ). answerAt x y f) hm hr ∙ ap (answerAt (columnAt w at-message) (columnAt w at-resp)) hf)
 
 pub answer-rsp : (m r f : ℕ) (g : Forward) → m ≡ 0 → g ≡ forwardAt f → SnpResp (record { 0 = r }) g ≡ answerAt m r f
@@ -121,8 +121,8 @@ pub two-choices : (s t : Bool) (a b d x r : ℕ) → x ≡ cond t b d → r ≡ 
 two-choices s t a b d x r h k = k ∙ ap (cond s a) h
 
 -- what the row adds, by whether it fits
-pub adds : (e : List ℕ) (among : ℕ) (r : code.Row) (b : Bool) (v : ℕ) → b ≡ rowFits e r → v ≡ cond b (bitAnd (r .states_after) among) 0 → v ≡ rowAdds e among r
-adds e among r b v h k = k ∙ ap (λ (x : Bool). cond x (bitAnd (r .states_after) among) 0) h
+pub adds : (e : List ℕ) (among : ℕ) (r : code.Row) (b : Bool) (v : ℕ) → b ≡ rowFits e r → v ≡ cond b (bitAnd (r .finals) among) 0 → v ≡ rowAdds e among r
+adds e among r b v h k = k ∙ ap (λ (x : Bool). cond x (bitAnd (r .finals) among) 0) h
 
 -- the duty, each choice from the one before
 pub duty-by : (e : List ℕ) (before r f x : ℕ) (home requester held : Bool) (d₁ d₂ d : ℕ) → r ≡ respOf e → home ≡ respPD r → f ≡ fwdStateOf e → requester ≡ fwdPD f

@@ -78,7 +78,7 @@ none-fits e r n h k = go (rowFits e r) refl
 none-added : (e : List ℕ) (among : ℕ) (r : code.Row) (sets : List ℕ) → rowFits e r ≡ false → withRow e among r sets ≡ sets
 unfolding withRow
 none-added e among r sets h =
-    ap (λ (b : Bool). set sets (r .before .0) (bitOr (getD sets (r .before .0) 0) (cond b (bitAnd (r .states_after) among) 0))) h
+    ap (λ (b : Bool). set sets (r .before .0) (bitOr (getD sets (r .before .0) 0) (cond b (bitAnd (r .finals) among) 0))) h
     ∙ ap (set sets (r .before .0)) (or-zero-r (getD sets (r .before .0) 0))
     ∙ set-getD sets (r .before .0) 0
 

@@ -45,7 +45,7 @@ step-steps e s s′ p =
 
 -- every row stays among the seven states
 among-states : Row → Bool
-among-states r = ltb (r .before) 7 && all (λ s. ltb s 7) (r .statesAfter)
+among-states r = ltb (r .before) 7 && all (λ s. ltb s 7) (r .finals)
 
 all-among : all among-states rows ≡ true
 unfolding rows among-states
@@ -57,16 +57,16 @@ permitted-before e t s s′ h =
     let q = permitted-row e t s s′ h in
     let r = q .row in
     subst (λ (n : ℕ). n < 7) (sym (eqb-true s (r .before) (q .from)))
-    (ltb-true (r .before) 7 (and-left (ltb (r .before) 7) (all (λ n. ltb n 7) (r .statesAfter)) (by-rows among-states all-among q)))
+    (ltb-true (r .before) 7 (and-left (ltb (r .before) 7) (all (λ n. ltb n 7) (r .finals)) (by-rows among-states all-among q)))
 
 pub permitted-after : (e : List ℕ) (t s s′ : ℕ) → permitted e t s s′ ≡ true → s′ < 7
 unfolding among-states
 permitted-after e t s s′ h =
     let q = permitted-row e t s s′ h in
     let r = q .row in
-    let f = any-found (eqb s′) (r .statesAfter) (q .to) in
+    let f = any-found (eqb s′) (r .finals) (q .to) in
     subst (λ (n : ℕ). n < 7) (sym (eqb-true s′ (f .one) (f .passes)))
-    (ltb-true (f .one) 7 (all-at (λ n. ltb n 7) (and-right (ltb (r .before) 7) (all (λ n. ltb n 7) (r .statesAfter)) (by-rows among-states all-among q)) (f .inside)))
+    (ltb-true (f .one) 7 (all-at (λ n. ltb n 7) (and-right (ltb (r .before) 7) (all (λ n. ltb n 7) (r .finals)) (by-rows among-states all-among q)) (f .inside)))
 
 -- the set of states after holds exactly the states that a step leads to
 pub in-set-step : (e : List ℕ) (s s′ : ℕ) → s < 7 → s′ < 7 → bit (getD (setsAfter e) s 0) s′ ≡ true → Step e s s′

@@ -30,7 +30,7 @@ use Rattle.steps.specs.Code.{codeOf, rowCount, at-key, rowAt, eventBytes
 
 -- the row leads from s to s′, under some tag state and with a state after that was seen
 by : List ℕ → ℕ → ℕ → Row → Bool
-by e s s′ r = eqb s (r .before) && rowFits e (codeOf r) && ((s′ ∈? r .statesAfter) && seen stateNotSeen (stateAfterOf e) s′)
+by e s s′ r = eqb s (r .before) && rowFits e (codeOf r) && ((s′ ∈? r .finals) && seen stateNotSeen (stateAfterOf e) s′)
 
 -- where some of the rows lead from s
 reach : List ℕ → List Row → ℕ → ℕ
@@ -59,7 +59,7 @@ set-state f g b v h p q = ext-getD 0 (set (map f states) b v) (map g states) (le
 
 -- what a row adds to one of the seven
 added : (e : List ℕ) (rs : List Row) (r : Row) (s : ℕ)
-    → bitOr (reach e rs s) (cond (eqb s (r .before) && rowFits e (codeOf r)) (bitAnd (setOf (λ n. n ∈? r .statesAfter)) (setOf (seen stateNotSeen (stateAfterOf e)))) 0)
+    → bitOr (reach e rs s) (cond (eqb s (r .before) && rowFits e (codeOf r)) (bitAnd (setOf (λ n. n ∈? r .finals)) (setOf (seen stateNotSeen (stateAfterOf e)))) 0)
     ≡ reach e (rs ++ (r ∷ [])) s
 unfolding reach by
 added e rs r s =
@@ -71,7 +71,7 @@ added e rs r s =
     b = eqb s (r .before) && rowFits e (codeOf r)
 
     p : ℕ → Bool
-    p n = n ∈? r .statesAfter
+    p n = n ∈? r .finals
 
     q : ℕ → Bool
     q n = seen stateNotSeen (stateAfterOf e) n
@@ -83,7 +83,7 @@ unfolding walked withRow
 walk-one e rs r h = set-state (reach e rs) (reach e (rs ++ (r ∷ []))) (r .before) _ h here-more (λ s n. sym (or-zero-r (reach e rs s)) ∙ elsewhere s n)
   where
     more : ℕ
-    more = bitAnd (setOf (λ n. n ∈? r .statesAfter)) (setOf (seen stateNotSeen (stateAfterOf e)))
+    more = bitAnd (setOf (λ n. n ∈? r .finals)) (setOf (seen stateNotSeen (stateAfterOf e)))
 
     here-more : bitOr (getD (map (reach e rs) states) (r .before) 0) (cond (rowFits e (codeOf r)) more 0) ≡ reach e (rs ++ (r ∷ [])) (r .before)
     here-more =
@@ -105,7 +105,7 @@ record Leads (e : List ℕ) (s s′ : ℕ) (r : Row) : Type 0 where
   is-answered : answered e (r .table) (r .answer) ≡ true
   is-asked : asked e (r .table) (r .ret) (r .marked) ≡ true
   some : someTag e (r .table) (r .before) (r .answer) ≡ true
-  to : s′ ∈? r .statesAfter ≡ true
+  to : s′ ∈? r .finals ≡ true
   saw : seen stateNotSeen (stateAfterOf e) s′ ≡ true
 
 leads : (e : List ℕ) (s s′ : ℕ) (r : Row) → by e s s′ r ≡ true → Leads e s s′ r
@@ -113,7 +113,7 @@ unfolding by rowFits
 leads e s s′ r h =
     let a = eqb s (r .before) in
     let f = rowFits e (codeOf r) in
-    let m = s′ ∈? r .statesAfter in
+    let m = s′ ∈? r .finals in
     let v = seen stateNotSeen (stateAfterOf e) s′ in
     let d = answered e (r .table) (r .answer) in
     let c = asked e (r .table) (r .ret) (r .marked) in

@@ -29,7 +29,7 @@ eventBytes e = bytesFrom e 0 eventLength
 
 -- a printed row in the code's kinds
 abbrev pub codeOf : Row → code.Row
-codeOf r = record { table = r .table; before = record { 0 = r .before }; ret = r .ret; answer = r .answer; states_after = setOf (λ s. s ∈? r .statesAfter); marked = r .marked }
+codeOf r = record { table = r .table; before = record { 0 = r .before }; ret = r .ret; answer = r .answer; finals = setOf (λ s. s ∈? r .finals); marked = r .marked }
 
 -- how many rows there are
 abbrev pub rowCount : ℕ
@@ -80,7 +80,7 @@ rowAt w =
       before = record { 0 = columnAt w at-before };
       ret = columnAt w at-ret;
       answer = answerAt (columnAt w at-message) (columnAt w at-resp) (columnAt w at-fwd);
-      states_after = w % mark;
+      finals = w % mark;
       marked = eqb (w / mark % 2) 1;
     }
 
@@ -90,7 +90,7 @@ rowFits e r = answered e (r .table) (r .answer) && asked e (r .table) (r .ret) (
 
 -- what the row adds to the set of its state before
 abbrev pub rowAdds : List ℕ → ℕ → code.Row → ℕ
-rowAdds e among r = cond (rowFits e r) (bitAnd (r .states_after) among) 0
+rowAdds e among r = cond (rowFits e r) (bitAnd (r .finals) among) 0
 
 -- the seven sets with what the row adds
 unfoldable pub withRow : List ℕ → ℕ → code.Row → List ℕ → List ℕ

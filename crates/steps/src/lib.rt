@@ -30,7 +30,7 @@ pub struct Row {
     pub before: LineState,
     pub ret: u8,
     pub answer: Answer,
-    pub states_after: u8,
+    pub finals: u8,
     pub marked: bool,
 }
 
@@ -76,13 +76,13 @@ fn row_of(word: u32) -> Row
     let message = column(word, printed::MESSAGE_AT);
     let resp = column(word, printed::RESP_AT);
     let answer = answer_of(message, resp, column(word, printed::FWD_AT));
-    let states_after = (word % printed::MARK) as u8;
+    let finals = (word % printed::MARK) as u8;
     Row {
         table,
         before,
         ret: column(word, printed::RET_AT),
         answer,
-        states_after,
+        finals,
         marked: word / printed::MARK % 2 == 1,
     }
 }
@@ -104,15 +104,15 @@ fn row_fits(e: &[u8; EVENT_BYTES], row: Row) -> bool
 fn row_adds(e: &[u8; EVENT_BYTES], among: u8, row: Row) -> u8
     ensures { λ r. ⌜ r ≡ rowAdds (now (e .entry)) among row ⌝ }
 {
-    kinds::choose_byte(row_fits(e, row), row.states_after & among, 0)
+    kinds::choose_byte(row_fits(e, row), row.finals & among, 0)
 }
 
 // The set of the states after that were seen: one, or all where it wasn't seen.
-fn seen_states(state_after: LineState) -> u8
-    ensures { λ r. ⌜ r ≡ setOf (seen stateNotSeen (state_after .0)) ⌝ }
+fn seen_states(shown: LineState) -> u8
+    ensures { λ r. ⌜ r ≡ setOf (seen stateNotSeen (shown .0)) ⌝ }
 {
     let weights: [u8; 8] = [1, 2, 4, 8, 16, 32, 64, ALL_STATES];
-    let at = state_after.0 as usize;
+    let at = shown.0 as usize;
     if at < 8 { weights[at] } else { 0 }
 }
 

@@ -30,7 +30,7 @@ leaves r = leaving (answerResp (r .answer)) (answerFwd (r .answer)) (isNdErr (r 
 
 -- Dirty before is Dirty after, or leaves
 keeps : Row → Bool
-keeps r = all (λ s′. eqb (one (dirty (r .before))) (one (dirty s′) + leaves r)) (r .statesAfter)
+keeps r = all (λ s′. eqb (one (dirty (r .before))) (one (dirty s′) + leaves r)) (r .finals)
 
 -- one computed fact over all the rows
 all-keep : all keeps rows ≡ true
@@ -47,7 +47,7 @@ row-law e t s s′ h =
     let says = answered-so e (r .table) (r .answer) (p .is-answered) in
     let from = eqb-true s (r .before) (p .from) in
     ap (λ (x : ℕ). one (dirty x)) from
-    ∙ eqb-true (one (dirty (r .before))) (one (dirty s′) + leaves r) (one-of (λ x. eqb (one (dirty (r .before))) (one (dirty x) + leaves r)) s′ (r .statesAfter) (p .to) (by-rows keeps all-keep p))
+    ∙ eqb-true (one (dirty (r .before))) (one (dirty s′) + leaves r) (one-of (λ x. eqb (one (dirty (r .before))) (one (dirty x) + leaves r)) s′ (r .finals) (p .to) (by-rows keeps all-keep p))
     ∙ sym
     (ap₂ (λ (x y : ℕ). one (dirty s′) + leaving x y (eqb (respErrOf e) NDERR) s) (says .resp) (says .fwd-state)
     ∙ ap₂ (λ (b : Bool) (x : ℕ). one (dirty s′) + leaving (answerResp (r .answer)) (answerFwd (r .answer)) b x) (says .nderr) from)

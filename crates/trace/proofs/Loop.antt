@@ -17,20 +17,20 @@ use Rattle.trace.proofs.Laws.{minus-suc, minus-end}
 
 -- one event on the table, by the parts of its judging
 pub on-table : (events pairs : List ℕ) (k : ℕ) (t t′ : List ℕ) (p m : ℕ) (e : List ℕ) (f : Finding)
-    → p ≡ pairIn pairs k → m ≡ setIn t p → e ≡ eventIn events k → f ≡ finding e m → t′ ≡ set t p (f .after_set) → OnTable events pairs k t f t′
+    → p ≡ pairIn pairs k → m ≡ setIn t p → e ≡ eventIn events k → f ≡ finding e m → t′ ≡ set t p (f .after) → OnTable events pairs k t f t′
 on-table events pairs k t t′ p m e f h₁ h₂ h₃ h₄ h₅ =
     let is : f ≡ finding (eventIn events k) (setIn t (pairIn pairs k)) = h₄ ∙ ap₂ finding h₃ (h₂ ∙ ap (setIn t) h₁) in
-    record { is-found = is; in-table = h₅ ∙ ap₂ (λ (x : ℕ) (g : Finding). set t x (g .after_set)) h₁ is }
+    record { is-found = is; in-table = h₅ ∙ ap₂ (λ (x : ℕ) (g : Finding). set t x (g .after)) h₁ is }
 
 -- the four buffers after it
 pub one-judged : {events pairs : List ℕ} {k : ℕ} {t : List ℕ} {f : Finding} {t′ : List ℕ} (v d a v′ d′ a′ : List ℕ) → OnTable events pairs k t f t′
-    → v′ ≡ set v k (f .verdict .0) → d′ ≡ set d k (f .duty .0) → a′ ≡ set a k (f .after_set) → OneJudged events pairs k t v d a t′ v′ d′ a′
+    → v′ ≡ set v k (f .verdict .0) → d′ ≡ set d k (f .duty .0) → a′ ≡ set a k (f .after) → OneJudged events pairs k t v d a t′ v′ d′ a′
 one-judged {k = k} v d a v′ d′ a′ on h₁ h₂ h₃ =
     record {
       in-table = on .in-table;
       in-verdicts = h₁ ∙ ap (λ (g : Finding). set v k (g .verdict .0)) (on .is-found);
       in-duties = h₂ ∙ ap (λ (g : Finding). set d k (g .duty .0)) (on .is-found);
-      in-afters = h₃ ∙ ap (λ (g : Finding). set a k (g .after_set)) (on .is-found);
+      in-afters = h₃ ∙ ap (λ (g : Finding). set a k (g .after)) (on .is-found);
     }
 
 -- one output after k events: what is put so far, and what the rest will put, is the whole

@@ -151,8 +151,8 @@ fn judge_on_table(k: EventNumber, events: &[u8], pairs: &[u16], table: &mut [u8]
     let pair = k.pair_in(pairs);
     let before = pair.set_in(table);
     let found = verdicts::judge(k.event_in(events), before);
-    let after_set = found.after_set;
-    pair.put_in(table, after_set);
+    let after = found.after;
+    pair.put_in(table, after);
     found
 }
 
@@ -173,7 +173,7 @@ fn judge_one(
     let found = judge_on_table(k, events, pairs, table);
     k.put_in(verdicts, found.verdict.0);
     k.put_in(duties, found.duty.0);
-    k.put_in(afters, found.after_set);
+    k.put_in(afters, found.after);
 }
 
 // Every event judged, one after another.

@@ -24,14 +24,14 @@ apply-after e m = apply-setOf (steps e) m
 -- the parts of a finding, each from the one before
 pub found : (e : List ℕ) (m a v₁ v d₁ d : ℕ) (sets : List ℕ) → sets ≡ setsAfter e → a ≡ apply sets m → v₁ ≡ cond (eqb a 0) unexplained explained
     → v ≡ cond (eqb m 0) notJudged v₁ → d₁ ≡ duty e m → d ≡ cond (eqb v explained) d₁ noDuty
-    → _≡_ {A = Finding} (record { after_set = a; verdict = record { 0 = v }; duty = record { 0 = d } }) (finding e m)
+    → _≡_ {A = Finding} (record { after = a; verdict = record { 0 = v }; duty = record { 0 = d } }) (finding e m)
 unfolding verdict dutyByte
 found e m a v₁ v d₁ d sets p q r s t u =
     let is-after : a ≡ afterSet e m = q ∙ ap (λ (l : List ℕ). apply l m) p ∙ apply-after e m in
     let is-verdict : v ≡ verdict e m = s ∙ ap (λ (x : ℕ). cond (eqb m 0) notJudged x) (r ∙ ap (λ (x : ℕ). cond (eqb x 0) unexplained explained) is-after) in
     let is-duty : d ≡ dutyByte e m = u ∙ ap₂ (λ (x y : ℕ). cond (eqb x explained) y noDuty) is-verdict t in
-    ap₂ (λ (x y : ℕ). record { after_set = x; verdict = record { 0 = y }; duty = record { 0 = d } }) is-after is-verdict
-    ∙ ap (λ (z : ℕ). record { after_set = afterSet e m; verdict = record { 0 = verdict e m }; duty = record { 0 = z } }) is-duty
+    ap₂ (λ (x y : ℕ). record { after = x; verdict = record { 0 = y }; duty = record { 0 = d } }) is-after is-verdict
+    ∙ ap (λ (z : ℕ). record { after = afterSet e m; verdict = record { 0 = verdict e m }; duty = record { 0 = z } }) is-duty
 
 -- a set after holds states alone
 pub after-below : (e : List ℕ) (m : ℕ) → afterSet e m < 128

@@ -33,4 +33,4 @@ dutyByte e m = cond (eqb (verdict e m) explained) (duty e m) noDuty
 
 -- the three together
 abbrev pub finding : List ℕ → ℕ → Finding
-finding e m = record { after_set = afterSet e m; verdict = record { 0 = verdict e m }; duty = record { 0 = dutyByte e m } }
+finding e m = record { after = afterSet e m; verdict = record { 0 = verdict e m }; duty = record { 0 = dutyByte e m } }

@@ -6,7 +6,7 @@ ghost use Rattle.verdicts.specs.Verdicts.{finding};
 
 // What an event does to the set of its pair: the set after, the verdict, and who holds the duty.
 pub struct Finding {
-    pub after_set: u8,
+    pub after: u8,
     pub verdict: Verdict,
     pub duty: Duty,
 }
@@ -15,13 +15,13 @@ pub struct Finding {
 pub fn judge(event: &[u8], before: u8) -> Finding
     ensures { λ r. ⌜ r ≡ finding (now (event .entry)) before ⌝ }
 {
-    let after_set = sets::apply(steps::sets_after(event), before);
-    let stepped = kinds::choose_byte(after_set == 0, Verdict::UNEXPLAINED.0, Verdict::EXPLAINED.0);
+    let after = sets::apply(steps::sets_after(event), before);
+    let stepped = kinds::choose_byte(after == 0, Verdict::UNEXPLAINED.0, Verdict::EXPLAINED.0);
     let verdict = kinds::choose_byte(before == 0, Verdict::NOT_JUDGED.0, stepped);
     let told = steps::duty(event, before);
     let duty = kinds::choose_byte(verdict == Verdict::EXPLAINED.0, told.0, Duty::NONE.0);
     Finding {
-        after_set,
+        after,
         verdict: Verdict(verdict),
         duty: Duty(duty),
     }

@@ -15,7 +15,7 @@ choose-byte-requires : tie.Need-choose-byte-requires
 choose-byte-requires c κs = search needs
 
 returns : tie.Need-returns
-returns c = c .choose-byte .ensures ∙ ap (cond (eqb (c .before .before .before .args .after_set) 0) noDuty) (c .before .duty .ensures)
+returns c = c .choose-byte .ensures ∙ ap (cond (eqb (c .before .before .before .args .after) 0) noDuty) (c .before .duty .ensures)
 
 pub duty-from-spec : {M : Type 1} → statement M
 duty-from-spec = tie.close (tie.spec duty-requires choose-byte-requires returns)

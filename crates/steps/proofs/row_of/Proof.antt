@@ -26,8 +26,8 @@ column-requires-5 c κs = search needs
 answer-of-requires : tie.Need-answer-of-requires
 answer-of-requires c κs = search needs
 
-cast-states-after : tie.Need-cast-states-after
-cast-states-after c = search needs
+cast-finals : tie.Need-cast-finals
+cast-finals c = search needs
 
 column-requires-6 : tie.Need-column-requires-6
 column-requires-6 c κs = search needs
@@ -48,6 +48,6 @@ row-of-spec =
     column-requires-4
     column-requires-5
     answer-of-requires
-    cast-states-after
+    cast-finals
     column-requires-6
     returns)

@@ -12,10 +12,10 @@ array-read-result : tie.Need-array-read-result
 array-read-result c = search needs
 
 returns : tie.Need-returns
-returns c = seen-at (c .before .before .args .state_after .0) (c .if1 .taken)
+returns c = seen-at (c .before .before .args .shown .0) (c .if1 .taken)
 
 returns-2 : tie.Need-returns-2
-returns-2 c = seen-past (c .before .before .args .state_after .0) (c .if1 .left)
+returns-2 c = seen-past (c .before .before .args .shown .0) (c .if1 .left)
 
 pub seen-states-spec : {M : Type 1} → statement M
 seen-states-spec = tie.close (tie.spec cast-at array-read-result returns returns-2)
