@@ -37,8 +37,8 @@ same-length-3 c = search needs
 returns-3 : tie.Need-returns-3
 returns-3 c = line-too-long (c .before .before .before .before .before .before .before .before .before .before .args .lines) (now (c .before .before .before .before .before .before .before .before .before .before .args .line)) (now (c .before .before .before .before .before .before .before .before .before .before .args .table)) (c .before .before .before .before .before .before .if1 .left) (c .before .before .before .before .before .if2 .left) (c .before .before .before .before .if3 .taken) (c .before .before .refuse-line2 .ensures)
 
-read-requires : tie.Need-read-requires
-read-requires c κs = search needs
+parse-line-requires : tie.Need-parse-line-requires
+parse-line-requires c κs = search needs
 
 judge-parsed-requires : tie.Need-judge-parsed-requires
 judge-parsed-requires c κs = (c .before .before .before .before .before .before .before .before .before .pre, (positive (c .before .before .before .before .before .before .before .before .before .args .lines) (c .before .before .before .before .before .if1 .left), omega (arith, c .before .before .before .before .if2 .left)))
@@ -50,7 +50,7 @@ same-length-5 : tie.Need-same-length-5
 same-length-5 c = search needs
 
 returns-4 : tie.Need-returns-4
-returns-4 c = line-read (c .before .before .before .before .before .before .before .before .before .before .before .before .before .before .args .lines) (now (c .before .before .before .before .before .before .before .before .before .before .before .before .before .before .args .line)) (now (c .before .before .before .before .before .before .before .before .before .before .before .before .before .before .args .table)) (c .before .before .before .before .before .before .before .read .result) (c .before .before .before .before .before .before .before .before .before .before .if1 .left) (c .before .before .before .before .before .before .before .before .before .if2 .left) (c .before .before .before .before .before .before .before .before .if3 .left) (c .before .before .before .before .before .before .before .read .ensures) (c .before .before .before .before .judge-parsed .ensures)
+returns-4 c = line-read (c .before .before .before .before .before .before .before .before .before .before .before .before .before .before .args .lines) (now (c .before .before .before .before .before .before .before .before .before .before .before .before .before .before .args .line)) (now (c .before .before .before .before .before .before .before .before .before .before .before .before .before .before .args .table)) (c .before .before .before .before .before .before .before .parse-line .result) (c .before .before .before .before .before .before .before .before .before .before .if1 .left) (c .before .before .before .before .before .before .before .before .before .if2 .left) (c .before .before .before .before .before .before .before .before .if3 .left) (c .before .before .before .before .before .before .before .parse-line .ensures) (c .before .before .before .before .judge-parsed .ensures)
 
 pub judge-line-spec : {M : Type 1} → statement M
 judge-line-spec =
@@ -66,7 +66,7 @@ judge-line-spec =
     refuse-line-requires-2
     same-length-3
     returns-3
-    read-requires
+    parse-line-requires
     judge-parsed-requires
     same-length-4
     same-length-5
