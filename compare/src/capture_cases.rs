@@ -76,7 +76,7 @@ mod tests {
             .map(|number| cases.case(number).made.kind as usize)
             .collect();
         assert_eq!(kinds.len(), Kind::ALL.len());
-        assert_eq!(cases.case(0).made.how, "page.csv");
+        assert_eq!(cases.case(0).made.how, "example.csv");
         assert_eq!(cases.total(), cases.ordered.len() + 20);
         let last = cases.case(cases.total() - 1).made;
         assert_eq!(last, random_capture(1, 19));

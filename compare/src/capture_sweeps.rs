@@ -11,7 +11,7 @@ use crate::trace_draws::{damage, some_pairs, Damage};
 
 /// The sheets of the samples, by name.
 const SAMPLES: [(&str, &[u8]); 7] = [
-    ("page.csv", include_bytes!("../../samples/page.csv")),
+    ("example.csv", include_bytes!("../../samples/example.csv")),
     ("morning.csv", include_bytes!("../../samples/morning.csv")),
     (
         "lost_year.csv",

@@ -411,7 +411,7 @@ mod tests {
         assert!(!outcome.all_agree(&cases));
         let report = outcome.report(&cases);
         for line in [
-            "difference 1 of 1: capture 0 (the samples), page.csv: 64 bytes that arrive in a named file",
+            "difference 1 of 1: capture 0 (the samples), example.csv: 64 bytes that arrive in a named file",
             "  the outputs, of 117 and 117 bytes, differ first in line 2",
             "  compare: \"event 2, pair 0: unexplained\\n\"",
             "  program: \"event 28 pair 0: unexplained\\n\"",
@@ -480,7 +480,7 @@ mod tests {
         let outcome = compare(&cases, 0..100, |_, _| Err("no run".to_string()));
         assert!(outcome.all().captures == 0 && outcome.failures.len() <= AT_A_TIME);
         let report = outcome.report(&cases);
-        assert!(report.contains("failure: capture 0 (the samples), page.csv: "));
+        assert!(report.contains("failure: capture 0 (the samples), example.csv: "));
         assert!(report.contains("through a pipe: no run\n"));
         assert!(report.ends_with("0 captures with 0 events, 0 runs, 0 differ\n"));
         assert!(!outcome.all_agree(&cases));
