@@ -18,7 +18,8 @@ use prog.Wp.{Heap, Env, Spot, spotOf, Calls, Loops, WpFn, Tables}
 use ghost.Atoms.{Atoms, sem}
 use contract.Monad.{Fun, fact}
 use contract.Running.{givenOf, tables, tablesOf}
-use types.Kit.{Given, Item, ‵, raw, _⊛_, ⋆, nth, put, some, later, _$_, _∵_, !, qed, by, move, drop, use0, use1, use2, split, join, pick, fsplit, fjoin, suffices, frame, await, done, Seq, Step, step, Goal, Post as PostOf, runs, lands}
+use types.Kit.{Given, Item, ‵, raw, _⊛_, ⋆, nth, put, some, later, _$_, _∵_, !, qed, by, move, drop, use0, use1, use2, split}
+use types.Kit.{join, pick, fsplit, fjoin, suffices, frame, await, done, Seq, Step, step, Goal, Post as PostOf, runs, lands}
 use types.Part.{agg}
 use types.Run.{look, init, stop, fld, from, load, lit, of-opd, and-then, no-more, assigns, land, returns, enter, alloc1, alloc0, params1, pass1, pass0, free0, Opds}
 use sound.WpLaws.{FmC, fmOf, WpFn-mono}
