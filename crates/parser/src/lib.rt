@@ -212,7 +212,7 @@ fn refused(refusal: Refusal) -> ParsedLine
 }
 
 // What a line says.
-pub fn read(line: &[u8]) -> ParsedLine
+pub fn parse_line(line: &[u8]) -> ParsedLine
     ensures { λ r. ⌜ r ≡ parsed (now (line .entry)) ⌝ }
 {
     let found = codes_of(line);

@@ -36,7 +36,7 @@ use denote.Steps.{only, owned, peeks, facts, heard, nothing}
 use denote.Struct.Laws as LL
 use denote.Triple.Statement.{Contract, Triple}
 use denote.Triple.Call.{calls-at}
-use denote.Triple.ParsedLine.{Args, Vals, onParsed}
+use denote.Triple.Entry.{Args, Vals, onEntry}
 use denote.Triple.Spec.{Meets, tripleOf}
 use denote.Triple.Table.{entered, cited}
 use denote.Triple.Walked.{says, Stays, stay-none-slice, walkOf, goes-none-slice, Walks, ends-at, walked, walk-meets}
@@ -165,7 +165,7 @@ module _ {M : Type 1} (𝓤 : URA M) (H : Heap 𝓤) (A : Atoms 𝓤) (W : Given
   typed f = LL.lawful TakenT.the-type Taken′.the-laws 𝓤 H A W .typed (f .it) _ (f .is) .0
 
   -- what is had at entry
-  goes-in : ent 𝓤 (onParsed 𝓤 H A take-all.signature (κ, tt) (q, tt) (s, tt) (v ∷ [], tt)) (⋆ 𝓤 H A (Token ∷ ‵ Own ∷ []))
+  goes-in : ent 𝓤 (onEntry 𝓤 H A take-all.signature (κ, tt) (q, tt) (s, tt) (v ∷ [], tt)) (⋆ 𝓤 H A (Token ∷ ‵ Own ∷ []))
   goes-in = qed W (Token ∷ ‵ (owns (ShrSlice (named 0) κ u8 ∷ []) (s, tt) (v ∷ [], tt)) ∷ []) ∵ frame ! $ fsplit ! $ move ! (1 ∷ []) $ drop ! $ done !
 
   -- a call of `field_at`: what is passed, what it asks, and what it says of the field
@@ -283,9 +283,9 @@ module _ {M : Type 1} (𝓤 : URA M) (H : Heap 𝓤) (A : Atoms 𝓤) (W : Given
         (within t at-2 (fld t refl (stop t))) (store-field t (slot 2) 1 has-2 refl (tt, record { fits = next-fits f }))
 
     -- _0 is the result, _1 the line, _2 the reader; then a local for each field, and two for each call of `field_at`: the line and the place
-    walk : ent 𝓤 (onParsed 𝓤 H A take-all.signature (κ, tt) (q, tt) (s, tt) (v ∷ [], tt)) (WpFn 𝓤 H C Λ code.function (v ∷ []) Post)
+    walk : ent 𝓤 (onEntry 𝓤 H A take-all.signature (κ, tt) (q, tt) (s, tt) (v ∷ [], tt)) (WpFn 𝓤 H C Λ code.function (v ∷ []) Post)
     walk =
-        qed W (raw (onParsed 𝓤 H A take-all.signature (κ, tt) (q, tt) (s, tt) (v ∷ [], tt)) ∷ []) ∵ enter ! C Λ code.function (v ∷ []) _ $
+        qed W (raw (onEntry 𝓤 H A take-all.signature (κ, tt) (q, tt) (s, tt) (v ∷ [], tt)) ∷ []) ∵ enter ! C Λ code.function (v ∷ []) _ $
         alloc1 ! (λ l₀. alloc1 ! (λ l₁. alloc1 ! (λ l₂. alloc1 ! (λ l₃. alloc1 ! (λ l₄. alloc1 ! (λ l₅.
         alloc1 ! (λ l₆. alloc1 ! (λ l₇. alloc1 ! (λ l₈. alloc1 ! (λ l₉. alloc1 ! (λ l₁₀. alloc1 ! (λ l₁₁.
         alloc1 ! (λ l₁₂. alloc1 ! (λ l₁₃. alloc1 ! (λ l₁₄. alloc1 ! (λ l₁₅. alloc1 ! (λ l₁₆. alloc1 ! (λ l₁₇.
@@ -350,5 +350,5 @@ take-all-spec 𝓤 H 𝓜 𝓖 𝓡 =
     entered 𝓤 H (tripleOf 𝓤 H (𝓖 .A) take-all.signature (take-all.spec 𝓤 H (𝓖 .A) (𝓜 .mem) (𝓡 .run)))
     (tables 𝓤 H 𝓜 𝓡 code.env .C) (tables 𝓤 H 𝓜 𝓡 code.env .Λ) #parser·take-all code.function (code.unfolded 𝓤 H 𝓜 𝓡)
     (take-all-meets 𝓤 H (𝓖 .A) (givenOf 𝓤 H 𝓜 𝓖) (𝓜 .mem) (𝓡 .run) (tablesOf 𝓤 H 𝓜 (tables 𝓤 H 𝓜 𝓡 code.env))
-    (cited 𝓤 H (FieldAt 𝓤 H (𝓖 .A) (𝓜 .mem) (𝓡 .run)) 𝓜 𝓡 code.env #parser·field-at field-at-def.routine code.calls-entries·field-at (field-at-thm.met 𝓤 H 𝓜 𝓖 𝓡))
-    (cited 𝓤 H (Gathered 𝓤 H (𝓖 .A) (𝓜 .mem) (𝓡 .run)) 𝓜 𝓡 code.env #parser·gathered gathered-def.routine code.calls-entries·gathered (gathered-thm.met 𝓤 H 𝓜 𝓖 𝓡)))
+    (cited 𝓤 H (FieldAt 𝓤 H (𝓖 .A) (𝓜 .mem) (𝓡 .run)) 𝓜 𝓡 code.env #parser·field-at field-at-def.routine code.calls-parser·field-at (field-at-thm.met 𝓤 H 𝓜 𝓖 𝓡))
+    (cited 𝓤 H (Gathered 𝓤 H (𝓖 .A) (𝓜 .mem) (𝓡 .run)) 𝓜 𝓡 code.env #parser·gathered gathered-def.routine code.calls-parser·gathered (gathered-thm.met 𝓤 H 𝓜 𝓖 𝓡)))
