@@ -82,10 +82,10 @@ eating-stop {ended} {piece} {out₀} {h₀} {table} {out} {taken} {put} {lines} 
   where
     here : eatLeftOf piece out₀ (now-held piece taken put lines going table out) ≡ eatLeft (record { taken = taken; put = put; lines = lines; going = going }) table out
     here =
-        ap₂ (λ (m : ℕ) (s : List ℕ). left (record { taken = m; put = length (take put out); lines = lines; going = going }) table s)
+        ap₂ (λ (m : ℕ) (s : List ℕ). eatLeft (record { taken = m; put = length (take put out); lines = lines; going = going }) table s)
         (ap (λ n. length piece - n) (length-drop taken piece) ∙ omega (arith, e .inside))
         (ap (λ n. take put out ++ drop n out₀) (length-front put out (e .fits)) ∙ ap (λ (s : List ℕ). take put out ++ s) (sym (e .tail)) ∙ take-append-drop put out)
-        ∙ ap (λ n. left (record { taken = taken; put = n; lines = lines; going = going }) table out) (length-front put out (e .fits))
+        ∙ ap (λ n. eatLeft (record { taken = taken; put = n; lines = lines; going = going }) table out) (length-front put out (e .fits))
 
 -- behind a text that was put stands what stood there
 put-tail : (at : ℕ) (out s : List ℕ) → at ≤ length out → drop (at + length s) (take at out ++ s ++ drop (at + length s) out) ≡ drop (at + length s) out

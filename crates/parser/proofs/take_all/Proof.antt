@@ -225,7 +225,7 @@ module _ {M : Type 1} (𝓤 : URA M) (H : Heap 𝓤) (A : Atoms 𝓤) (W : Given
       -- the same as the machine has them
       abbrev all-lowered : Vals gathered.signature tt
       all-lowered =
-          let low = λ (f : Found). Taken′.lowered (f .it) ∷ [] in
+          let low : Found → List Val = λ f. Taken′.lowered (f .it) ∷ [] in
           (low f₀, (low f₁, (low f₂, (low f₃, (low f₄, (low f₅, (low f₆, (low f₇, (low f₈, (low f₉, (low f₁₀, tt)))))))))))
 
       abbrev to-gathered : Gathered 𝓤 H A mem run .Ghost

@@ -52,8 +52,8 @@ returns-3 c =
     let args = c .before .before .before .before .before .before .before .before .before .before .args in
     line-too-long (args .lines) (now (args .line)) (now (args .table)) (if1 .left) (if2 .left) (if3 .taken) (refuse-line2 .ensures)
 
-read-requires : tie.Need-read-requires
-read-requires c κs = search needs
+parse-line-requires : tie.Need-parse-line-requires
+parse-line-requires c κs = search needs
 
 judge-parsed-requires : tie.Need-judge-parsed-requires
 judge-parsed-requires c κs =
@@ -73,13 +73,13 @@ same-length-5 c = search needs
 returns-4 : tie.Need-returns-4
 returns-4 c =
     let judge-parsed = c .before .before .before .before .judge-parsed in
-    let read = c .before .before .before .before .before .before .before .read in
+    let parse-line = c .before .before .before .before .before .before .before .parse-line in
     let if3 = c .before .before .before .before .before .before .before .before .if3 in
     let if2 = c .before .before .before .before .before .before .before .before .before .if2 in
     let at-if1 = c .before .before .before .before .before .before .before .before .before .before in
     let if1 = at-if1 .if1 in
     let args = at-if1 .before .before .before .before .args in
-    line-read (args .lines) (now (args .line)) (now (args .table)) (read .result) (if1 .left) (if2 .left) (if3 .left) (read .ensures)
+    line-read (args .lines) (now (args .line)) (now (args .table)) (parse-line .result) (if1 .left) (if2 .left) (if3 .left) (parse-line .ensures)
     (judge-parsed .ensures)
 
 pub judge-line-spec : {M : Type 1} → statement M
@@ -96,7 +96,7 @@ judge-line-spec =
     refuse-line-requires-2
     same-length-3
     returns-3
-    read-requires
+    parse-line-requires
     judge-parsed-requires
     same-length-4
     same-length-5
