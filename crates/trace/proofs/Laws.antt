@@ -16,7 +16,7 @@ use Rattle.event.specs.Refusals.{Issue, fault}
 use Rattle.trace.specs.declared.Outcome.{Outcome}
 use Rattle.verdicts.specs.Verdicts.{afterSet, verdict, dutyByte}
 use Rattle.trace.specs.Events.{TraceEvent, eventsFrom, run, outputs}
-use Rattle.trace.specs.Lent.{Lent, left, count}
+use Rattle.trace.specs.Lent.{Left, Lent, left, count}
 use Rattle.trace.specs.Given.{Fits}
 use Rattle.trace.specs.Judged.{accepts, acceptedLeft, refusedLeft, judged}
 use Rattle.trace.specs.Code.{Room, AllJudged}
