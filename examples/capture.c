@@ -1,9 +1,12 @@
-/* Reads a binary capture, judges it, and prints the events that nothing explains and who holds each duty: capture
- * [FILE]
+/* Judges a binary capture, and prints each unexplained event and each duty that was handed over or lost.
  *
- * A capture is records of 16 bytes, one an event: its pair's number in two bytes, low byte first, then the event's 14
- * bytes. Each of the 4,096 pairs starts from any state. The capture is judged 4,096 events at a time, each part from
- * the sets that the one before it left. */
+ *   capture [FILE]
+ *
+ * A capture has a record of 16 bytes for each event: the pair number in two bytes, low byte first, then the 14 bytes of the
+ * event. Without FILE it is read from standard input. There are 4,096 pairs, and each starts with all seven states possible.
+ *
+ * The capture may have any length. It is judged 4,096 events at a time, and the table of sets goes from each part to the
+ * next. */
 
 #include <errno.h>
 #include <stdio.h>
@@ -13,7 +16,7 @@
 /* How many bytes a record has. */
 #define RECORD_BYTES (2 + KOREHYUMO_EVENT_BYTES)
 
-/* A part of a capture as it is lent to the judge, and what comes back of each event. */
+/* Up to 4,096 events of a capture as they are lent to the judge, and what it answers. */
 struct part {
     size_t count;
     uint8_t events[KOREHYUMO_MOST * KOREHYUMO_EVENT_BYTES];
@@ -23,19 +26,19 @@ struct part {
     uint8_t afters[KOREHYUMO_MOST];
 };
 
-/* What is known of a capture so far: each pair's set, and how many events there were of each verdict. */
+/* What the capture has shown so far: the set of each pair, and how many events got each verdict. */
 struct known {
     uint8_t table[KOREHYUMO_MOST];
     unsigned long long verdicts[3];
 };
 
-/* How many events there were. */
+/* How many events were judged so far. */
 static unsigned long long events_known(const struct known *known)
 {
     return known->verdicts[KOREHYUMO_EXPLAINED] + known->verdicts[KOREHYUMO_UNEXPLAINED] + known->verdicts[KOREHYUMO_NOT_JUDGED];
 }
 
-/* Reads the next part of a capture: 1 where it has come, or 0 with the fault told. */
+/* Reads the next part of a capture. Returns 0, with a message on standard error, if it can't. */
 static int read_part(FILE *capture, const struct known *known, struct part *part)
 {
     static uint8_t records[KOREHYUMO_MOST * RECORD_BYTES];
@@ -57,7 +60,7 @@ static int read_part(FILE *capture, const struct known *known, struct part *part
     return 1;
 }
 
-/* Judges a part from the sets that are known, which go on: 1, or 0 with the refusal told. */
+/* Judges a part and updates the table of sets. Returns 0, with a message on standard error, if the part is refused. */
 static int judge_part(struct known *known, struct part *part)
 {
     size_t n = part->count;
@@ -69,7 +72,7 @@ static int judge_part(struct known *known, struct part *part)
     return 0;
 }
 
-/* Prints what the bench wants to know of a judged part, and counts its verdicts. */
+/* Prints the findings of a judged part, and counts its verdicts. */
 static void tell_part(struct known *known, const struct part *part)
 {
     static const char *const duties[] = {0, "Home holds the duty", "the Requester holds the duty", "the duty is lost"};
@@ -82,7 +85,7 @@ static void tell_part(struct known *known, const struct part *part)
     }
 }
 
-/* Judges a capture to its end: 0, or 1 where it could not be. */
+/* Judges a whole capture. Returns the exit status. */
 static int judge_capture(FILE *capture)
 {
     static struct known known;
@@ -98,15 +101,15 @@ static int judge_capture(FILE *capture)
     return 0;
 }
 
-int main(int count, char **words)
+int main(int argc, char **argv)
 {
-    if (count > 2) {
+    if (argc > 2) {
         fprintf(stderr, "usage: capture [FILE]\n");
         return 2;
     }
-    FILE *capture = count == 2 ? fopen(words[1], "rb") : stdin;
+    FILE *capture = argc == 2 ? fopen(argv[1], "rb") : stdin;
     if (!capture) {
-        fprintf(stderr, "capture: %s: %s\n", words[1], strerror(errno));
+        fprintf(stderr, "capture: %s: %s\n", argv[1], strerror(errno));
         return 1;
     }
     int status = judge_capture(capture);

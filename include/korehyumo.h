@@ -1,38 +1,50 @@
-/* Korehyumo, the snoop judge, for C and for whatever calls C. The functions are proved: for every
- * input each gives exactly the result, and leaves exactly the bytes, that its comment says, and
- * ends.
+/* Korehyumo, the snoop judge, for C and for every language that calls C.
  *
- * Link with libkorehyumo.a (x86-64): `rt staticlib korehyumo` writes it to target/staticlib. It
- * needs no other library, keeps nothing between calls, takes no memory of its own but a little of
- * the stack, and may be called from several threads at once.
+ * The two functions below judge AMBA CHI snoop answers. Each is proved to return, for every input,
+ * and to leave exactly the result and the bytes that its claim states (crates/korehyumo/src/lib.rt).
+ * This header says the same in words.
  *
- * States: I 0, UC 1, UCE 2, UD 3, UDP 4, SC 5, SD 6. A set of states is a byte in which state n has
- * weight 2 to the n, so 127 is any of the seven.
+ * LINKING. `rt staticlib korehyumo` writes target/staticlib/libkorehyumo.a, for x86-64:
  *
- * An event is 14 bytes: request, RetToSrc, DoNotGoToSD, excl, tag state (3 not seen), channel,
- * opcode, Resp, FwdState, TagOp, RespErr, forwarded data present, its Resp, state after (7 not
- * seen).
+ *   cc -Iinclude program.c -Ltarget/staticlib -lkorehyumo
  *
- * The result of either function is the place times 256 plus the number of the refusal:
+ * The archive needs no other library. It keeps no state between calls and allocates nothing. Several
+ * threads may call it at once.
  *
- *   number  given exactly when                                             place
- *   0       accepted                                                       how many events
- *   1       event bytes not a multiple of 14 (one event: not 14), over     0
- *           4,096 events or pairs, or pair numbers, verdicts, duties or
- *           after-sets not one for each event
- *   2       a set above 127 in the table                                   the lowest such pair
- *   3       a pair number not below the table's length                     that event
- *   4       a byte from 1 to 13 of an event outside its range              that event
- *   5       a request that is not one of the seven that are judged         that event
+ * EVENTS. An event is one snoop and its answer, in 14 bytes:
  *
- * The first that applies is given: 1, then 2 over the table, then event by event 3, 4, 5.
+ *   byte  field        range        byte  field                   range
+ *   0     request      see below    7     Resp                    0 to 7
+ *   1     RetToSrc     0 or 1       8     FwdState                0 to 7
+ *   2     DoNotGoToSD  0 or 1       9     TagOp                   0 to 3
+ *   3     excl         0 or 1       10    RespErr                 0 to 3
+ *   4     tag state    0 to 3       11    forwarded data present  0 or 1
+ *   5     channel      0 or 1       12    its Resp                0 to 7
+ *   6     opcode       0 to 31      13    state after             0 to 7
  *
- * What a caller owes: a pointer lends as many elements as the length after it says, and the memory
- * is the caller's own for the length of the call; `pairs` is aligned for its 16-bit numbers. A null
- * pointer with length 0 is a buffer of length 0. A null pointer with another length, a null `sets`
- * or `duties` of korehyumo_event, a length beyond the buffer, and a buffer that is written and
- * overlaps another are the caller's fault: what happens then is not said. Every other input is
- * answered.
+ * Seven requests are judged: SnpShared 1, SnpClean 2, SnpNotSharedDirty 4, SnpCleanFwd 18,
+ * SnpNotSharedDirtyFwd 20, SnpPreferUnique 21, SnpPreferUniqueFwd 22. A tag state of 3 was not seen.
+ * A state after of 7 was not seen. docs/DEFINITION.md has the codes of every field.
+ *
+ * PAIRS AND SETS. A pair is one cache line in one cache. What it can be in is a set of states: a byte
+ * in which state n has weight 2 to the n.
+ *
+ * RESULTS. Every result reads alike:
+ *
+ *   lower 32 bits  the place times 256, plus the number of the refusal (0 is accepted)
+ *   upper 32 bits  what more the call answers; both calls below answer 0 there
+ *
+ * korehyumo_number() and korehyumo_place() read the lower half.
+ *
+ * BUFFERS. A pointer lends as many elements as the length after it says. A null pointer with length 0
+ * is an empty buffer. Every input that keeps these five rules is answered. Breaking one is undefined
+ * behaviour.
+ *
+ *   - A null pointer has length 0. `sets` and `duties` of korehyumo_event are never null.
+ *   - No length is greater than its buffer.
+ *   - `pairs` is aligned for uint16_t.
+ *   - A buffer that the call may write overlaps no other buffer of the call.
+ *   - During the call nobody else writes a buffer, or reads one that the call may write.
  */
 #ifndef KOREHYUMO_H
 #define KOREHYUMO_H
@@ -44,27 +56,45 @@
 extern "C" {
 #endif
 
+/* The version of this interface, as numbers and as text. */
+#define KOREHYUMO_VERSION_MAJOR 0
+#define KOREHYUMO_VERSION_MINOR 1
+#define KOREHYUMO_VERSION_PATCH 0
+#define KOREHYUMO_VERSION "0.1.0"
+
 /* How many bytes an event has. */
 #define KOREHYUMO_EVENT_BYTES 14
 
 /* The most events, and the most pairs, of one call. */
 #define KOREHYUMO_MOST 4096
 
-/* The set of all seven states: nothing is known of what the cache holds. */
+/* The set of all seven states: nothing is known of the line. */
 #define KOREHYUMO_ALL_STATES 127
 
-/* The line states, by the weight of each in a set. */
+/* The states of a line by number: the index of `sets` and `duties`, and byte 13 of an event. */
 enum {
-    KOREHYUMO_I = 1 << 0,
-    KOREHYUMO_UC = 1 << 1,
-    KOREHYUMO_UCE = 1 << 2,
-    KOREHYUMO_UD = 1 << 3,
-    KOREHYUMO_UDP = 1 << 4,
-    KOREHYUMO_SC = 1 << 5,
-    KOREHYUMO_SD = 1 << 6
+    KOREHYUMO_STATE_I = 0,
+    KOREHYUMO_STATE_UC = 1,
+    KOREHYUMO_STATE_UCE = 2,
+    KOREHYUMO_STATE_UD = 3,
+    KOREHYUMO_STATE_UDP = 4,
+    KOREHYUMO_STATE_SC = 5,
+    KOREHYUMO_STATE_SD = 6,
+    KOREHYUMO_STATE_NOT_SEEN = 7 /* in byte 13 only */
 };
 
-/* The numbers of the refusals. */
+/* The states of a line by their weight in a set: I or SC is KOREHYUMO_I | KOREHYUMO_SC. */
+enum {
+    KOREHYUMO_I = 1 << KOREHYUMO_STATE_I,
+    KOREHYUMO_UC = 1 << KOREHYUMO_STATE_UC,
+    KOREHYUMO_UCE = 1 << KOREHYUMO_STATE_UCE,
+    KOREHYUMO_UD = 1 << KOREHYUMO_STATE_UD,
+    KOREHYUMO_UDP = 1 << KOREHYUMO_STATE_UDP,
+    KOREHYUMO_SC = 1 << KOREHYUMO_STATE_SC,
+    KOREHYUMO_SD = 1 << KOREHYUMO_STATE_SD
+};
+
+/* The numbers of the refusals; the tables below say when each is given. */
 enum {
     KOREHYUMO_ACCEPTED = 0,
     KOREHYUMO_LENGTHS = 1,
@@ -74,24 +104,22 @@ enum {
     KOREHYUMO_REQUEST = 5
 };
 
-/* The verdicts. Unexplained: the set of the pair was not empty, and the rows permit no step from
- * any of its states. Not judged: it was empty. */
+/* The verdicts on an event, by the set of its pair before it. */
 enum {
-    KOREHYUMO_EXPLAINED = 0,
-    KOREHYUMO_UNEXPLAINED = 1,
-    KOREHYUMO_NOT_JUDGED = 2
+    KOREHYUMO_EXPLAINED = 0,   /* the rows permit a step from a state of the set */
+    KOREHYUMO_UNEXPLAINED = 1, /* the set is not empty, and the rows permit no step from it */
+    KOREHYUMO_NOT_JUDGED = 2   /* the set is empty: the pair was lost before */
 };
 
-/* Who was told of the duty to write back by an explained event. Lost: a non-data error, and the
- * cache could have held the line Dirty. */
+/* The duty to write a Dirty line back: to whom an explained event handed it. */
 enum {
-    KOREHYUMO_DUTY_NONE = 0,
-    KOREHYUMO_DUTY_HOME = 1,
-    KOREHYUMO_DUTY_REQUESTER = 2,
-    KOREHYUMO_DUTY_LOST = 3
+    KOREHYUMO_DUTY_NONE = 0,      /* to nobody: no duty was handed over */
+    KOREHYUMO_DUTY_HOME = 1,      /* to Home */
+    KOREHYUMO_DUTY_REQUESTER = 2, /* to the Requester */
+    KOREHYUMO_DUTY_LOST = 3       /* to nobody: a non-data error, and the line may have been Dirty */
 };
 
-/* The number of the refusal in a result. */
+/* The number of the refusal in a result; 0 is accepted. */
 static inline unsigned korehyumo_number(uint64_t result)
 {
     return (unsigned)(result % 256);
@@ -100,34 +128,73 @@ static inline unsigned korehyumo_number(uint64_t result)
 /* The place in a result. */
 static inline size_t korehyumo_place(uint64_t result)
 {
-    return (size_t)(result / 256);
+    return (size_t)((result & 0xFFFFFFFFu) / 256);
 }
 
 /* Judges one event alone, from each of the seven states.
  *
- * Lent: the event's bytes, any number of them, which are only read; and `sets` and `duties`, seven
- * bytes each, which are always written.
- * Result: 256 (number 0, place 1) for an accepted event; else its number, 1, 4 or 5, with place 0.
- * Accepted: sets[s] is the set of states in which the line can be after the event if it was in
- * state s before, 0 where the rows permit no step from s; duties[s] is the duty judged from state s
- * alone, 0 where sets[s] is 0.
- * Refused: all fourteen bytes are 0. */
+ *   lent, read     event    event_len bytes; null with length 0 is an event of no bytes
+ *   lent, written  sets     7 bytes, one for each state before; written even when refused
+ *                  duties   7 bytes, one for each state before; written even when refused
+ *   result         256 (number 0, place 1) when accepted, else the number of the refusal (place 0)
+ *
+ *   number                refused when (the first that applies is given)
+ *   1 KOREHYUMO_LENGTHS   event_len is not 14
+ *   4 KOREHYUMO_RANGE     a byte from 1 to 13 is outside its range
+ *   5 KOREHYUMO_REQUEST   the request is not one of the seven
+ *
+ * Accepted: sets[s] is the set of states that the line can be in after the event if it was in state s
+ * before; it is 0 where the rows permit no step from s. duties[s] is the duty, judged from state s
+ * alone; it is 0 where sets[s] is 0. Refused: all 14 bytes are 0.
+ *
+ * Example: SnpClean answered by SnpResp_SC. A line in UC is in I or SC afterwards.
+ *
+ *   uint8_t event[14] = {2, 0, 0, 0, 0, 0, 1, 1, 0, 0, 0, 0, 0, 7}, sets[7], duties[7];
+ *   uint64_t result = korehyumo_event(event, 14, sets, duties);
+ *   // result == 256, sets[KOREHYUMO_STATE_UC] == (KOREHYUMO_I | KOREHYUMO_SC), no duty
+ */
 uint64_t korehyumo_event(const uint8_t *event, size_t event_len,
                          uint8_t sets[7], uint8_t duties[7]);
 
-/* Judges a whole trace, each event on what its pair's line can be in by then.
+/* Judges a whole trace, each event on the set of its pair. All lengths count elements.
  *
- * Lent and only read: `events`, 14 bytes for each of n events; `pairs`, the number of each event's
- * pair. Lengths count elements.
- * Lent and written: `table`, a set of states for each pair, as they are before the first event;
- * `verdicts`, `duties` and `afters`, a byte for each event. What the last three hold before doesn't
- * matter.
- * Result: n times 256 for an accepted trace; else a refusal, 1 to 5 of the table above, at its place.
- * Accepted: table[p] is the set of exactly the states in which some permitted history of pair p
- * ends; verdicts[k], duties[k] and afters[k] are event k's verdict, the duty that it handed
- * over (0 where it isn't explained), and the set of its pair after it. The table is then the
- * starting table for the events that follow, so a capture of any length is judged in parts.
- * Refused: every byte of every buffer is as it came. */
+ *   lent, read     events    14 bytes for each of n events
+ *                  pairs     the pair number of each event
+ *   lent, written  table     a set for each pair: lent as before the trace, left as after it
+ *                  verdicts  a byte for each event; the bytes lent don't matter
+ *                  duties    the same
+ *                  afters    the same
+ *   result         n times 256 (number 0, place n) when accepted, else a refusal and its place
+ *
+ * Each of the six may be null with length 0. All six null is an accepted trace of no events.
+ *
+ *   number                refused when (the first that applies is given)            place
+ *   1 KOREHYUMO_LENGTHS   events_len is not a multiple of 14, there are more than   0
+ *                         4,096 events, table_len is above 4,096, or pairs_len,
+ *                         verdicts_len, duties_len or afters_len is not n
+ *   2 KOREHYUMO_SET       a set in the table is above 127                           lowest such pair
+ *   Then event by event:
+ *   3 KOREHYUMO_PAIR      its pair number is not below table_len                    that event
+ *   4 KOREHYUMO_RANGE     one of its bytes from 1 to 13 is outside its range        that event
+ *   5 KOREHYUMO_REQUEST   its request is not one of the seven                       that event
+ *
+ * Accepted: verdicts[k] is event k's verdict, duties[k] its duty (0 unless it is explained), and
+ * afters[k] its pair's set after it. table[p] is exactly the set of states in which some permitted
+ * history of pair p ends. To judge a longer capture, lend the table again with the next events.
+ * Refused: every byte of every buffer is as it was lent.
+ *
+ * Example: a cache hands its Dirty line to Home, then claims to hold it still.
+ *
+ *   const uint8_t events[28] = {1, 0, 0, 0, 0, 1, 1, 5, 0, 0, 0, 0, 0, 7,  // SnpRespData_SC_PD
+ *                               2, 0, 0, 0, 0, 1, 1, 3, 0, 0, 0, 0, 0, 7}; // SnpRespData_SD
+ *   const uint16_t pairs[2] = {0, 0};
+ *   uint8_t table[1] = {KOREHYUMO_ALL_STATES}, verdicts[2], duties[2], afters[2];
+ *   uint64_t result = korehyumo_trace(events, 28, pairs, 2, table, 1,
+ *                                     verdicts, 2, duties, 2, afters, 2);
+ *   // result == 2 * 256
+ *   // event 0: KOREHYUMO_EXPLAINED, KOREHYUMO_DUTY_HOME, KOREHYUMO_I | KOREHYUMO_SC
+ *   // event 1: KOREHYUMO_UNEXPLAINED, KOREHYUMO_DUTY_NONE, 0, and table[0] == 0
+ */
 uint64_t korehyumo_trace(const uint8_t *events, size_t events_len,
                          const uint16_t *pairs, size_t pairs_len,
                          uint8_t *table, size_t table_len,

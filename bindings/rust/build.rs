@@ -1,10 +1,10 @@
-//! Links the library's archive, or says why that can't be done.
+//! Links the library's archive, or says why it can't.
 
 use std::env;
 use std::path::PathBuf;
 use std::process;
 
-/// The archive's name in its folder.
+/// The archive's file name.
 const ARCHIVE: &str = "libkorehyumo.a";
 
 fn main() {
@@ -33,7 +33,7 @@ fn main() {
     println!("cargo:rustc-link-lib=static=korehyumo");
 }
 
-/// The folder that the archive is looked for in.
+/// The folder of the archive.
 fn folder() -> PathBuf {
     match env::var_os("KOREHYUMO_LIB_DIR") {
         Some(folder) => PathBuf::from(folder),
@@ -41,7 +41,7 @@ fn folder() -> PathBuf {
     }
 }
 
-/// A variable that cargo gives to every build script.
+/// An environment variable that cargo sets for every build script.
 fn variable(name: &str) -> String {
     env::var(name).unwrap_or_else(|_| stop(&format!("cargo gave no {name}")))
 }

@@ -1,28 +1,28 @@
-/* Holds the C interface at its border to what the header says: lengths, null, places, and that a refused trace writes
- * nothing. */
+/* Tests what the header says of the edges of the C interface: lengths, null pointers, places, and that a refused trace
+ * writes nothing. */
 
 #include <stdio.h>
 #include <string.h>
 #include "korehyumo.h"
 
-/* More events and pairs than a call may have. */
+/* One more than the most events and pairs of a call. */
 #define ROOM (KOREHYUMO_MOST + 1)
 
-/* What the buffers hold before a call. */
+/* The byte that fills the outputs before a call; no answer has it. */
 #define BEFORE 0x5A
 
-/* What is lent in a call, with one byte more behind each. */
+/* The buffers of a call, each with one element more than is ever lent. */
 static uint8_t events[ROOM * KOREHYUMO_EVENT_BYTES + 1];
 static uint16_t pairs[ROOM + 1];
 static uint8_t table[ROOM + 1], verdicts[ROOM + 1], duties[ROOM + 1], afters[ROOM + 1];
 
-/* How many calls were answered otherwise than the header says. */
+/* How many checks failed. */
 static int wrong;
 
-/* SnpClean answered by SnpResp_SC, which UC and SC explain. */
+/* SnpClean answered by SnpResp_SC: explained from UC and from SC. */
 static const uint8_t good[KOREHYUMO_EVENT_BYTES] = {2, 0, 0, 0, 0, 0, 1, 1, 0, 0, 0, 0, 0, 7};
 
-/* Tells what a call should have answered, where it did not. */
+/* Counts and prints a check that fails. */
 static void hold(const char *what, int holds)
 {
     if (holds)
@@ -31,7 +31,7 @@ static void hold(const char *what, int holds)
     wrong++;
 }
 
-/* Sets the events to good ones of pair 0, each pair to any state, and the outputs to what they are known by. */
+/* Makes every event good and of pair 0, gives every pair all seven states, and fills the outputs with BEFORE. */
 static void fill(void)
 {
     for (size_t k = 0; k < ROOM; k++)
@@ -43,13 +43,13 @@ static void fill(void)
     memset(afters, BEFORE, sizeof afters);
 }
 
-/* Judges with these lengths what is lent. */
+/* Judges the buffers with these lengths. */
 static uint64_t judge(size_t event_bytes, size_t pair_numbers, size_t sets, size_t v, size_t d, size_t a)
 {
     return korehyumo_trace(events, event_bytes, pairs, pair_numbers, table, sets, verdicts, v, duties, d, afters, a);
 }
 
-/* Whether a buffer holds one byte throughout. */
+/* Whether every byte of a buffer is this one. */
 static int all(const uint8_t *bytes, size_t len, uint8_t byte)
 {
     for (size_t n = 0; n < len; n++)
@@ -58,14 +58,14 @@ static int all(const uint8_t *bytes, size_t len, uint8_t byte)
     return 1;
 }
 
-/* Whether all outputs are as they were, and the table too but for one pair. */
+/* Whether the outputs are as they were filled, and the table too except at one pair. */
 static int untouched_but(size_t pair)
 {
     return all(table, pair, KOREHYUMO_ALL_STATES) && all(table + pair + 1, sizeof table - pair - 1, KOREHYUMO_ALL_STATES)
         && all(verdicts, sizeof verdicts, BEFORE) && all(duties, sizeof duties, BEFORE) && all(afters, sizeof afters, BEFORE);
 }
 
-/* Wrong lengths are 1 with place 0, and nothing is written. */
+/* Wrong lengths are refused with 1 at place 0, and nothing is written. */
 static void wrong_lengths(void)
 {
     fill();
@@ -80,7 +80,7 @@ static void wrong_lengths(void)
     hold("lengths that are refused write nothing", untouched_but(0) && table[0] == KOREHYUMO_ALL_STATES);
 }
 
-/* The refusal of event 4,095 has place 4,095, that of pair 4,095 too, and nothing is written. */
+/* Refusals at the last event and at the last pair have place 4,095, and nothing is written. */
 static void last_places(void)
 {
     size_t n = KOREHYUMO_MOST, last = n - 1;
@@ -97,7 +97,7 @@ static void last_places(void)
     hold("a refused set stays", untouched_but(last) && table[last] == 128);
 }
 
-/* The longest trace is accepted with place 4,096, and only what is lent is written. */
+/* The longest trace is accepted with place 4,096, and nothing is written past the lengths lent. */
 static void longest(void)
 {
     size_t n = KOREHYUMO_MOST;
@@ -106,10 +106,10 @@ static void longest(void)
     hold("all are explained", all(verdicts, n, KOREHYUMO_EXPLAINED) && all(duties, n, KOREHYUMO_DUTY_NONE));
     hold("each leaves I or SC", all(afters, n, KOREHYUMO_I | KOREHYUMO_SC) && table[0] == (KOREHYUMO_I | KOREHYUMO_SC));
     hold("other pairs stay", all(table + 1, sizeof table - 1, KOREHYUMO_ALL_STATES));
-    hold("nothing behind a buffer is written", verdicts[n] == BEFORE && duties[n] == BEFORE && afters[n] == BEFORE);
+    hold("nothing past a length is written", verdicts[n] == BEFORE && duties[n] == BEFORE && afters[n] == BEFORE);
 }
 
-/* Null with length 0 is a buffer of length 0. */
+/* A null pointer with length 0 is an empty buffer. */
 static void null_for_none(void)
 {
     fill();
@@ -120,7 +120,7 @@ static void null_for_none(void)
     hold("null calls write nothing", untouched_but(0) && table[0] == KOREHYUMO_ALL_STATES);
 }
 
-/* One event alone: accepted is 256, a refused one is its number, and the seven sets and duties are always written. */
+/* One event alone: the result is 256 or the refusal, and the seven sets and duties are always written. */
 static void one_event(void)
 {
     uint8_t event[KOREHYUMO_EVENT_BYTES + 1] = {0}, sets[7], alone[7];
@@ -141,6 +141,44 @@ static void one_event(void)
     hold("a byte out of range is 4", korehyumo_event(event, 14, sets, alone) == KOREHYUMO_RANGE);
 }
 
+/* The example of korehyumo_event in the header. */
+static void event_example(void)
+{
+    uint8_t event[14] = {2, 0, 0, 0, 0, 0, 1, 1, 0, 0, 0, 0, 0, 7}, sets[7], alone[7];
+    uint64_t result = korehyumo_event(event, 14, sets, alone);
+    hold("the event's example is 256", result == 256 && sets[KOREHYUMO_STATE_UC] == (KOREHYUMO_I | KOREHYUMO_SC) && all(alone, 7, 0));
+}
+
+/* The example of korehyumo_trace in the header. */
+static void trace_example(void)
+{
+    const uint8_t two[28] = {1, 0, 0, 0, 0, 1, 1, 5, 0, 0, 0, 0, 0, 7, 2, 0, 0, 0, 0, 1, 1, 3, 0, 0, 0, 0, 0, 7};
+    fill();
+    uint64_t result = korehyumo_trace(two, 28, pairs, 2, table, 1, verdicts, 2, duties, 2, afters, 2);
+    hold("the trace's example is 2 * 256", result == 2 * 256 && table[0] == 0);
+    hold("its event 0", verdicts[0] == KOREHYUMO_EXPLAINED && duties[0] == KOREHYUMO_DUTY_HOME);
+    hold("its states after event 0", afters[0] == (KOREHYUMO_I | KOREHYUMO_SC));
+    hold("its event 1", verdicts[1] == KOREHYUMO_UNEXPLAINED && duties[1] == KOREHYUMO_DUTY_NONE && afters[1] == 0);
+}
+
+/* A result is read by its lower 32 bits. */
+static void results(void)
+{
+    uint64_t result = 4095 * 256 + 5, more = (uint64_t)7 << 32;
+    hold("a result's number", korehyumo_number(result) == 5 && korehyumo_number(result + more) == 5);
+    hold("a result's place", korehyumo_place(result) == 4095 && korehyumo_place(result + more) == 4095);
+}
+
+/* The constants of the header agree with each other. */
+static void constants(void)
+{
+    char version[16];
+    snprintf(version, sizeof version, "%d.%d.%d", KOREHYUMO_VERSION_MAJOR, KOREHYUMO_VERSION_MINOR, KOREHYUMO_VERSION_PATCH);
+    hold("the version as numbers and as text", strcmp(version, KOREHYUMO_VERSION) == 0);
+    hold("the states make the set of all", KOREHYUMO_ALL_STATES == (KOREHYUMO_I | KOREHYUMO_UC | KOREHYUMO_UCE | KOREHYUMO_UD
+                                                                    | KOREHYUMO_UDP | KOREHYUMO_SC | KOREHYUMO_SD));
+}
+
 int main(void)
 {
     wrong_lengths();
@@ -148,7 +186,10 @@ int main(void)
     longest();
     null_for_none();
     one_event();
-    hold("a result is read as its number and its place", korehyumo_number(4095 * 256 + 5) == 5 && korehyumo_place(4095 * 256 + 5) == 4095);
+    event_example();
+    trace_example();
+    results();
+    constants();
     printf("border: %d wrong\n", wrong);
     return wrong != 0;
 }

@@ -1,11 +1,11 @@
-/* Judges events one by one through the C interface: records of 41 bytes from standard input, answers of 16 to standard
- * output, as ./judge-events --help says. The event stands before a page that can't be touched, and each answer is
- * written over bytes that it must change. */
+/* Judges events one by one through the C interface: records of 41 bytes in, answers of 16 bytes out, in the format of
+ * tests/each_event. The event ends at a page that can't be touched, and the answers are written over bytes that they must
+ * change. */
 
 #include "rooms.h"
 #include "korehyumo.h"
 
-/* How many bytes of a record may be an event's. */
+/* The most bytes of an event in a record. */
 #define EVENT_ROOM 40
 
 int main(void)

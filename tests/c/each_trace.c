@@ -1,29 +1,29 @@
-/* Judges whole traces one after another through the C interface: cases from standard input, answers to standard output,
- * as ./judge-traces --help says. What is lent stands between pages that can't be touched, the events and pair numbers
- * can't be written during the call, and every other case lends null for no bytes. */
+/* Judges whole traces one after another through the C interface, in the format of tests/each_trace. The buffers lie between
+ * pages that can't be touched, the events and pair numbers can't be written during the call, and half of the cases lend a null
+ * pointer for an empty buffer. */
 
 #include "rooms.h"
 #include "korehyumo.h"
 
-/* The six parts of a case. */
+/* The six buffers of a case. */
 enum { EVENTS, PAIRS, TABLE, VERDICTS, DUTIES, AFTERS, PARTS };
 
-/* How many bytes there is room for in each part. */
+/* The most bytes of each buffer. */
 static const size_t most[PARTS] = {65536, 2 * 8192, 8192, 8192, 8192, 8192};
 
-/* The number of 32 bits at a place, low byte first. */
+/* The 32-bit number at an address, low byte first. */
 static size_t number_at(const uint8_t *at)
 {
     return at[0] | (size_t)at[1] << 8 | (size_t)at[2] << 16 | (size_t)at[3] << 24;
 }
 
-/* Reads exactly so many bytes, and tells whether they came. */
+/* Reads exactly so many bytes, and says whether they came. */
 static int came(uint8_t *bytes, size_t len)
 {
     return fread(bytes, 1, len, stdin) == len;
 }
 
-/* Writes so many bytes, and ends the program where they don't go. */
+/* Writes so many bytes, or ends the program. */
 static void put(const uint8_t *bytes, size_t len)
 {
     if (fwrite(bytes, 1, len, stdout) == len)
@@ -32,7 +32,7 @@ static void put(const uint8_t *bytes, size_t len)
     exit(2);
 }
 
-/* Reads a case into the rooms, and tells whether one came whole. */
+/* Reads a case into the rooms, and says whether a whole one came. */
 static int read_case(struct room *rooms, struct buffer *buffers, int at_end)
 {
     uint8_t lengths[4 * PARTS];
@@ -49,7 +49,7 @@ static int read_case(struct room *rooms, struct buffer *buffers, int at_end)
     return 1;
 }
 
-/* Makes 16-bit numbers of the bytes of the pair numbers, in their place. */
+/* Turns the bytes of the pair numbers into 16-bit numbers in place. */
 static void number_pairs(const struct buffer *pairs)
 {
     uint16_t *numbers = (uint16_t *)(void *)pairs->bytes;
@@ -57,7 +57,7 @@ static void number_pairs(const struct buffer *pairs)
         numbers[k] = (uint16_t)(pairs->bytes[2 * k] | pairs->bytes[2 * k + 1] << 8);
 }
 
-/* Judges a case where nothing but the four buffers can be written. */
+/* Judges a case while the events and pair numbers can't be written. */
 static uint64_t judge(struct room *rooms, const struct buffer *buffers, int null_for_none)
 {
     const struct buffer *b = buffers;
@@ -73,7 +73,7 @@ static uint64_t judge(struct room *rooms, const struct buffer *buffers, int null
     return result;
 }
 
-/* Writes the answer to a case: the number, the place, and the four buffers as they are. */
+/* Writes the answer to a case: the number, the place, and the four buffers after the call. */
 static void write_answer(uint64_t result, const struct buffer *buffers)
 {
     size_t at = korehyumo_place(result);

@@ -1,5 +1,4 @@
-/* Memory to lend to the judge: a byte read or written outside of what is lent either ends the program or shows in the
- * bytes kept beside it. */
+/* Buffers for tests: an access outside a buffer ends the program or shows in the bytes kept beside it. */
 #ifndef ROOMS_H
 #define ROOMS_H
 
@@ -11,22 +10,22 @@
 #include <string.h>
 #include <sys/mman.h>
 
-/* How many bytes a page has at most. */
+/* The size of a page of memory on x86-64. */
 #define PAGE 4096u
 
-/* How many bytes beside a buffer are looked at after a call. */
+/* How many bytes beside a buffer are checked after a call. */
 #define BESIDE 64u
 
-/* What those bytes hold. */
+/* The value of those bytes. */
 #define KEPT 0xA5
 
-/* Whole pages between two that nothing may touch. */
+/* Pages between two that can't be touched. */
 struct room {
     uint8_t *pages;
     size_t size;
 };
 
-/* A buffer in a room: at its end, or at its start. */
+/* A buffer at the start or at the end of a room. */
 struct buffer {
     struct room *room;
     uint8_t *bytes;
@@ -45,7 +44,7 @@ static inline struct room make_room(size_t bytes)
     return (struct room){all + PAGE, size};
 }
 
-/* Places a buffer at the end of a room or at its start, with the bytes beside it kept; the room is large enough. */
+/* Places a buffer in a room that is large enough, and sets the bytes beside it. */
 static inline struct buffer place(struct room *room, size_t len, int at_end)
 {
     struct buffer buffer = {room, at_end ? room->pages + room->size - len : room->pages, len};
@@ -53,13 +52,13 @@ static inline struct buffer place(struct room *room, size_t len, int at_end)
     return buffer;
 }
 
-/* A buffer's bytes as they are lent: null stands for no bytes where it may. */
+/* The pointer to lend for a buffer: null for an empty one, if asked. */
 static inline uint8_t *lent(const struct buffer *buffer, int null_for_none)
 {
     return buffer->len == 0 && null_for_none ? 0 : buffer->bytes;
 }
 
-/* Lets a room be read only, or written too. */
+/* Allows or forbids writing to a room. */
 static inline void let_write(struct room *room, int write)
 {
     if (mprotect(room->pages, room->size, write ? PROT_READ | PROT_WRITE : PROT_READ) != 0) {
@@ -68,7 +67,7 @@ static inline void let_write(struct room *room, int write)
     }
 }
 
-/* Ends the program where a byte beside a buffer has changed. */
+/* Ends the program if a byte beside a buffer has changed. */
 static inline void look_beside(const struct buffer *buffer)
 {
     const uint8_t *beside = buffer->bytes == buffer->room->pages ? buffer->bytes + buffer->len : buffer->bytes - BESIDE;

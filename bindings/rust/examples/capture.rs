@@ -1,9 +1,11 @@
-//! Judges a binary capture, and tells what is unexplained and who holds each duty.
+//! Judges a binary capture, and prints each unexplained event and each duty that was handed over or lost.
 //!
 //!     capture [FILE]
 //!
-//! A capture has a record of 16 bytes for each event: its pair's number, low byte first, then the event's bytes. It comes from
-//! the file, or from standard input where none is named. There are 4,096 pairs, each of which can be in any state at first.
+//! A capture has a record of 16 bytes for each event: the pair number in two bytes, low byte first, then the 14 bytes of the
+//! event. Without FILE it is read from standard input. There are 4,096 pairs, and each starts with all seven states possible.
+//!
+//! The capture may have any length. It is judged 4,096 events at a time, and the judge keeps the sets from each part to the next.
 
 use korehyumo::{
     Duty, Event, EventNumber, Finding, Judge, PairNumber, Refusal, Verdict, MOST_EVENTS, MOST_PAIRS,
@@ -16,16 +18,16 @@ use std::process::ExitCode;
 
 /// How many bytes a record has.
 const RECORD: usize = 2 + Event::BYTES;
-/// How many bytes a part has that is judged at a time.
+/// How many bytes of a capture are judged at a time.
 const PART: usize = MOST_EVENTS * RECORD;
 
 /// An event with its pair.
 type PairedEvent = (PairNumber, Event);
 
-/// Why a capture isn't judged to its end.
+/// Why the program stops before the end of a capture.
 #[derive(Debug)]
 enum Stop {
-    /// There is more than one word on the command line.
+    /// The command line names more than one file.
     Words,
     /// The file can't be opened.
     NotOpened(io::Error),
@@ -35,7 +37,7 @@ enum Stop {
     NotWritten(io::Error),
     /// The input ends within a record.
     EndsWithin(EventNumber),
-    /// The judge refuses an event.
+    /// The judge refuses an event with this number.
     Refused(u8, EventNumber),
 }
 
@@ -55,7 +57,7 @@ impl fmt::Display for Stop {
     }
 }
 
-/// How many events of a capture were judged so far, and how.
+/// How many events were judged so far, in all and by verdict.
 #[derive(Default)]
 struct Counts {
     events: u64,
@@ -65,9 +67,9 @@ struct Counts {
 }
 
 impl Counts {
-    /// The number of the event that comes so many behind those judged so far.
-    fn number(&self, behind: u64) -> EventNumber {
-        EventNumber(self.events + behind)
+    /// The number of the event that comes this many events after those judged so far.
+    fn number(&self, later: u64) -> EventNumber {
+        EventNumber(self.events + later)
     }
 
     /// Counts an event.
@@ -77,7 +79,7 @@ impl Counts {
             Verdict::Explained => self.explained += 1,
             Verdict::Unexplained => self.unexplained += 1,
             Verdict::NotJudged => self.not_judged += 1,
-            // A later library's verdict, which has a line of its own.
+            // A verdict of a later library; `tell` prints a line for it.
             _ => (),
         }
     }
@@ -97,12 +99,12 @@ impl fmt::Display for Counts {
 fn main() -> ExitCode {
     let mut out = BufWriter::new(io::stdout().lock());
     let judged = input().and_then(|input| judge_capture(input, &mut out));
-    // What was told before a stop is written before the stop is.
+    // The findings so far come before the message.
     let written = out.flush().map_err(Stop::NotWritten);
     match judged.and(written) {
         Ok(()) => ExitCode::SUCCESS,
         Err(stop) => {
-            // There is nowhere else to tell of a standard error that can't be written.
+            // If standard error can't be written, there is nowhere else to say so.
             let _ = writeln!(io::stderr(), "capture: {stop}");
             ExitCode::FAILURE
         }
@@ -122,7 +124,7 @@ fn input() -> Result<Box<dyn Read>, Stop> {
     }
 }
 
-/// Judges a capture part by part, and tells what it finds as it goes.
+/// Judges a capture part by part, and prints what it finds.
 fn judge_capture(mut input: impl Read, out: &mut impl Write) -> Result<(), Stop> {
     let mut judge =
         Judge::new(MOST_PAIRS).map_err(|refusal| refused(refusal, &Counts::default()))?;
@@ -139,7 +141,7 @@ fn judge_capture(mut input: impl Read, out: &mut impl Write) -> Result<(), Stop>
     }
 }
 
-/// Judges one part of a capture, and tells what it finds.
+/// Judges one part of a capture, and prints what it finds.
 fn judge_part(
     judge: &mut Judge,
     part: &[u8],
@@ -159,7 +161,7 @@ fn judge_part(
         tell(out, counts.number(0), *pair, finding).map_err(Stop::NotWritten)?;
         counts.add(finding.verdict);
     }
-    // Whoever watches sees a part's lines before the next part has arrived.
+    // The lines of a part are seen before the next part arrives.
     out.flush().map_err(Stop::NotWritten)
 }
 
@@ -171,12 +173,12 @@ fn paired_event(record: &[u8]) -> PairedEvent {
     (PairNumber(pair), Event::from(event))
 }
 
-/// The refusal of an event of the part that comes behind the events judged so far.
+/// A refusal in the part that is judged now, with its event's number in the capture.
 fn refused(refusal: Refusal, judged: &Counts) -> Stop {
     Stop::Refused(refusal.number(), judged.number(refusal.place()))
 }
 
-/// Tells what is found of an event, where there is something to tell.
+/// Prints a line for an unexplained event, and one for a duty that was handed over or lost.
 fn tell(
     out: &mut impl Write,
     event: EventNumber,
@@ -204,22 +206,22 @@ fn tell(
 mod tests {
     use super::*;
 
-    /// SnpShared answered by SnpRespData_SC_PD, as on the bench sheet.
+    /// SnpShared answered by SnpRespData_SC_PD.
     const GAVE_UP: [u8; 14] = [1, 0, 0, 0, 0, 1, 1, 5, 0, 0, 0, 0, 0, 7];
-    /// SnpClean answered by SnpRespData_SD, as on the bench sheet.
+    /// SnpClean answered by SnpRespData_SD.
     const KEPT: [u8; 14] = [2, 0, 0, 0, 0, 1, 1, 3, 0, 0, 0, 0, 0, 7];
     /// SnpCleanFwd answered by SnpResp_SC_Fwded_SD_PD, entry e of the notebook.
     const PASSED_ON: [u8; 14] = [18, 0, 0, 0, 0, 0, 9, 1, 7, 0, 0, 1, 7, 7];
     /// SnpShared answered by SnpResp_I with NDERR, entry m of the notebook.
     const IN_ERROR: [u8; 14] = [1, 0, 0, 0, 0, 0, 1, 0, 0, 0, 3, 0, 0, 7];
 
-    /// The records of events, each of the pair with it.
+    /// The records of some events, each with its pair.
     fn records(events: &[(u16, [u8; 14])]) -> Vec<u8> {
         let record = |(pair, event): &(u16, [u8; 14])| [&pair.to_le_bytes()[..], event].concat();
         events.iter().flat_map(record).collect()
     }
 
-    /// What is told of a capture, and how its judging stops where it does.
+    /// What is printed for a capture, and why the program stops early if it does.
     fn told(capture: &[u8]) -> (String, Option<String>) {
         let mut out = Vec::new();
         let judged = judge_capture(capture, &mut out);
@@ -229,7 +231,7 @@ mod tests {
         )
     }
 
-    /// Each line that can be told, and the counts.
+    /// Each line that can be printed, and the counts.
     #[test]
     fn each_line() {
         let capture = records(&[
@@ -255,7 +257,7 @@ mod tests {
         assert_eq!(told(&[]), (line.to_string(), None));
     }
 
-    /// Sets are carried on from part to part, and events are counted over the whole capture.
+    /// Sets are kept from part to part, and events are numbered over the whole capture.
     #[test]
     fn several_parts() {
         let mut capture = records(&[(7, GAVE_UP)]);
@@ -268,13 +270,13 @@ mod tests {
         assert_eq!(told(&capture), (format!("{first}{last}"), None));
     }
 
-    /// A refusal has its place in the whole capture, and the lines of the parts before it stand.
+    /// A refusal is numbered over the whole capture, and the lines of the parts before it are printed.
     #[test]
     fn refused_parts() {
         let mut capture = records(&vec![(9, IN_ERROR); MOST_EVENTS]);
         let first = "event 0, pair 9: the duty is lost\n".to_string();
         let refused = |capture: &[u8], stop: &str| {
-            assert_eq!(told(capture), (first.clone(), Some(stop.to_string())))
+            assert_eq!(told(capture), (first.clone(), Some(stop.to_string())));
         };
         capture.extend(records(&[(7, GAVE_UP), (4_096, KEPT)]));
         refused(&capture, "refused with 3 at event 4097");
@@ -307,7 +309,7 @@ mod tests {
         );
     }
 
-    /// Input and output that give an error.
+    /// An input and output that always fails.
     struct Broken;
 
     impl Read for Broken {
@@ -326,7 +328,7 @@ mod tests {
         }
     }
 
-    /// An input that can't be read and an output that can't be written are told, and no count is.
+    /// A failed read and a failed write are told apart, and no counts are printed.
     #[test]
     fn broken_files() {
         let mut out = Vec::new();

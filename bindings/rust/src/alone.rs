@@ -8,16 +8,18 @@ use crate::sets::StateSet;
 use std::array;
 use std::ops::Index;
 
-/// What one event leaves when the cache was in one state before it.
+/// What an event does to a line that was in one state before it.
 #[derive(Clone, Copy, Debug, PartialEq, Eq, Hash)]
 pub struct Outcome {
-    /// The states after; empty where no step exists from that state.
+    /// The states that the line can be in afterwards; empty if the rows permit no step from that state.
     pub after: StateSet,
-    /// Who holds the duty, judged from that state alone.
+    /// The duty, judged from that state alone.
     pub duty: Duty,
 }
 
-/// One event judged alone: an outcome for each of the seven states before, by which it is indexed.
+/// One event judged alone: an [`Outcome`] for each of the seven states before.
+///
+/// It is indexed by the state before: `judgment[State::UD]`.
 #[derive(Clone, Copy, Debug, PartialEq, Eq, Hash)]
 pub struct Judgment([Outcome; State::ALL.len()]);
 
@@ -30,14 +32,14 @@ impl Index<State> for Judgment {
 }
 
 impl Judgment {
-    /// The states before from which a step exists.
+    /// The states before from which the rows permit a step.
     pub fn befores(&self) -> StateSet {
         let steps = |before: &State| !self[*before].after.is_empty();
         State::ALL.into_iter().filter(steps).collect()
     }
 }
 
-/// Judges one event alone, an [`Event`](crate::Event) or any bytes.
+/// Judges one event alone, from each of the seven states. The event is an [`Event`](crate::Event) or any bytes.
 ///
 /// ```
 /// use korehyumo::{judge_event, Answer, Duty, Event, Fields, Forward, Refusal, Request, Resp, State};
@@ -55,8 +57,9 @@ impl Judgment {
 ///
 /// # Errors
 ///
-/// [`Refusal::Lengths`] where there are not fourteen bytes, [`Refusal::Range`] and [`Refusal::Request`], both with event 0. It
-/// never panics.
+/// - [`Refusal::Lengths`]: there are not fourteen bytes.
+/// - [`Refusal::Range`] of event 0: a byte from 1 to 13 is outside its range.
+/// - [`Refusal::Request`] of event 0: the request is not one of the seven.
 pub fn judge_event<Bytes: AsRef<[u8]>>(event: Bytes) -> Result<Judgment, Refusal> {
     let (result, sets, duties) = calls::event(event.as_ref());
     Refusal::unless_accepted(result)?;

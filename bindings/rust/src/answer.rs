@@ -1,4 +1,4 @@
-//! The snoopee's answer to Home.
+//! The snoopee's answer to Home, and what it forwards.
 
 use crate::codes::{FwdState, Resp};
 use std::fmt;
@@ -8,11 +8,11 @@ use std::fmt;
 pub enum Forward {
     /// Nothing.
     NoForward,
-    /// Data, with the state that the Requester is given.
+    /// Data, with the state that it gives the Requester.
     CompData(FwdState),
 }
 
-/// The snoopee's answer to Home, with what it forwards inside it.
+/// The snoopee's answer to Home, together with what it forwards to the Requester.
 ///
 /// ```
 /// use korehyumo::{Answer, Forward, FwdState, Resp};
@@ -25,11 +25,11 @@ pub enum Forward {
 /// ```
 #[derive(Clone, Copy, Debug, PartialEq, Eq, Hash)]
 pub enum Answer {
-    /// Without data: SnpResp, or SnpRespFwded where something is forwarded.
+    /// Without data: SnpResp, or SnpRespFwded if something is forwarded.
     SnpResp(Resp, Forward),
-    /// With data: SnpRespData, or SnpRespDataFwded where something is forwarded.
+    /// With data: SnpRespData, or SnpRespDataFwded if something is forwarded.
     SnpRespData(Resp, Forward),
-    /// With part of the data, and nothing forwarded.
+    /// With part of the data: SnpRespDataPtl, which never forwards.
     SnpRespDataPtl(Resp),
 }
 
@@ -56,7 +56,7 @@ impl Answer {
         }
     }
 
-    /// What the bus shows of it: channel, opcode, Resp, FwdState, forwarded data present, its Resp.
+    /// Its six bytes in an event: channel, opcode, Resp, FwdState, forwarded data present, and the Resp of that data.
     pub const fn wire(self) -> [u8; 6] {
         let (channel, plain, forwarding) = match self {
             Answer::SnpResp(..) => (RSP, 1, 9),
@@ -70,7 +70,7 @@ impl Answer {
         }
     }
 
-    /// The answer that the bus shows so; none where those six bytes are no answer that this kind can hold.
+    /// The answer with these six bytes, in the order of [`wire`](Answer::wire); `None` if this type has no such answer.
     pub fn from_wire(wire: [u8; 6]) -> Option<Answer> {
         let resp = Resp::try_from(wire[2]).ok()?;
         let forward = match FwdState::try_from(wire[3]) {
@@ -87,7 +87,7 @@ impl Answer {
 }
 
 impl fmt::Display for Forward {
-    /// Writes `CompData` with its state, or `-`, as the bench sheet does.
+    /// Writes its name as on the bench sheet: `CompData_SC` and its like, or `-` for nothing.
     fn fmt(&self, f: &mut fmt::Formatter<'_>) -> fmt::Result {
         match self {
             Forward::NoForward => f.pad("-"),
@@ -97,7 +97,7 @@ impl fmt::Display for Forward {
 }
 
 impl fmt::Display for Answer {
-    /// Writes the response's name, as the tables do.
+    /// Writes its name as in the tables, such as `SnpRespData_SC_PD_Fwded_SC`.
     fn fmt(&self, f: &mut fmt::Formatter<'_>) -> fmt::Result {
         let message = match self {
             Answer::SnpResp(..) => "SnpResp",

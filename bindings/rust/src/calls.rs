@@ -1,4 +1,4 @@
-//! The two calls of the C interface over slices: the only unsafe code of the package.
+//! The two functions of the C interface, called with slices. This is the only unsafe code of the package.
 
 extern "C" {
     fn korehyumo_event(event: *const u8, event_len: usize, sets: *mut u8, duties: *mut u8) -> u64;
@@ -19,12 +19,12 @@ extern "C" {
     ) -> u64;
 }
 
-/// What the library says of one event alone: its result, the seven sets after and the seven duties.
+/// Judges one event alone: the result, the seven sets and the seven duties.
 pub(crate) fn event(event: &[u8]) -> (u64, [u8; 7], [u8; 7]) {
     let mut sets = [0; 7];
     let mut duties = [0; 7];
-    // SAFETY: the library reads `event_len` bytes of the event and writes seven bytes each of sets and duties. The
-    // event is a slice of that length, the two arrays have seven bytes, and none of the three overlaps another.
+    // SAFETY: the library reads `event_len` bytes of the event, and writes seven bytes of sets and seven of duties. The event is
+    // a slice of that length, both arrays have seven bytes, and none of the three overlaps another.
     let result = unsafe {
         korehyumo_event(
             event.as_ptr(),
@@ -36,7 +36,7 @@ pub(crate) fn event(event: &[u8]) -> (u64, [u8; 7], [u8; 7]) {
     (result, sets, duties)
 }
 
-/// The library's result for a whole trace, of which it writes the last four buffers.
+/// Judges a whole trace: the result, with the answers in the last four buffers.
 pub(crate) fn trace(
     events: &[u8],
     pairs: &[u16],
@@ -45,8 +45,8 @@ pub(crate) fn trace(
     duties: &mut [u8],
     afters: &mut [u8],
 ) -> u64 {
-    // SAFETY: the library reads and writes only within the six lengths. Each length is its slice's own, in elements; a
-    // slice of 16-bit numbers is aligned for them; and slices that are lent to be written overlap no other.
+    // SAFETY: the library reads and writes only within the six lengths. Each length is that of its slice, in elements. A slice of
+    // `u16` is aligned. A mutable slice overlaps no other.
     unsafe {
         korehyumo_trace(
             events.as_ptr(),

@@ -1,9 +1,9 @@
-//! Kinds whose values have published codes, one enum each.
+//! States and the fields of an event, as enums with the definition's codes.
 
 use std::error::Error;
 use std::fmt;
 
-/// A byte that is no code of its kind.
+/// A byte that is not a code of the type that was asked for.
 ///
 /// ```
 /// use korehyumo::Request;
@@ -13,7 +13,7 @@ use std::fmt;
 /// ```
 #[derive(Clone, Copy, Debug, PartialEq, Eq)]
 pub struct UnknownCode {
-    /// The kind's name.
+    /// The name of the type.
     pub kind: &'static str,
     /// The byte.
     pub code: u8,
@@ -27,11 +27,11 @@ impl fmt::Display for UnknownCode {
 
 impl Error for UnknownCode {}
 
-/// A kind: its values with their codes, and both ways between the two.
+/// Declares an enum with codes and names, and the conversions from and to codes.
 macro_rules! kind {
     ($(#[$about:meta])* $kind:ident { $($(#[$meaning:meta])* $name:ident = $code:literal,)+ }) => {
         $(#[$about])*
-        // The names are the tables' own.
+        // The names are those of the CHI tables.
         #[allow(non_camel_case_types)]
         #[derive(Clone, Copy, Debug, PartialEq, Eq, PartialOrd, Ord, Hash)]
         #[repr(u8)]
@@ -40,15 +40,15 @@ macro_rules! kind {
         }
 
         impl $kind {
-            /// All of them, in the order of their codes.
+            /// All values, in the order of their codes.
             pub const ALL: [$kind; [$($code),+].len()] = [$($kind::$name),+];
 
-            /// Its published code.
+            /// Its code in the definition.
             pub const fn code(self) -> u8 {
                 self as u8
             }
 
-            /// Its name, as the tables and the bench sheet write it.
+            /// Its name, as in the tables and on the bench sheet.
             pub const fn name(self) -> &'static str {
                 match self {
                     $($kind::$name => stringify!($name),)+
@@ -74,7 +74,7 @@ macro_rules! kind {
 }
 
 kind! {
-    /// The state of a line in a cache.
+    /// The state of a cache line.
     ///
     /// ```
     /// use korehyumo::State;
@@ -102,14 +102,14 @@ kind! {
 }
 
 impl State {
-    /// Whether somebody has to write the line back: UD, UDP and SD.
+    /// Whether the line has to be written back: UD, UDP and SD.
     pub const fn is_dirty(self) -> bool {
         matches!(self, State::UD | State::UDP | State::SD)
     }
 }
 
 kind! {
-    /// The snoop that is asked.
+    /// The snoop request.
     ///
     /// ```
     /// use korehyumo::Request;
@@ -130,25 +130,27 @@ kind! {
         SnpNotSharedDirtyFwd = 20,
         /// In table B4.46.
         SnpPreferUnique = 21,
-        /// In table B4.59, and in B4.60 too where the snoopee is not known to be in an exclusive sequence.
+        /// In table B4.59, and with excl 0 in B4.60 too.
         SnpPreferUniqueFwd = 22,
     }
 }
 
 kind! {
-    /// The state of a line's memory tags in the snoopee; one that was not seen is no value of this kind.
+    /// The state of the line's memory tags in the snoopee.
+    ///
+    /// A tag state that was not seen is `None` in [`Fields::tag`](crate::Fields::tag).
     TagState {
-        /// It has no tags.
+        /// There are no tags.
         Invalid = 0,
-        /// Its tags are those of memory.
+        /// The tags are those of memory.
         Clean = 1,
-        /// Its tags have to be written back.
+        /// The tags have to be written back.
         Dirty = 2,
     }
 }
 
 kind! {
-    /// What an answer to Home says of memory tags.
+    /// The TagOp of an answer: what it says of memory tags.
     TagOp {
         /// No tags come with it.
         Invalid = 0,
@@ -162,7 +164,7 @@ kind! {
 }
 
 kind! {
-    /// The error field of an answer to Home.
+    /// The RespErr of an answer.
     RespErr {
         /// No error.
         OK = 0,
@@ -170,37 +172,37 @@ kind! {
         EXOK = 1,
         /// The data is in error.
         DERR = 2,
-        /// A non-data error: there is no data.
+        /// A non-data error; the answer has no data.
         NDERR = 3,
     }
 }
 
 kind! {
-    /// The state that an answer to Home names, and whether it passes to Home the duty to write back (PD).
+    /// The Resp of an answer: the state that it names, and whether it passes the duty to write back to Home (PD).
     Resp {
         /// I.
         I = 0,
-        /// SC, which may have become I since.
+        /// SC; tables B4.46 and B4.57 allow I too.
         SC = 1,
         /// SD.
         SD = 3,
-        /// I, and Home has the duty.
+        /// I, and Home holds the duty.
         I_PD = 4,
-        /// SC, and Home has the duty.
+        /// SC, as above, and Home holds the duty.
         SC_PD = 5,
     }
 }
 
 kind! {
-    /// The state that forwarded data names, and whether it passes to the Requester the duty to write back (PD).
+    /// The FwdState of an answer: the state that forwarded data names, and whether it passes the duty to write back to the Requester (PD).
     FwdState {
         /// SC.
         SC = 1,
         /// UC.
         UC = 2,
-        /// UD, and the Requester has the duty.
+        /// UD, and the Requester holds the duty.
         UD_PD = 6,
-        /// SD, and the Requester has the duty.
+        /// SD, and the Requester holds the duty.
         SD_PD = 7,
     }
 }

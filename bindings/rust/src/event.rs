@@ -1,10 +1,10 @@
-//! Events, as captured and by name.
+//! Events, as bytes and field by field.
 
 use crate::answer::Answer;
 use crate::codes::{Request, RespErr, State, TagOp, TagState};
 use std::fmt;
 
-/// One snoop and its answer, as the fourteen bytes of a capture. It can hold any bytes: the judge refuses what it must.
+/// One snoop and its answer, as fourteen bytes. It can hold any bytes; the judge refuses bad ones.
 ///
 /// ```
 /// use korehyumo::{Answer, Event, Fields, Forward, Request, Resp};
@@ -17,7 +17,7 @@ use std::fmt;
 #[derive(Clone, Copy, Debug, PartialEq, Eq, Hash)]
 pub struct Event([u8; Event::BYTES]);
 
-/// What is seen of one snoop and its answer, by name.
+/// One snoop and its answer, field by field.
 ///
 /// ```
 /// use korehyumo::{Answer, Event, Fields, Forward, FwdState, Request, Resp, TagOp, TagState};
@@ -34,15 +34,15 @@ pub struct Event([u8; Event::BYTES]);
 /// ```
 #[derive(Clone, Copy, Debug, PartialEq, Eq, Hash)]
 pub struct Fields {
-    /// The snoop.
+    /// The request.
     pub request: Request,
-    /// Whether Home asked for the data too.
+    /// RetToSrc: Home asked for the data too.
     pub ret_to_src: bool,
-    /// Whether the snoopee must not go to SD.
+    /// DoNotGoToSD: the snoopee must not go to SD.
     pub do_not_go_to_sd: bool,
-    /// Whether the snoopee is known to be in an exclusive sequence.
+    /// excl: the snoopee is known to be in an exclusive sequence.
     pub excl: bool,
-    /// The snoopee's tag state; none where it was not seen.
+    /// The snoopee's tag state; `None` if it was not seen.
     pub tag: Option<TagState>,
     /// The answer to Home, with what was forwarded.
     pub answer: Answer,
@@ -50,13 +50,13 @@ pub struct Fields {
     pub tag_op: TagOp,
     /// The answer's RespErr.
     pub resp_err: RespErr,
-    /// The snoopee's state after; none where it was not seen.
+    /// The snoopee's state after; `None` if it was not seen.
     pub state_after: Option<State>,
 }
 
-/// The byte of a tag state that was not seen.
+/// The code of a tag state that was not seen.
 const TAG_NOT_SEEN: u8 = 3;
-/// The byte of a state after that was not seen.
+/// The code of a state after that was not seen.
 const STATE_NOT_SEEN: u8 = 7;
 
 impl Event {
@@ -68,7 +68,7 @@ impl Event {
         &self.0
     }
 
-    /// What it says by name; none where some byte has no name, though the judge may accept it.
+    /// Its fields; `None` if some byte has no name. The judge may accept such an event all the same.
     pub fn fields(&self) -> Option<Fields> {
         let bytes = &self.0;
         Some(Fields {
@@ -88,8 +88,7 @@ impl Event {
 }
 
 impl Fields {
-    /// A snoop and its answer as the notebook has them where it names nothing else: flags 0, tags and TagOp Invalid, RespErr OK,
-    /// state after not seen.
+    /// A snoop and its answer with the usual other fields: flags 0, tag state and TagOp Invalid, RespErr OK, state after not seen.
     pub const fn new(request: Request, answer: Answer) -> Fields {
         Fields {
             request,
@@ -105,7 +104,7 @@ impl Fields {
     }
 }
 
-/// The flag that a byte is.
+/// A byte as a flag.
 fn flag(byte: u8) -> Option<bool> {
     match byte {
         0 => Some(false),
@@ -114,7 +113,7 @@ fn flag(byte: u8) -> Option<bool> {
     }
 }
 
-/// The value that a byte says was seen, or that none was; nothing where it says neither.
+/// A byte as a value that was seen, or as one that was not; `None` if it is neither.
 fn seen<Kind: TryFrom<u8>>(byte: u8, not_seen: u8) -> Option<Option<Kind>> {
     if byte == not_seen {
         return Some(None);
@@ -163,7 +162,7 @@ impl AsRef<[u8]> for Event {
 }
 
 impl fmt::Display for Event {
-    /// Writes its fields by name, or its bytes as numbers where some of them have no name.
+    /// Writes its fields, or its bytes as numbers if some byte has no name.
     fn fmt(&self, f: &mut fmt::Formatter<'_>) -> fmt::Result {
         match self.fields() {
             Some(fields) => fields.fmt(f),
@@ -173,7 +172,7 @@ impl fmt::Display for Event {
 }
 
 impl fmt::Display for Fields {
-    /// Writes the ten fields that the bench sheet has behind the pair.
+    /// Writes the ten fields that follow the pair on a line of the bench sheet.
     fn fmt(&self, f: &mut fmt::Formatter<'_>) -> fmt::Result {
         let flags = [self.ret_to_src, self.do_not_go_to_sd, self.excl].map(u8::from);
         write!(

@@ -3,7 +3,7 @@
 use crate::sets::StateSet;
 use std::fmt;
 
-/// What is said of an event, from the set of its pair.
+/// Whether the rows explain an event, given the set of its pair.
 ///
 /// ```
 /// use korehyumo::Verdict;
@@ -15,17 +15,17 @@ use std::fmt;
 #[derive(Clone, Copy, Debug, PartialEq, Eq, Hash)]
 #[non_exhaustive]
 pub enum Verdict {
-    /// A step exists from a state that the pair can be in.
+    /// The rows permit a step from a state of the set.
     Explained,
-    /// The pair's set was not empty, and no step exists from it.
+    /// The set was not empty, and the rows permit no step from it.
     Unexplained,
-    /// The pair's set was empty: it is lost since an event before.
+    /// The set was empty: the pair was lost before.
     NotJudged,
-    /// A code for which this version of the package has no name.
+    /// A code without a name in this version of the package.
     Other(u8),
 }
 
-/// Who holds the duty to write the data back.
+/// Who holds the duty to write a Dirty line back after an event.
 ///
 /// ```
 /// use korehyumo::Duty;
@@ -37,15 +37,15 @@ pub enum Verdict {
 #[derive(Clone, Copy, Debug, PartialEq, Eq, Hash)]
 #[non_exhaustive]
 pub enum Duty {
-    /// The event handed no duty on.
+    /// No duty was handed over.
     None,
-    /// Home was told of it.
+    /// Home.
     Home,
-    /// The Requester was told of it.
+    /// The Requester.
     Requester,
-    /// A Dirty line may have gone with an error, and nobody has the duty.
+    /// Nobody: there was a non-data error, and the line may have been Dirty.
     Lost,
-    /// A code for which this version of the package has no name.
+    /// A code without a name in this version of the package.
     Other(u8),
 }
 
@@ -64,12 +64,12 @@ pub struct Finding {
     pub verdict: Verdict,
     /// Who holds the duty.
     pub duty: Duty,
-    /// The states that its pair can be in then.
+    /// The states that its pair can be in after it.
     pub after: StateSet,
 }
 
 impl Verdict {
-    /// Its published code.
+    /// Its code in the definition.
     pub const fn code(self) -> u8 {
         match self {
             Verdict::Explained => 0,
@@ -81,7 +81,7 @@ impl Verdict {
 }
 
 impl Duty {
-    /// Its published code.
+    /// Its code in the definition.
     pub const fn code(self) -> u8 {
         match self {
             Duty::None => 0,
@@ -94,7 +94,7 @@ impl Duty {
 }
 
 impl From<u8> for Verdict {
-    /// The verdict with a code: a named one wherever there is one.
+    /// The verdict with this code; `Other` if it has no name.
     fn from(code: u8) -> Verdict {
         match code {
             0 => Verdict::Explained,
@@ -106,7 +106,7 @@ impl From<u8> for Verdict {
 }
 
 impl From<u8> for Duty {
-    /// The duty with a code: a named one wherever there is one.
+    /// The duty with this code; `Other` if it has no name.
     fn from(code: u8) -> Duty {
         match code {
             0 => Duty::None,
@@ -142,7 +142,7 @@ impl fmt::Display for Duty {
 }
 
 impl fmt::Display for Finding {
-    /// Writes the three fields that the bench sheet's answer has behind the event.
+    /// Writes the three fields that follow the event on a line of the sheet's answer.
     fn fmt(&self, f: &mut fmt::Formatter<'_>) -> fmt::Result {
         write!(f, "{},{},{}", self.verdict, self.duty, self.after)
     }

@@ -1,4 +1,4 @@
-//! A table of sets that is carried on from trace to trace.
+//! Traces judged one after another.
 
 use crate::event::Event;
 use crate::findings::{Duty, Finding, Verdict};
@@ -7,7 +7,7 @@ use crate::refusal::Refusal;
 use crate::sets::StateSet;
 use crate::trace::{judge_trace, MOST_EVENTS, MOST_PAIRS};
 
-/// Judges one trace after another, and knows from each to the next what states the pairs can be in.
+/// Judges one trace after another, and keeps the set of each pair from trace to trace.
 ///
 /// ```
 /// use korehyumo::{Answer, Duty, Event, Fields, Forward, Judge, PairNumber, Refusal, Request, Resp, Verdict};
@@ -33,7 +33,7 @@ pub struct Judge {
     findings: Vec<Finding>,
 }
 
-/// The other buffers of a call, kept for the next one.
+/// The other buffers of a call, kept for the next call.
 #[derive(Clone, Debug, Default)]
 struct Lent {
     events: Vec<u8>,
@@ -44,7 +44,7 @@ struct Lent {
 }
 
 impl Judge {
-    /// A judge of so many pairs, of which nothing is known: each can be in any of the seven states.
+    /// A judge of this many pairs, each with all seven states possible.
     ///
     /// # Errors
     ///
@@ -53,7 +53,7 @@ impl Judge {
         Judge::with_sets((0..pairs).map(|_| StateSet::ALL))
     }
 
-    /// A judge of the pairs that can be in these states, from pair 0 on. An empty set is allowed: that pair is already lost.
+    /// A judge of pairs with these sets, from pair 0 on. An empty set is allowed: that pair is already lost.
     ///
     /// ```
     /// use korehyumo::{Judge, PairNumber, Refusal, State, StateSet};
@@ -80,7 +80,7 @@ impl Judge {
         })
     }
 
-    /// The states that a pair can be in now; none where the table doesn't have the pair.
+    /// The states that a pair can be in now; `None` if there is no such pair.
     pub fn set_of(&self, pair: PairNumber) -> Option<StateSet> {
         let set = self.table.get(usize::from(pair.0))?;
         Some(StateSet::given(*set))
@@ -91,11 +91,11 @@ impl Judge {
         self.table.iter().map(|set| StateSet::given(*set))
     }
 
-    /// Judges a trace of up to [`MOST_EVENTS`] events, each with its pair: a finding for each, in their order.
+    /// Judges a trace of up to [`MOST_EVENTS`] events, each with its pair, and gives a finding for each in the same order.
     ///
     /// # Errors
     ///
-    /// Any [`Refusal`] but that of a set, and nothing then has changed. It never panics.
+    /// Any [`Refusal`] except [`Refusal::Set`]. The sets of the pairs are then as before.
     pub fn judge(&mut self, trace: &[(PairNumber, Event)]) -> Result<&[Finding], Refusal> {
         if trace.len() > MOST_EVENTS {
             return Err(Refusal::Lengths);
@@ -109,7 +109,7 @@ impl Judge {
 }
 
 impl Lent {
-    /// Takes over a trace, with room for its answers.
+    /// Copies a trace into the buffers, and makes room for its answers.
     fn take(&mut self, trace: &[(PairNumber, Event)]) {
         self.pairs.clear();
         self.pairs.extend(trace.iter().map(|(pair, _)| pair.0));
@@ -121,7 +121,7 @@ impl Lent {
         }
     }
 
-    /// Judges the trace on a table.
+    /// Judges the trace with a table of sets.
     fn judge_on(&mut self, table: &mut [u8]) -> Result<usize, Refusal> {
         judge_trace(
             &self.events,
@@ -133,7 +133,7 @@ impl Lent {
         )
     }
 
-    /// What was answered.
+    /// The answers, one for each event.
     fn findings(&self) -> impl Iterator<Item = Finding> + '_ {
         let answers = self.verdicts.iter().zip(&self.duties).zip(&self.afters);
         answers.map(|((verdict, duty), after)| Finding {

@@ -1,9 +1,14 @@
 //! Judges AMBA CHI snoop answers: whether the rows of the CHI tables permit an answer, which states the cache can be in
 //! afterwards, and who now holds the duty to write a Dirty line back.
 //!
-//! The judging is done by a library that is proved to meet its definition for every input. This package is safe Rust over
-//! its C interface, with a kind for each of the definition's numbers. No call panics, whatever it is given: what can't be
-//! judged is a [`Refusal`], and whatever was lent is then as it came.
+//! A library that is proved for every input does the judging. This package is safe Rust over its C interface. An input that
+//! can't be judged is a [`Refusal`], and a refused call changes nothing that was lent. No call panics.
+//!
+//! | call | what it does |
+//! |---|---|
+//! | [`judge_event`] | judges one event alone: for each of the seven states before, the states after and the duty |
+//! | [`Judge`] | judges trace after trace and keeps the sets of the pairs: a verdict, a duty and a set for each event |
+//! | [`judge_trace`] | judges one trace over plain buffers, without allocation |
 //!
 //! One event of one pair:
 //!
@@ -20,7 +25,8 @@
 //! # }
 //! ```
 //!
-//! The definition's own example, in which a cache gives up its Dirty line, then claims to have it still, and is lost from there:
+//! The definition's own example. A cache hands its Dirty line to Home, then claims to hold it still. That is unexplained, and
+//! the pair is not judged from there on:
 //!
 //! ```
 //! use korehyumo::{Answer, Event, Fields, Forward, Judge, PairNumber, Refusal, Request, Resp, State, Verdict};
@@ -46,13 +52,7 @@
 //! }
 //! ```
 //!
-//! | call | what for |
-//! |---|---|
-//! | [`judge_event`] | one event alone: for each of the seven states before, the states after and the duty |
-//! | [`Judge`] | trace after trace, with the pairs' sets carried on |
-//! | [`judge_trace`] | one trace over plain lent buffers, without allocation |
-//!
-//! A later library may have refusals, verdicts and duties that this version of the package has no name for. It then gives
+//! A later library may have refusals, verdicts and duties without a name in this version of the package. They come as
 //! [`Refusal::Unknown`], [`Verdict::Other`] and [`Duty::Other`], with their numbers.
 
 #![deny(unsafe_code)]

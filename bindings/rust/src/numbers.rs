@@ -1,8 +1,8 @@
-//! Two small counts that must not be confused.
+//! Pair numbers and event numbers, as two types so that they are never confused.
 
 use std::fmt;
 
-/// The number of a pair: one cache line in one cache. It is the place of the pair's set in the table.
+/// The number of a pair (one cache line in one cache): the index of its set in the table.
 ///
 /// ```compile_fail
 /// use korehyumo::{EventNumber, PairNumber};
@@ -12,7 +12,7 @@ use std::fmt;
 #[derive(Clone, Copy, Debug, Default, PartialEq, Eq, PartialOrd, Ord, Hash)]
 pub struct PairNumber(pub u16);
 
-/// The number of an event, from 0 in the order of the trace.
+/// The number of an event in its trace, from 0.
 #[derive(Clone, Copy, Debug, Default, PartialEq, Eq, PartialOrd, Ord, Hash)]
 pub struct EventNumber(pub u64);
 

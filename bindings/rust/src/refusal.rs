@@ -4,7 +4,7 @@ use crate::numbers::{EventNumber, PairNumber};
 use std::error::Error;
 use std::fmt;
 
-/// Why a call was refused, and where. Whatever was lent is then as it came.
+/// Why a call was refused, and where. A refused call changes nothing that was lent.
 ///
 /// ```
 /// use korehyumo::{judge_trace, PairNumber, Refusal};
@@ -18,17 +18,17 @@ use std::fmt;
 #[derive(Clone, Copy, Debug, PartialEq, Eq, Hash)]
 #[non_exhaustive]
 pub enum Refusal {
-    /// 1: something lent has a length that it must not have, or there are too many events or pairs.
+    /// 1: a buffer has a wrong length, or there are too many events or pairs.
     Lengths,
     /// 2: the set of this pair is above 127; it is the lowest such pair.
     Set(PairNumber),
     /// 3: this event's pair is not in the table.
     Pair(EventNumber),
-    /// 4: a byte of this event, from 1 to 13, is outside its range.
+    /// 4: a byte from 1 to 13 of this event is outside its range.
     Range(EventNumber),
-    /// 5: this event's request is none that is judged.
+    /// 5: this event's request is not one of the seven that are judged.
     Request(EventNumber),
-    /// A number, or a place for it, that this version of the package does not know. A later library has it.
+    /// A refusal of a later library, without a name in this version of the package.
     Unknown {
         /// The refusal's number.
         number: u8,
@@ -38,7 +38,7 @@ pub enum Refusal {
 }
 
 impl Refusal {
-    /// Its number, as the definition's table gives it.
+    /// Its number in the definition's table of refusals.
     pub const fn number(self) -> u8 {
         match self {
             Refusal::Lengths => 1,
@@ -50,7 +50,7 @@ impl Refusal {
         }
     }
 
-    /// Its place, as the definition's table gives it: a pair's number, an event's number, or 0.
+    /// Its place in the definition's table of refusals: a pair number, an event number, or 0.
     pub const fn place(self) -> u64 {
         match self {
             Refusal::Lengths => 0,
@@ -60,7 +60,7 @@ impl Refusal {
         }
     }
 
-    /// The place of the library's result where it accepted, else the refusal.
+    /// Reads a result of the library: the place if it is accepted, else the refusal.
     pub(crate) fn unless_accepted(result: u64) -> Result<u64, Refusal> {
         let number = (result % 256) as u8;
         let place = result / 256;
@@ -76,7 +76,7 @@ impl Refusal {
         }
     }
 
-    /// The refusal of a set at a place.
+    /// The refusal of the set at a place.
     fn of_set(place: u64) -> Refusal {
         match u16::try_from(place) {
             Ok(pair) => Refusal::Set(PairNumber(pair)),
@@ -110,7 +110,7 @@ impl Error for Refusal {}
 mod tests {
     use super::*;
 
-    /// Each number of the definition's table with its place, as the library's result holds them.
+    /// Each refusal of the definition's table, read from a result.
     #[test]
     fn results_of_the_table() {
         let read = Refusal::unless_accepted;
@@ -126,7 +126,7 @@ mod tests {
         assert_eq!(read(5), Err(Refusal::Request(EventNumber(0))));
     }
 
-    /// A number that is not known is a refusal with that number and place, never an acceptance.
+    /// An unknown number is a refusal with that number and place, never an acceptance.
     #[test]
     fn results_not_known() {
         for number in 6..=255 {

@@ -3,7 +3,7 @@
 use crate::codes::{State, UnknownCode};
 use std::fmt;
 
-/// A set of line states: what a pair can be in.
+/// The set of states that a pair can be in.
 ///
 /// ```
 /// use korehyumo::{State, StateSet};
@@ -19,7 +19,7 @@ use std::fmt;
 pub struct StateSet(u8);
 
 impl StateSet {
-    /// The set of no state: the pair is lost.
+    /// The empty set: the pair is lost.
     pub const EMPTY: StateSet = StateSet(0);
     /// The set of all seven states: nothing is known of the pair.
     pub const ALL: StateSet = StateSet(127);
@@ -29,12 +29,12 @@ impl StateSet {
         StateSet(1 << state.code())
     }
 
-    /// The set that the library's byte is; it gives none above 127.
+    /// The set of a byte that the library gave, which is never above 127.
     pub(crate) const fn given(byte: u8) -> StateSet {
         StateSet(byte)
     }
 
-    /// Its byte: state n has weight 2 to the n.
+    /// Its byte, in which state n has weight 2 to the n.
     pub const fn bits(self) -> u8 {
         self.0
     }
@@ -59,7 +59,7 @@ impl StateSet {
         self.iter().any(State::is_dirty)
     }
 
-    /// Its states, in table order.
+    /// Its states, in the order of their codes.
     pub fn iter(self) -> impl Iterator<Item = State> + Clone {
         State::ALL
             .into_iter()
@@ -96,7 +96,7 @@ impl TryFrom<u8> for StateSet {
 }
 
 impl fmt::Display for StateSet {
-    /// Writes the names of its states with a space between two, as the bench sheet does; nothing for the empty set.
+    /// Writes the names of its states with spaces between them, as on the bench sheet; nothing for the empty set.
     fn fmt(&self, f: &mut fmt::Formatter<'_>) -> fmt::Result {
         let names: Vec<&str> = self.iter().map(State::name).collect();
         f.pad(&names.join(" "))

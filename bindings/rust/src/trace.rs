@@ -1,18 +1,23 @@
-//! A whole trace over lent buffers.
+//! A whole trace judged over plain buffers.
 
 use crate::calls;
 use crate::refusal::Refusal;
 
-/// The most events that one call takes.
+/// The most events of one call.
 pub const MOST_EVENTS: usize = 4_096;
-/// The most pairs that a table has.
+/// The most pairs of a table.
 pub const MOST_PAIRS: usize = 4_096;
 
-/// Judges a whole trace over plain lent buffers, and says how many events it had. Nothing is allocated.
+/// Judges a whole trace over plain buffers, and gives the number of events. Nothing is allocated.
 ///
-/// `events` has fourteen bytes an event and `pairs` its pair's number; `table` has each pair's set before and after the
-/// trace; `verdicts`, `duties` and `afters` get a byte for each event. [`Judge`](crate::Judge) does the same with kinds for
-/// the bytes.
+/// | buffer | what it holds |
+/// |---|---|
+/// | `events` | 14 bytes for each event |
+/// | `pairs` | the pair number of each event |
+/// | `table` | the set of each pair, before the call and after it |
+/// | `verdicts`, `duties`, `afters` | after the call, a byte for each event |
+///
+/// [`Judge`](crate::Judge) does the same with types in place of bytes.
 ///
 /// ```
 /// use korehyumo::{judge_trace, Refusal};
@@ -31,7 +36,7 @@ pub const MOST_PAIRS: usize = 4_096;
 ///
 /// # Errors
 ///
-/// Any [`Refusal`], and all the buffers are then as they came. It never panics, whatever the bytes and the lengths.
+/// Any [`Refusal`]. Every buffer is then as it was lent.
 pub fn judge_trace(
     events: &[u8],
     pairs: &[u16],

@@ -1,4 +1,4 @@
-//! Whatever is lent, nothing panics, and what comes back is what the definition allows.
+//! Any input: no call panics, and every answer is one that the definition allows.
 
 mod common;
 
@@ -7,7 +7,7 @@ use korehyumo::{
     judge_event, Duty, Event, Finding, Judge, PairNumber, Refusal, State, StateSet, Verdict,
 };
 
-/// An event with every byte in its range, of which three in four have an answer of the rows and so are often explained.
+/// An event with every byte in its range. Three in four have an answer of the rows, so that many are explained.
 fn event(draw: &mut Draw) -> [u8; 14] {
     let mut bytes = HIGHEST.map(|highest| draw.byte(highest));
     bytes[0] = REQUESTS[draw.below(7) as usize];
@@ -36,7 +36,7 @@ fn good(draw: &mut Draw) -> Lent {
     Lent::new(&events, &numbers, &table)
 }
 
-/// The states after an event from a set, and the duty: what the event alone gives from each of its states.
+/// The states after an event and the duty, put together from what the event alone gives for each state of the set.
 fn from_alone(event: Event, before: StateSet) -> (StateSet, Duty) {
     let judgment = judge_event(event).unwrap();
     let steps = || before.iter().map(|state| judgment[state]);
@@ -47,7 +47,7 @@ fn from_alone(event: Event, before: StateSet) -> (StateSet, Duty) {
     (after, duty.unwrap_or(Duty::None))
 }
 
-/// Any bytes at all in buffers of any lengths: refused and left as they were, or answered within the codes.
+/// Any bytes in buffers of any lengths: accepted, or refused with no buffer changed.
 #[test]
 fn any_bytes() {
     let mut draw = Draw(0x1234_5678_9abc_def1);
@@ -80,7 +80,7 @@ fn any_bytes() {
     }
 }
 
-/// Any bytes at all as one event.
+/// Any bytes as one event.
 #[test]
 fn any_event() {
     let mut draw = Draw(0x0fed_cba9_8765_4321);
@@ -96,7 +96,7 @@ fn any_event() {
     }
 }
 
-/// A trace by name.
+/// A trace as pairs and events.
 fn named(lent: &Lent) -> Vec<(PairNumber, Event)> {
     let event = |bytes: &[u8]| Event::from(<[u8; 14]>::try_from(bytes).unwrap());
     let pairs = lent.pairs.iter().map(|pair| PairNumber(*pair));
@@ -109,7 +109,7 @@ fn judge_of(table: &[u8]) -> Judge {
     Judge::with_sets(table.iter().map(set)).unwrap()
 }
 
-/// Good traces, some with a byte spoilt, over plain buffers and by name: the same answers.
+/// `Judge` answers as `judge_trace` does, for good traces and for some with a wrong byte.
 #[test]
 fn by_name_as_over_buffers() {
     let mut draw = Draw(0x7777_1234_5555_9999);
@@ -139,7 +139,7 @@ fn by_name_as_over_buffers() {
     }
 }
 
-/// A trace says of each event what the event alone says from each state of its pair's set.
+/// A trace answers each event as the event alone does from the states of its pair's set.
 #[test]
 fn traces_as_events_alone() -> Result<(), Refusal> {
     let mut draw = Draw(0x3141_5926_5358_9793);
@@ -164,7 +164,7 @@ fn traces_as_events_alone() -> Result<(), Refusal> {
     Ok(())
 }
 
-/// Each duty is told only where it can be: Home and Requester by what was passed, lost only from a Dirty state.
+/// The duty is Home by Resp, Requester by FwdState, and lost only from a Dirty state.
 #[test]
 fn duties_of_events_alone() -> Result<(), Refusal> {
     let mut draw = Draw(0x2718_2818_2845_9045);

@@ -1,11 +1,11 @@
-//! Entries a to n of the notebook, each judged alone and as a trace of one event.
+//! The notebook's entries a to n, each judged alone and as a trace of one event.
 
 use korehyumo::{
     judge_event, Answer, Duty, Event, Fields, Finding, Forward, FwdState, Judge, PairNumber,
     Refusal, Request, Resp, RespErr, State, StateSet, TagOp, TagState, Verdict,
 };
 
-/// An entry: from a state before, what an event leaves.
+/// An entry: an event, the state before, and the states after and the duty that it must give.
 struct Entry {
     name: char,
     before: State,

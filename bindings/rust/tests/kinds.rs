@@ -1,4 +1,4 @@
-//! The kinds: the definition's codes and names, and both ways between them.
+//! The definition's codes and names, and the conversions between them.
 
 mod common;
 
@@ -9,7 +9,7 @@ use korehyumo::{
 };
 use std::fmt::{Debug, Display};
 
-/// The names of forwarded data by its code.
+/// The names of forwarded data, with their codes.
 const FORWARDS: [(&str, u8); 4] = [
     ("CompData_SC", 1),
     ("CompData_UC", 2),
@@ -17,7 +17,7 @@ const FORWARDS: [(&str, u8); 4] = [
     ("CompData_SD_PD", 7),
 ];
 
-/// Asserts that a kind has exactly these names and codes, both ways.
+/// Asserts that a type has exactly these names and codes.
 fn has_codes<Kind>(all: &[Kind], codes: &[(&str, u8)], code_of: fn(Kind) -> u8)
 where
     Kind: Copy + Debug + Display + PartialEq + TryFrom<u8>,
@@ -123,7 +123,7 @@ fn numbers() {
     assert!(EventNumber(2) < EventNumber(10));
 }
 
-/// Every set, by its byte and by its states.
+/// Every set, as a byte and as states.
 #[test]
 fn sets() {
     for byte in 0..=127 {
@@ -176,7 +176,7 @@ fn the_responses_of_the_rows() {
     }
 }
 
-/// Every answer that the kind can hold.
+/// Every value of `Answer`.
 fn all_answers() -> Vec<Answer> {
     let mut forwards = vec![Forward::NoForward];
     forwards.extend(FwdState::ALL.map(Forward::CompData));
@@ -204,7 +204,7 @@ fn answers_are_read_back() {
     }
 }
 
-/// Of all bytes in range, only those of the answers are read as one.
+/// Of all bytes in range, only those of an answer are read as one.
 #[test]
 fn other_bytes_are_no_answer() {
     let limits = [2, 32, 8, 8, 2, 8];
@@ -221,7 +221,7 @@ fn other_bytes_are_no_answer() {
     assert_eq!(read.count(), all_answers().len());
 }
 
-/// Each field stands in its byte, and is read back from it.
+/// Each field is written to its byte, and read back from it.
 #[test]
 fn fields_and_bytes() {
     let [shared, ..] = SHEET.map(|bytes| Event::from(bytes).fields().unwrap());
@@ -255,7 +255,7 @@ fn events_without_names() {
     assert_eq!(written, "[1, 0, 0, 0, 0, 1, 31, 5, 0, 0, 0, 0, 0, 7]");
 }
 
-/// The example's four lines, and one in which every field differs from what is usual.
+/// The example's four lines, and one in which no field has its usual value.
 #[test]
 fn fields_by_name() {
     let lines = SHEET.map(|bytes| Event::from(bytes).to_string());

@@ -1,11 +1,11 @@
-//! Every refusal with its number and place, and that whatever was lent stays as it came.
+//! Every refusal with its number and place, and no buffer changed.
 
 mod common;
 
 use common::{Lent, HIGHEST, IN_ERROR, REQUESTS, SHEET};
 use korehyumo::{judge_event, Event, EventNumber, Judge, PairNumber, Refusal, StateSet};
 
-/// The definition's example on a table of five pairs.
+/// The definition's example with a table of five pairs.
 fn example() -> Lent {
     Lent::new(&SHEET, &[4; 4], &[127; 5])
 }
@@ -15,7 +15,7 @@ fn refused_for_lengths(lent: &Lent) {
     lent.refused(Refusal::Lengths, 1, 0);
 }
 
-/// A wrong length of each buffer that depends on the events, alone and together with every other fault.
+/// A wrong length of each buffer with an element for each event, alone and before other faults.
 #[test]
 fn lengths() {
     for length in [0, 1, 3, 5, 8, 56, 4_096, 5_000] {
@@ -34,7 +34,7 @@ fn lengths() {
     }
 }
 
-/// Event bytes that are no whole number of events, or more events or fewer than the other buffers have places for.
+/// Event bytes that are not whole events, or events of another number than the other buffers have.
 #[test]
 fn lengths_of_events() {
     for bytes in (0..=70).filter(|bytes| *bytes != 56) {
@@ -44,7 +44,7 @@ fn lengths_of_events() {
     }
 }
 
-/// One more event, or one more pair, than there can be.
+/// More events, or more pairs, than there can be.
 #[test]
 fn lengths_over_the_most() {
     let sized = |events: usize, pairs: usize| {
@@ -62,7 +62,7 @@ fn lengths_over_the_most() {
     }
 }
 
-/// Each buffer empty, and all but one of them.
+/// All buffers empty, and all but one.
 #[test]
 fn empty_slices() {
     let empty = Lent::new(&[], &[], &[]);
@@ -77,7 +77,7 @@ fn empty_slices() {
     Lent::new(&SHEET, &[0; 4], &[]).refused(Refusal::Pair(EventNumber(0)), 3, 0);
 }
 
-/// A set above 127, at the lowest such pair and before any event is looked at.
+/// A set above 127: the lowest such pair is refused, before any event.
 #[test]
 fn sets() {
     for set in 128..=255 {
@@ -96,7 +96,7 @@ fn sets() {
     Lent::new(&[], &[], &full).refused(Refusal::Set(PairNumber(4_095)), 2, 4_095);
 }
 
-/// A pair that the table doesn't have, before the event's bytes and any later event.
+/// A pair number past the table: refused before the event's bytes and before any later event.
 #[test]
 fn pairs() {
     for pair in [5, 6, 255, 256, 260, 4_096, 65_535] {
@@ -113,7 +113,7 @@ fn pairs() {
     }
 }
 
-/// Each byte one above its highest value, before the event's request and any later event; its highest value is accepted.
+/// A byte above its highest value: refused before the event's request and before any later event.
 #[test]
 fn ranges() {
     for event in 0..4 {
@@ -133,7 +133,7 @@ fn ranges() {
     }
 }
 
-/// Every request that is not one of the seven, before any later event.
+/// A request that is not one of the seven: refused before any later event.
 #[test]
 fn requests() {
     for event in 0..4 {
@@ -152,7 +152,7 @@ fn requests() {
     }
 }
 
-/// The refusals of the last event that there can be.
+/// Refusals at the last event of the longest trace.
 #[test]
 fn last_event() {
     let last = EventNumber(4_095);
@@ -165,7 +165,7 @@ fn last_event() {
     lent.refused(Refusal::Pair(last), 3, 4_095);
 }
 
-/// One event alone: the same refusals, all at place 0.
+/// Refusals of one event alone, all at place 0.
 #[test]
 fn alone() {
     let refused = |bytes: &[u8], refusal: Refusal, number: u8| {
@@ -193,7 +193,7 @@ fn alone() {
     }
 }
 
-/// A refused trace leaves a judge's sets as they were, and it goes on from them.
+/// A refused trace leaves the sets of a `Judge` as they were, and the next trace starts from them.
 #[test]
 fn by_name() -> Result<(), Refusal> {
     let [gave_up, again, ..] = SHEET.map(Event::from);

@@ -1,11 +1,11 @@
-//! Accepted traces: the definition's example, several pairs, none, and as many as there can be.
+//! Accepted traces: the definition's example, several pairs, no events, and the most events and pairs.
 
 mod common;
 
 use common::{Lent, IN_ERROR, SHEET};
 use korehyumo::{Event, Judge, PairNumber, Refusal, StateSet, MOST_EVENTS, MOST_PAIRS};
 
-/// The example as a trace of one pair, over plain buffers.
+/// The example as a trace of one pair.
 #[test]
 fn the_example() {
     let mut lent = Lent::new(&SHEET, &[0; 4], &[127]);
@@ -18,7 +18,7 @@ fn the_example() {
     assert_eq!(lent.pairs, [0; 4]);
 }
 
-/// The example's answer, line by line, as one trace and as two, three and four.
+/// The example cut into traces of one to four events each: always the same answers.
 #[test]
 fn the_example_in_parts() -> Result<(), Refusal> {
     let lines = [
@@ -45,7 +45,7 @@ fn the_example_in_parts() -> Result<(), Refusal> {
     Ok(())
 }
 
-/// Events of one pair say nothing of another.
+/// An event of one pair doesn't change another.
 #[test]
 fn pairs_do_not_meddle() {
     let mut lent = Lent::new(&SHEET, &[3, 1, 3, 1], &[127, 127, 9, 8, 0]);
@@ -56,7 +56,7 @@ fn pairs_do_not_meddle() {
     assert_eq!(lent.table, [127, 1, 9, 0, 0]);
 }
 
-/// A trace without events is accepted, and leaves any table as it is; so is a table without pairs.
+/// A trace without events is accepted and changes no table, even one without pairs.
 #[test]
 fn no_events() -> Result<(), Refusal> {
     for table in [&[][..], &[0], &[0, 5, 127]] {
@@ -71,7 +71,7 @@ fn no_events() -> Result<(), Refusal> {
     Ok(())
 }
 
-/// As many events and pairs as there can be: the first error finds the line Dirty, the others find it I.
+/// The most events and pairs. The first error meets a line in UD, the others meet it in I.
 #[test]
 fn most_events_and_pairs() {
     let last = 4_095;
@@ -85,7 +85,7 @@ fn most_events_and_pairs() {
     assert_eq!(lent.table[4_095], 1);
 }
 
-/// The same by name, and one more event or pair.
+/// The same with `Judge`, and with one event or pair too many.
 #[test]
 fn most_by_name() -> Result<(), Refusal> {
     assert_eq!((MOST_EVENTS, MOST_PAIRS), (4_096, 4_096));

@@ -1,11 +1,11 @@
-//! What several tests lend.
+//! What several tests use.
 
-// Each test takes what it needs.
+// Each test uses a part of it.
 #![allow(dead_code)]
 
 use korehyumo::{judge_trace, Refusal};
 
-/// The four events of the definition's bench sheet.
+/// The four events of the definition's example sheet.
 pub const SHEET: [[u8; 14]; 4] = [
     [1, 0, 0, 0, 0, 1, 1, 5, 0, 0, 0, 0, 0, 7],
     [1, 1, 0, 0, 0, 1, 1, 1, 0, 0, 0, 0, 0, 7],
@@ -16,13 +16,13 @@ pub const SHEET: [[u8; 14]; 4] = [
 /// SnpShared answered by SnpResp_I with NDERR, entry m of the notebook.
 pub const IN_ERROR: [u8; 14] = [1, 0, 0, 0, 0, 0, 1, 0, 0, 0, 3, 0, 0, 7];
 
-/// The highest value of each byte of an event; of the request there is none but the seven codes.
+/// The highest value of each byte of an event. Of the request only the seven codes are judged.
 pub const HIGHEST: [u8; 14] = [255, 1, 1, 1, 3, 1, 31, 7, 7, 3, 3, 1, 7, 7];
 
 /// The codes of the seven requests.
 pub const REQUESTS: [u8; 7] = [1, 2, 4, 18, 20, 21, 22];
 
-/// The 22 responses of the rows with their channel, opcode, Resp and FwdState.
+/// The 22 responses of the rows, with their channel, opcode, Resp and FwdState.
 pub const RESPONSES: [(&str, [u8; 4]); 22] = [
     ("SnpResp_I", [0, 1, 0, 0]),
     ("SnpResp_SC", [0, 1, 1, 0]),
@@ -48,7 +48,7 @@ pub const RESPONSES: [(&str, [u8; 4]); 22] = [
     ("SnpRespData_SC_PD_Fwded_SC", [1, 6, 5, 1]),
 ];
 
-/// The six bytes of a response with its forwarded data as the row has it.
+/// The six bytes of a response and of the forwarded data that its row has.
 pub fn wire(codes: [u8; 4]) -> [u8; 6] {
     let [channel, opcode, resp, fwd_state] = codes;
     [
@@ -73,7 +73,7 @@ pub struct Lent {
 }
 
 impl Lent {
-    /// A trace on a table, with other bytes for its answers than any answer has.
+    /// A trace and a table. The answers are filled with bytes that no answer has.
     pub fn new(events: &[[u8; 14]], pairs: &[u16], table: &[u8]) -> Lent {
         let n = events.len();
         Lent {
@@ -98,7 +98,7 @@ impl Lent {
         )
     }
 
-    /// Asserts that the trace is refused so, and that every buffer stays as it came.
+    /// Asserts that the trace is refused so, and that no buffer changes.
     pub fn refused(&self, refusal: Refusal, number: u8, place: u64) {
         let mut lent = self.clone();
         assert_eq!(lent.judge(), Err(refusal));
@@ -107,7 +107,7 @@ impl Lent {
     }
 }
 
-/// Numbers drawn one after another, the same in every run.
+/// A generator of pseudo-random numbers, the same in every run.
 pub struct Draw(pub u64);
 
 impl Draw {
@@ -119,7 +119,7 @@ impl Draw {
         (self.0 >> 11) % limit
     }
 
-    /// A byte up to a highest one.
+    /// A byte up to a highest value.
     pub fn byte(&mut self, highest: u8) -> u8 {
         self.below(u64::from(highest) + 1) as u8
     }
