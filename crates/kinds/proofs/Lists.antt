@@ -55,7 +55,11 @@ each-state P i uc uce ud udp sc sd (suc (suc (suc (suc (suc (suc (suc n))))))) h
 
 -- every number below seven is one of the states
 pub state-in : (n : ℕ) → n < 7 → In n states
-state-in = each-state (λ n. In n states) here (there here) (there (there here)) (there (there (there here))) (there (there (there (there here)))) (there (there (there (there (there here))))) (there (there (there (there (there (there here))))))
+state-in =
+    each-state (λ n. In n states)
+    here (there here) (there (there here)) (there (there (there here)))
+    (there (there (there (there here)))) (there (there (there (there (there here)))))
+    (there (there (there (there (there (there here))))))
 
 -- one of seven values, one a state
 pub at-state : (f : ℕ → ℕ) (n : ℕ) → n < 7 → getD (map f states) n 0 ≡ f n

@@ -3,7 +3,8 @@ use Prim.Native.Nat.{ℕ}
 use mathlib.Core.Bool.{Bool, true, false, cond}
 use mathlib.Core.List.{List, [], _∷_}
 use lib.Dec.{eqb}
-use Rattle.kinds.specs.Codes.{RSP, DAT, op-SnpResp, op-SnpRespFwded, op-SnpRespData, op-SnpRespDataPtl, op-SnpRespDataFwded, Resp-I, Resp-SC, Resp-SD, Resp-I-PD, Resp-SC-PD, Fwd-SC, Fwd-UC, Fwd-UD-PD, Fwd-SD-PD}
+use Rattle.kinds.specs.Codes.{RSP, DAT, op-SnpResp, op-SnpRespFwded, op-SnpRespData, op-SnpRespDataPtl, op-SnpRespDataFwded}
+use Rattle.kinds.specs.Codes.{Resp-I, Resp-SC, Resp-SD, Resp-I-PD, Resp-SC-PD, Fwd-SC, Fwd-UC, Fwd-UD-PD, Fwd-SD-PD}
 use Rattle.kinds.specs.declared.Resp.{Resp}
 use Rattle.kinds.specs.declared.Forward.{Forward}
 use Rattle.kinds.specs.declared.Forward.the-variants.{NoForward, CompData}

@@ -49,6 +49,8 @@ trace-fits l = one-below _ (judged issueE l .outcome .place) (number-of-trace is
 -- DEMAND 1: the result is a number and a place in one exactly when the refusal table gives them.
 pub result-given : (l : Lent) (number place : ℕ) → number < 256 → traceTold (judged issueE l) .result ≡ inOne number place ↔ Given issueE l number place
 result-given l number place small = (
-  λ h. subst (λ (o : Outcome). Given issueE l (o .refusal .0) (o .place)) (sym (judged-outcome issueE l) ∙ same-outcome (judged issueE l .outcome) number place (number-of-trace issueE l) small h) (given issueE l),
+  λ h. subst (λ (o : Outcome). Given issueE l (o .refusal .0) (o .place))
+      (sym (judged-outcome issueE l) ∙ same-outcome (judged issueE l .outcome) number place (number-of-trace issueE l) small h)
+      (given issueE l),
   λ g. ap (λ (o : Outcome). inOne (o .refusal .0) (o .place)) (judged-outcome issueE l ∙ sym (gives issueE l g)),
 )

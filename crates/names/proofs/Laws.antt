@@ -137,7 +137,10 @@ read-next {f} {m} {v} {i} a h t =
       small = rw (add-one, pow-suc) (one-more (10 ^ i) v (getD f i 0) (a .small) (digit-high (getD f i 0) t));
       rest =
           ap (λ (k : ℕ). number (v * 10 + (getD f i 0 - 48)) (drop k f)) (add-one i)
-          ∙ sym (digits-ahead a h ∙ ap (λ (b : Bool). cond (b && all isDigit (drop (suc i) f)) (readDecimal (v * 10 + (getD f i 0 - 48)) (drop (suc i) f)) unknown) (not-false (isDigit (getD f i 0)) t))
+          ∙ sym
+          (digits-ahead a h
+          ∙ ap (λ (b : Bool). cond (b && all isDigit (drop (suc i) f)) (readDecimal (v * 10 + (getD f i 0 - 48)) (drop (suc i) f)) unknown)
+          (not-false (isDigit (getD f i 0)) t))
           ∙ a .rest;
     }
 

@@ -14,7 +14,8 @@ use lib.ListN.{length}
 use Rattle.text.specs.Text.{bytes}
 use Rattle.kinds.specs.Tests.{same, all}
 use Rattle.kinds.proofs.Lists.{In, here, there, and-left, and-right, and-both, all-at, same-equal}
-use Rattle.names.specs.Names.{Named, unknown, codeOf, requestNames, flagNames, tagNames, responses, responseNames, tagOpNames, respErrNames, forwardNames, finalNames, mostDigits, isDigit, leadingZero, isPair, readDecimal, pairOf, columns}
+use Rattle.names.specs.Names.{Named, unknown, codeOf, requestNames, flagNames, tagNames, responses, responseNames, tagOpNames, respErrNames}
+use Rattle.names.specs.Names.{forwardNames, finalNames, mostDigits, isDigit, leadingZero, isPair, readDecimal, pairOf, columns}
 
 -- the test on two lists is their equality: `same-equal` of kinds, and the other way round
 pub same-self : (f : List ℕ) → same f f ≡ true
@@ -255,7 +256,9 @@ decimal-above v [] = omega arith
 decimal-above v (d ∷ ds) =
     rw pow-suc
     (le-trans
-    (subst (λ (n : ℕ). n ≤ (v * 10 + (d - 48)) * 10 ^ length ds) (mul-assoc v 10 (10 ^ length ds) ∙ ap (λ (n : ℕ). v * n) (mul-comm 10 (10 ^ length ds))) (mul-le-mul-right (10 ^ length ds) (omega arith)))
+    (subst (λ (n : ℕ). n ≤ (v * 10 + (d - 48)) * 10 ^ length ds)
+    (mul-assoc v 10 (10 ^ length ds) ∙ ap (λ (n : ℕ). v * n) (mul-comm 10 (10 ^ length ds)))
+    (mul-le-mul-right (10 ^ length ds) (omega arith)))
     (decimal-above (v * 10 + (d - 48)) ds))
 
 -- no digits are fewer and the same number

@@ -7,9 +7,13 @@ use lib.Dec.{eqb, ltb, leb}
 use lib.ListN.{length, getD}
 use Rattle.text.specs.Text.{bytes}
 use Rattle.kinds.specs.Tests.{same, all}
-use Rattle.kinds.specs.Codes.{SnpShared, SnpClean, SnpNotSharedDirty, SnpCleanFwd, SnpNotSharedDirtyFwd, SnpPreferUnique, SnpPreferUniqueFwd, tagInvalid, tagClean, tagDirty, tagNotSeen, opInvalid, opTransfer, opUpdate, opMatch, OK, EXOK, DERR, NDERR, Fwd-SC, Fwd-UC, Fwd-UD-PD, Fwd-SD-PD, I, UC, UCE, UD, UDP, SC, SD, stateNotSeen}
+use Rattle.kinds.specs.Codes.{SnpShared, SnpClean, SnpNotSharedDirty, SnpCleanFwd, SnpNotSharedDirtyFwd, SnpPreferUnique, SnpPreferUniqueFwd}
+use Rattle.kinds.specs.Codes.{tagInvalid, tagClean, tagDirty, tagNotSeen, opInvalid, opTransfer, opUpdate, opMatch, OK, EXOK, DERR, NDERR}
+use Rattle.kinds.specs.Codes.{Fwd-SC, Fwd-UC, Fwd-UD-PD, Fwd-SD-PD, I, UC, UCE, UD, UDP, SC, SD, stateNotSeen}
 use Rattle.kinds.specs.declared.Answer.{Answer}
-use Rattle.kinds.specs.Answers.{SnpResp-I, SnpResp-SC, SnpRespData-I, SnpRespData-SC, SnpRespData-SD, SnpRespData-I-PD, SnpRespData-SC-PD, SnpRespDataPtl-I-PD, SnpResp-I-Fwded-SC, SnpResp-SC-Fwded-SC, SnpResp-SD-Fwded-SC, SnpResp-I-Fwded-SD-PD, SnpResp-SC-Fwded-SD-PD, SnpResp-I-Fwded-UC, SnpResp-I-Fwded-UD-PD, SnpRespData-I-Fwded-SC, SnpRespData-SC-Fwded-SC, SnpRespData-SD-Fwded-SC, SnpRespData-I-Fwded-SD-PD, SnpRespData-SC-Fwded-SD-PD, SnpRespData-I-PD-Fwded-SC, SnpRespData-SC-PD-Fwded-SC}
+use Rattle.kinds.specs.Answers.{SnpResp-I, SnpResp-SC, SnpRespData-I, SnpRespData-SC, SnpRespData-SD, SnpRespData-I-PD, SnpRespData-SC-PD, SnpRespDataPtl-I-PD}
+use Rattle.kinds.specs.Answers.{SnpResp-I-Fwded-SC, SnpResp-SC-Fwded-SC, SnpResp-SD-Fwded-SC, SnpResp-I-Fwded-SD-PD, SnpResp-SC-Fwded-SD-PD, SnpResp-I-Fwded-UC, SnpResp-I-Fwded-UD-PD}
+use Rattle.kinds.specs.Answers.{SnpRespData-I-Fwded-SC, SnpRespData-SC-Fwded-SC, SnpRespData-SD-Fwded-SC, SnpRespData-I-Fwded-SD-PD, SnpRespData-SC-Fwded-SD-PD, SnpRespData-I-PD-Fwded-SC, SnpRespData-SC-PD-Fwded-SC}
 
 -- a name, and the code it stands for
 pub record Named : Type 0 where

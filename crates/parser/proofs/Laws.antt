@@ -176,7 +176,10 @@ found codes good = record { codes = codes; good = good }
 pub codes-found : (line : List ℕ) (t : Codes) (k : Bool) → t ≡ allTaken line → k ≡ all known (t .codes)
     → record { codes = t .codes; good = k && ltb (length line) (t .end) } ≡ codesIn line
 unfolding found wellFormed
-codes-found line t k e h = ap₂ found codes-so (ap₂ (λ (a b : Bool). a && b) (h ∙ ap (all known) codes-so) end-so ∙ as-many (all known (lineCodes line)) (length (fieldsOf line)) (length columns) (none-missing columns (fieldsOf line)))
+codes-found line t k e h =
+    ap₂ found codes-so
+    (ap₂ (λ (a b : Bool). a && b) (h ∙ ap (all known) codes-so) end-so
+    ∙ as-many (all known (lineCodes line)) (length (fieldsOf line)) (length columns) (none-missing columns (fieldsOf line)))
   where
     t-so : t ≡ takenFrom columns line 0
     t-so = e ∙ one-by-one line

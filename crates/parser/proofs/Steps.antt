@@ -34,7 +34,8 @@ module _ {M : Type 1} {𝓤 : URA M} {H : Heap 𝓤} {A : Atoms 𝓤} {K : Type 
   look-field t n k {q} {ν} {τs} {b} {o} {vs} {τ} {d} e at-k =
       look-in t n (subst (λ (j : Item 𝓤). Part K W j q τ b (o + d) (getV vs k) (λ u. ‵ (fat q (tyStruct ν τs) b o (vstruct (setV vs k u))))) (sym e) (sub t k at-k (whole t)))
 
-  pub store-field : K → (n k : ℕ) {ν : Sym} {τs : Tys} {b o : ℕ} {vs : Vals} {τ : Ty} {d : ℕ} {u : Val} → nth 𝓤 H A n Γ ≡ ‵ (fat fullShare (tyStruct ν τs) b o (vstruct vs)) → fieldAt zero τs k ≡ some (τ, d) → Holds (hasTy τ u) × WT u
+  pub store-field : K → (n k : ℕ) {ν : Sym} {τs : Tys} {b o : ℕ} {vs : Vals} {τ : Ty} {d : ℕ} {u : Val}
+      → nth 𝓤 H A n Γ ≡ ‵ (fat fullShare (tyStruct ν τs) b o (vstruct vs)) → fieldAt zero τs k ≡ some (τ, d) → Holds (hasTy τ u) × WT u
       → Writes K W Γ τ b (o + d) u (put 𝓤 H A n (‵ (fat fullShare (tyStruct ν τs) b o (vstruct (setV vs k u)))) Γ)
   store-field t n k {ν} {τs} {b} {o} {vs} {τ} {d} e at-k wt =
       store-in t n (subst (λ (j : Item 𝓤). Part K W j fullShare τ b (o + d) (getV vs k) (λ u. ‵ (fat fullShare (tyStruct ν τs) b o (vstruct (setV vs k u))))) (sym e) (sub t k at-k (whole t))) wt

@@ -16,7 +16,8 @@ use Rattle.sets.specs.Sets.{bit}
 use Rattle.verdicts.specs.declared.Finding.{Finding}
 use Rattle.text.specs.Text.{bytes, comma, eol}
 use Rattle.replies.specs.Laid.{laid, lay, layAll, concat}
-use Rattle.replies.specs.Replies.{room, space, decimalText, Word, wordFor, verdictNames, dutyNames, verdictText, dutyText, statesText, headerLine, answerLine, refusedLine, stateText, statesTexts, answerTexts, refusalTexts}
+use Rattle.replies.specs.Replies.{room, space, decimalText, Word, wordFor, verdictNames, dutyNames, verdictText, dutyText}
+use Rattle.replies.specs.Replies.{statesText, headerLine, answerLine, refusedLine, stateText, statesTexts, answerTexts, refusalTexts}
 pub use Rattle.replies.proofs.Laying.{lay-fits, lay-short, lay-nothing, lay-lay, lay-all, lay-all-append, length-in, length-lay, length-lay-all}
 pub use Rattle.replies.proofs.Decimal.{decimal-one, decimal-small, decimal-step, decimal-short}
 pub use Rattle.replies.proofs.States.{concat-states}

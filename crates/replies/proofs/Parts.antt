@@ -18,7 +18,8 @@ use Rattle.verdicts.specs.Verdicts.{explained, unexplained, notJudged}
 use Rattle.verdicts.specs.declared.Finding.{Finding}
 use Rattle.text.specs.Text.{bytes, comma, eol}
 use Rattle.replies.specs.Laid.{Laid, lay, layAll}
-use Rattle.replies.specs.Replies.{space, decimalText, Word, wordFor, verdictNames, dutyNames, verdictText, dutyText, stateText, statesTexts, headerLine, answerTexts, refusalTexts}
+use Rattle.replies.specs.Replies.{space, decimalText, Word, wordFor, verdictNames, dutyNames, verdictText}
+use Rattle.replies.specs.Replies.{dutyText, stateText, statesTexts, headerLine, answerTexts, refusalTexts}
 use Rattle.replies.proofs.Laying.{lay-nothing, lay-all-append, length-lay-all}
 
 -- a code that is not the first word's is another's

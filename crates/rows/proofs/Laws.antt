@@ -52,7 +52,9 @@ pub same-wire : (x₀ x₁ x₂ x₃ x₄ x₅ : ℕ) (a : Answer) (w : List ℕ
     ≡ same (x₀ ∷ x₁ ∷ x₂ ∷ x₃ ∷ x₄ ∷ x₅ ∷ []) (wire a)
 same-wire x₀ x₁ x₂ x₃ x₄ x₅ a w h =
     subst⁻¹
-    (λ (v : List ℕ). eqb x₀ (getD v 0 0) && eqb x₁ (getD v 1 0) && eqb x₂ (getD v 2 0) && eqb x₃ (getD v 3 0) && eqb x₄ (getD v 4 0) && eqb x₅ (getD v 5 0) ≡ same (x₀ ∷ x₁ ∷ x₂ ∷ x₃ ∷ x₄ ∷ x₅ ∷ []) (wire a))
+    (λ (v : List ℕ).
+    eqb x₀ (getD v 0 0) && eqb x₁ (getD v 1 0) && eqb x₂ (getD v 2 0) && eqb x₃ (getD v 3 0) && eqb x₄ (getD v 4 0) && eqb x₅ (getD v 5 0)
+    ≡ same (x₀ ∷ x₁ ∷ x₂ ∷ x₃ ∷ x₄ ∷ x₅ ∷ []) (wire a))
     h (at-wire a)
   where
     six : (y₀ y₁ y₂ y₃ y₄ y₅ : ℕ)

@@ -4,7 +4,8 @@ use mathlib.Core.Bool.{Bool, cond, not, _&&_, _||_}
 use mathlib.Core.List.{List, [], _∷_}
 use lib.Dec.{eqb}
 use Rattle.kinds.specs.Tests.{any, _∈?_, same}
-use Rattle.kinds.specs.Codes.{UD, UDP, SD, tagDirty, tags, tagNotSeen, opInvalid, opTransfer, opUpdate, OK, DERR, NDERR, SnpShared, SnpClean, SnpNotSharedDirty, SnpCleanFwd, SnpNotSharedDirtyFwd, SnpPreferUnique, SnpPreferUniqueFwd, requests, respPD, fwdPD}
+use Rattle.kinds.specs.Codes.{UD, UDP, SD, tagDirty, tags, tagNotSeen, opInvalid, opTransfer, opUpdate, OK, DERR, NDERR, requests, respPD, fwdPD}
+use Rattle.kinds.specs.Codes.{SnpShared, SnpClean, SnpNotSharedDirty, SnpCleanFwd, SnpNotSharedDirtyFwd, SnpPreferUnique, SnpPreferUniqueFwd}
 use Rattle.kinds.specs.declared.Answer.{Answer}
 use Rattle.kinds.specs.Answers.{wire, hasData, answerResp, answerFwd}
 use Rattle.rows.specs.declared.Table.{Table}

@@ -7,7 +7,9 @@ use mathlib.Core.Bool.{Bool, true, false}
 use mathlib.Core.List.{List, [], _∷_, _++_, map}
 use Rattle.kinds.specs.Codes.{I, UC, UCE, UD, UDP, SC, SD, states}
 use Rattle.kinds.specs.declared.Answer.{Answer}
-use Rattle.kinds.specs.Answers.{SnpResp-I, SnpResp-SC, SnpRespData-I, SnpRespData-SC, SnpRespData-SD, SnpRespData-I-PD, SnpRespData-SC-PD, SnpRespDataPtl-I-PD, SnpResp-I-Fwded-SC, SnpResp-SC-Fwded-SC, SnpResp-SD-Fwded-SC, SnpResp-I-Fwded-SD-PD, SnpResp-SC-Fwded-SD-PD, SnpResp-I-Fwded-UC, SnpResp-I-Fwded-UD-PD, SnpRespData-I-Fwded-SC, SnpRespData-SC-Fwded-SC, SnpRespData-SD-Fwded-SC, SnpRespData-I-Fwded-SD-PD, SnpRespData-SC-Fwded-SD-PD, SnpRespData-I-PD-Fwded-SC, SnpRespData-SC-PD-Fwded-SC}
+use Rattle.kinds.specs.Answers.{SnpResp-I, SnpResp-SC, SnpRespData-I, SnpRespData-SC, SnpRespData-SD, SnpRespData-I-PD, SnpRespData-SC-PD, SnpRespDataPtl-I-PD}
+use Rattle.kinds.specs.Answers.{SnpResp-I-Fwded-SC, SnpResp-SC-Fwded-SC, SnpResp-SD-Fwded-SC, SnpResp-I-Fwded-SD-PD, SnpResp-SC-Fwded-SD-PD, SnpResp-I-Fwded-UC, SnpResp-I-Fwded-UD-PD}
+use Rattle.kinds.specs.Answers.{SnpRespData-I-Fwded-SC, SnpRespData-SC-Fwded-SC, SnpRespData-SD-Fwded-SC, SnpRespData-I-Fwded-SD-PD, SnpRespData-SC-Fwded-SD-PD, SnpRespData-I-PD-Fwded-SC, SnpRespData-SC-PD-Fwded-SC}
 use Rattle.rows.specs.declared.Table.{Table}
 use Rattle.rows.specs.declared.Table.the-variants.{B46, B57, B59, B60, NdErr}
 

@@ -4,7 +4,8 @@ use mathlib.Core.Path.{_≡_, refl, sym, _∙_, ap, ap₂, fun-ext}
 use mathlib.Core.Bool.{Bool, true, false, cond, _&&_, _||_, true≢false}
 use mathlib.Core.List.{List, [], _∷_, map}
 use Prim.Native.Nat.{ℕ, zero, suc, _+_, _*_, _/_, _%_, _^_, _<_, _≤_, min, max}
-use native.Mathlib.Nat.{add-zero, add-suc, suc-add, zero-add, le-of-suc-le-suc, not-suc-le-zero, div-one, div-div-eq-div-mul, pow-suc, pow-succ', pow-zero, div-eq-of-lt, lt-of-lt-of-le, zero-div}
+use native.Mathlib.Nat.{add-zero, add-suc, suc-add, zero-add, le-of-suc-le-suc, not-suc-le-zero, div-one}
+use native.Mathlib.Nat.{div-div-eq-div-mul, pow-suc, pow-succ', pow-zero, div-eq-of-lt, lt-of-lt-of-le, zero-div}
 use lib.Pow.{pow-mono}
 use native.Mathlib.Omega.{arith}
 use borrow.Author.Tests.{ltb-true, ltb-false, eqb-true, eqb-false}
@@ -70,7 +71,10 @@ bit-digits p k zero j h = absurd (not-suc-le-zero h)
 bit-digits p k (suc n) zero h =
     simp (pow-zero, div-one, odd, eqb-one, add-zero)
 bit-digits p k (suc n) (suc j) h =
-    ap (λ (m : ℕ). eqb (m % 2) 1) (ap (λ (d : ℕ). (one (p k) + digits p (suc k) n * 2) / d) (pow-succ' 2 j) ∙ sym (div-div-eq-div-mul _ 2 (2 ^ j)) ∙ ap (λ (m : ℕ). m / 2 ^ j) (half (p k) (digits p (suc k) n)))
+    ap (λ (m : ℕ). eqb (m % 2) 1)
+    (ap (λ (d : ℕ). (one (p k) + digits p (suc k) n * 2) / d) (pow-succ' 2 j)
+    ∙ sym (div-div-eq-div-mul _ 2 (2 ^ j))
+    ∙ ap (λ (m : ℕ). m / 2 ^ j) (half (p k) (digits p (suc k) n)))
     ∙ bit-digits p (suc k) n j (le-of-suc-le-suc h)
     ∙ ap p (suc-add k j ∙ sym (add-suc k j))
 

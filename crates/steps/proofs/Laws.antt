@@ -23,7 +23,8 @@ use Rattle.rows.specs.declared.Table.the-variants.{NdErr}
 use Rattle.sets.specs.Sets.{setOf, holdsDirty}
 use Rattle.rows.specs.Event.{byte, requestOf, channelOf, opcodeOf, respOf, fwdStateOf, respErrOf, seen}
 use Rattle.steps.specs.Steps.{duty, noDuty, Home, Requester, lost}
-use Rattle.steps.specs.Code.{bytesFrom, eventBytes, mark, at-before, at-ret, at-table, at-resp, at-fwd, at-message, columnAt, tableAt, answerAt, rowAt, rowFits, rowAdds, tablesOf, messageOf, rowKey, wireKey, eventKey}
+use Rattle.steps.specs.Code.{bytesFrom, eventBytes, mark, at-before, at-ret, at-table, at-resp, at-fwd, at-message, columnAt}
+use Rattle.steps.specs.Code.{tableAt, answerAt, rowAt, rowFits, rowAdds, tablesOf, messageOf, rowKey, wireKey, eventKey}
 use Rattle.steps.specs.declared.Row as code
 use Rattle.kinds.specs.declared.Forward.{Forward}
 use Rattle.kinds.specs.Answers.{forwardAt}
@@ -47,7 +48,16 @@ seen-at n h = go (ltb n 7) refl
 pub seen-past : (n : ℕ) → 8 ≤ n → 0 ≡ setOf (seen stateNotSeen n)
 unfolding setOf
 seen-past n h =
-    simp (ne-eqb n 7 (omega arith), ne-eqb n 0 (omega arith), ne-eqb n 1 (omega arith), ne-eqb n 2 (omega arith), ne-eqb n 3 (omega arith), ne-eqb n 4 (omega arith), ne-eqb n 5 (omega arith), ne-eqb n 6 (omega arith))
+    simp (
+      ne-eqb n 7 (omega arith),
+      ne-eqb n 0 (omega arith),
+      ne-eqb n 1 (omega arith),
+      ne-eqb n 2 (omega arith),
+      ne-eqb n 3 (omega arith),
+      ne-eqb n 4 (omega arith),
+      ne-eqb n 5 (omega arith),
+      ne-eqb n 6 (omega arith),
+    )
 
 -- a column past the last table's number
 pub table-else : (n : ℕ) → (n ≡ 0 → ⊥) → (n ≡ 1 → ⊥) → (n ≡ 2 → ⊥) → (n ≡ 3 → ⊥) → NdErr ≡ tableAt n
@@ -82,7 +92,10 @@ pub row-parts : (w t b m r f ret : ℕ) (T : Table) (a : Answer) → t ≡ colum
 unfolding rowAt
 row-parts w t b m r f ret T a ht hT hb hm hr hf ha hret =
     ap₂ (λ (x : Table) (y : ℕ). record { table = x; before = record { 0 = y }; ret = ret; answer = a; finals = w % mark; marked = eqb (w / mark % 2) 1 }) (hT ∙ ap tableAt ht) hb
-    ∙ ap₂ (λ (x : ℕ) (y : Answer). record { table = tableAt (columnAt w at-table); before = record { 0 = columnAt w at-before }; ret = x; answer = y; finals = w % mark; marked = eqb (w / mark % 2) 1 }) hret
+    ∙ ap₂
+    (λ (x : ℕ) (y : Answer).
+    record { table = tableAt (columnAt w at-table); before = record { 0 = columnAt w at-before }; ret = x; answer = y; finals = w % mark; marked = eqb (w / mark % 2) 1 })
+    hret
     (ha ∙ ap₂ (λ (x y : ℕ). answerAt x y f) hm hr ∙ ap (answerAt (columnAt w at-message) (columnAt w at-resp)) hf)
 
 pub answer-rsp : (m r f : ℕ) (g : Forward) → m ≡ 0 → g ≡ forwardAt f → SnpResp (record { 0 = r }) g ≡ answerAt m r f

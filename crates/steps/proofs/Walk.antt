@@ -156,7 +156,8 @@ step-row e s s′ h =
     let t = g .one in
     let p = permitted-row e t s s′ (and-right (seen tagNotSeen (tagOf e) t) (permitted e t s s′) (g .passes)) in
     let r = p .row in
-    let some = found-any (λ u. seen tagNotSeen (tagOf e) u && tagged e u (r .table) (r .before) (r .answer)) (g .inside) (and-both (and-left (seen tagNotSeen (tagOf e) t) (permitted e t s s′) (g .passes)) (p .is-tagged)) in
+    let fits = and-both (and-left (seen tagNotSeen (tagOf e) t) (permitted e t s s′) (g .passes)) (p .is-tagged) in
+    let some = found-any (λ u. seen tagNotSeen (tagOf e) u && tagged e u (r .table) (r .before) (r .answer)) (g .inside) fits in
     found-any (by e s s′) (p .inside)
     (and-both (and-both (p .from) (and-both (and-both (p .is-answered) (p .is-asked)) some)) (and-both (p .to) (and-right step last h)))
 
@@ -166,7 +167,11 @@ unfolding walked reach setAfter
 walk-all e = ap (λ (f : ℕ → ℕ). map f states) (fun-ext each)
   where
     each : (s : ℕ) → setOf (λ s′. any (by (eventBytes e) s s′) rows) ≡ setOf (steps e s)
-    each s = setOf-ext (λ s′. any (by (eventBytes e) s s′) rows) (steps e s) (λ s′. ap (λ (f : Row → Bool). any f rows) (fun-ext (same-bytes e s s′)) ∙ same-truth (any (by e s s′) rows) (steps e s s′) (row-step e s s′) (step-row e s s′))
+    each s =
+        setOf-ext (λ s′. any (by (eventBytes e) s s′) rows) (steps e s)
+        (λ s′.
+        ap (λ (f : Row → Bool). any f rows) (fun-ext (same-bytes e s s′))
+        ∙ same-truth (any (by e s s′) rows) (steps e s s′) (row-step e s s′) (step-row e s s′))
 
 -- before any row the seven sets are empty
 pub walk-none : (e : List ℕ) → 0 ∷ 0 ∷ 0 ∷ 0 ∷ 0 ∷ 0 ∷ 0 ∷ [] ≡ walked e []

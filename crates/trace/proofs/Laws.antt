@@ -16,7 +16,7 @@ use Rattle.event.specs.Refusals.{Issue, fault}
 use Rattle.trace.specs.declared.Outcome.{Outcome}
 use Rattle.verdicts.specs.Verdicts.{afterSet, verdict, dutyByte}
 use Rattle.trace.specs.Events.{TraceEvent, eventsFrom, run, outputs}
-use Rattle.trace.specs.Lent.{Lent, left, count}
+use Rattle.trace.specs.Lent.{Left, Lent, left, count}
 use Rattle.trace.specs.Given.{Fits}
 use Rattle.trace.specs.Judged.{accepts, acceptedLeft, refusedLeft, judged}
 use Rattle.trace.specs.Code.{Room, AllJudged}
@@ -119,18 +119,24 @@ pub good : (x n : ℕ) → x ≡ n → x ≡ 0 → not (eqb n 0) ≡ false
 good x n h k = ap not (eq-eqb n 0 (sym h ∙ k))
 
 module _ (issue : Issue) (events pairs table : List ℕ) where
+  -- the outcome by whether some event is refused
+  abbrev choice : Bool → Outcome
+  choice b =
+      let first = firstBadEvent issue events pairs table in
+      cond b (outcome (faultAt issue events pairs table first) first) (outcome 0 (length pairs))
+
   pub refused-event : (k x : ℕ) → k ≡ firstBadEvent issue events pairs table → k < length pairs → x ≡ faultAt issue events pairs table k
       → outcome x k ≡ byEvents issue events pairs table
   unfolding byEvents
   refused-event k x h l p =
       ap (λ (n : ℕ). outcome n k) p
       ∙ ap (λ (i : ℕ). outcome (faultAt issue events pairs table i) i) h
-      ∙ sym (ap (λ (b : Bool). cond b (outcome (faultAt issue events pairs table (firstBadEvent issue events pairs table)) (firstBadEvent issue events pairs table)) (outcome 0 (length pairs))) (ap (λ (i : ℕ). ltb i (length pairs)) (sym h) ∙ lt-ltb k (length pairs) l))
+      ∙ sym (ap choice (ap (λ (i : ℕ). ltb i (length pairs)) (sym h) ∙ lt-ltb k (length pairs) l))
 
   pub no-event : (k : ℕ) → k ≡ firstBadEvent issue events pairs table → length pairs ≤ k → outcome 0 (length pairs) ≡ byEvents issue events pairs table
   unfolding byEvents
   no-event k h l =
-      sym (ap (λ (b : Bool). cond b (outcome (faultAt issue events pairs table (firstBadEvent issue events pairs table)) (firstBadEvent issue events pairs table)) (outcome 0 (length pairs))) (ap (λ (i : ℕ). ltb i (length pairs)) (sym h) ∙ le-ltb k (length pairs) l))
+      sym (ap choice (ap (λ (i : ℕ). ltb i (length pairs)) (sym h) ∙ le-ltb k (length pairs) l))
 
 module _ (issue : Issue) (l : Lent) where
   -- the outcome from the two tests
@@ -172,12 +178,16 @@ module _ (issue : Issue) (l : Lent) where
           let wrong : _≡_ {A = ℕ} 1 0 = sym (ap (λ (o : Outcome). o .refusal .0) (by-stages false (ltb (lowestBadSet (l .table)) (length (l .table))) k refl)) ∙ h in
           absurd (omega arith)
 
+  -- what is left of a trace, by whether it is accepted
+  abbrev leftBy : Bool → Left
+  leftBy b = cond b (acceptedLeft (outcomeOf issue l) l) (refusedLeft (outcomeOf issue l) l)
+
   -- what is left of a refused trace, and of an accepted one
   pub left-refused : (o : Outcome) → o ≡ outcomeOf issue l → (o .refusal .0 ≡ 0 → ⊥) → refusedLeft o l ≡ judged issue l
   unfolding judged accepts
   left-refused o h k =
       ap (λ (x : Outcome). refusedLeft x l) h
-      ∙ sym (ap (λ (b : Bool). cond b (acceptedLeft (outcomeOf issue l) l) (refusedLeft (outcomeOf issue l) l)) (ne-eqb (outcomeOf issue l .refusal .0) 0 (λ z. k (ap (λ (x : Outcome). x .refusal .0) h ∙ z))))
+      ∙ sym (ap leftBy (ne-eqb (outcomeOf issue l .refusal .0) 0 (λ z. k (ap (λ (x : Outcome). x .refusal .0) h ∙ z))))
 
   pub left-accepted : (o : Outcome) (t v d a : List ℕ) → o ≡ outcomeOf issue l → o .refusal .0 ≡ 0 → length (l .pairs) ≡ count l
       → AllJudged (l .events) (l .pairs) (l .table) t v d a → left o t v d a ≡ judged issue l
@@ -185,12 +195,15 @@ module _ (issue : Issue) (l : Lent) where
   left-accepted o t v d a h k n all =
       ap₂ (λ (x y : List ℕ). left o x y d a) (all .in-table) (all .in-verdicts)
       ∙ ap₂ (λ (x y : List ℕ). left o (run (l .table) whole) (outputs verdict (l .table) whole) x y) (all .in-duties) (all .in-afters)
-      ∙ ap (λ (m : ℕ). left o (run (l .table) (eventsFrom (l .events) (l .pairs) 0 m)) (outputs verdict (l .table) (eventsFrom (l .events) (l .pairs) 0 m)) (outputs dutyByte (l .table) (eventsFrom (l .events) (l .pairs) 0 m)) (outputs afterSet (l .table) (eventsFrom (l .events) (l .pairs) 0 m))) n
+      ∙ ap (λ (m : ℕ). after (eventsFrom (l .events) (l .pairs) 0 m)) n
       ∙ ap (λ (x : Outcome). acceptedLeft x l) h
-      ∙ sym (ap (λ (b : Bool). cond b (acceptedLeft (outcomeOf issue l) l) (refusedLeft (outcomeOf issue l) l)) (eq-eqb (outcomeOf issue l .refusal .0) 0 (ap (λ (x : Outcome). x .refusal .0) (sym h) ∙ k)))
+      ∙ sym (ap leftBy (eq-eqb (outcomeOf issue l .refusal .0) 0 (ap (λ (x : Outcome). x .refusal .0) (sym h) ∙ k)))
     where
       whole : List TraceEvent
       whole = eventsFrom (l .events) (l .pairs) 0 (length (l .pairs))
+
+      after : List TraceEvent → Left
+      after es = left o (run (l .table) es) (outputs verdict (l .table) es) (outputs dutyByte (l .table) es) (outputs afterSet (l .table) es)
 
   -- there is room for every event
   pub room : outcomeOf issue l .refusal .0 ≡ 0 → Room (l .pairs) (l .verdicts) (l .duties) (l .afters)

@@ -51,15 +51,25 @@ duty-from-requires-7 : tie.Need-duty-from-requires-7
 duty-from-requires-7 c κs = search needs
 
 returns : tie.Need-returns
-returns c = seven (dutyAlone (now (c .before .before .before .before .before .before .before .before .args .event)))
-    (c .before .before .before .before .before .before .duty-from .result) (c .before .before .before .before .before .duty-from2 .result) (c .before .before .before .before .duty-from3 .result) (c .before .before .before .duty-from4 .result) (c .before .before .duty-from5 .result) (c .before .duty-from6 .result) (c .duty-from7 .result)
-    (duty-at (now (c .before .before .before .before .before .before .before .before .args .event)) (c .before .before .before .before .before .before .before .before .args .t2) 0 1 (c .before .before .before .before .before .before .duty-from .result) (c .before .before .before .before .before .before .before .before .pre) refl (c .before .before .before .before .before .before .duty-from .ensures))
-    (duty-at (now (c .before .before .before .before .before .before .before .before .args .event)) (c .before .before .before .before .before .before .before .before .args .t2) 1 2 (c .before .before .before .before .before .duty-from2 .result) (c .before .before .before .before .before .before .before .before .pre) refl (c .before .before .before .before .before .duty-from2 .ensures))
-    (duty-at (now (c .before .before .before .before .before .before .before .before .args .event)) (c .before .before .before .before .before .before .before .before .args .t2) 2 4 (c .before .before .before .before .duty-from3 .result) (c .before .before .before .before .before .before .before .before .pre) refl (c .before .before .before .before .duty-from3 .ensures))
-    (duty-at (now (c .before .before .before .before .before .before .before .before .args .event)) (c .before .before .before .before .before .before .before .before .args .t2) 3 8 (c .before .before .before .duty-from4 .result) (c .before .before .before .before .before .before .before .before .pre) refl (c .before .before .before .duty-from4 .ensures))
-    (duty-at (now (c .before .before .before .before .before .before .before .before .args .event)) (c .before .before .before .before .before .before .before .before .args .t2) 4 16 (c .before .before .duty-from5 .result) (c .before .before .before .before .before .before .before .before .pre) refl (c .before .before .duty-from5 .ensures))
-    (duty-at (now (c .before .before .before .before .before .before .before .before .args .event)) (c .before .before .before .before .before .before .before .before .args .t2) 5 32 (c .before .duty-from6 .result) (c .before .before .before .before .before .before .before .before .pre) refl (c .before .duty-from6 .ensures))
-    (duty-at (now (c .before .before .before .before .before .before .before .before .args .event)) (c .before .before .before .before .before .before .before .before .args .t2) 6 64 (c .duty-from7 .result) (c .before .before .before .before .before .before .before .before .pre) refl (c .duty-from7 .ensures))
+returns c =
+    let duty-from6 = c .before .duty-from6 in
+    let duty-from5 = c .before .before .duty-from5 in
+    let duty-from4 = c .before .before .before .duty-from4 in
+    let duty-from3 = c .before .before .before .before .duty-from3 in
+    let duty-from2 = c .before .before .before .before .before .duty-from2 in
+    let duty-from = c .before .before .before .before .before .before .duty-from in
+    let start = c .before .before .before .before .before .before .before .before in
+    let args = start .args in
+    let pre = start .pre in
+    seven (dutyAlone (now (args .event))) (duty-from .result) (duty-from2 .result) (duty-from3 .result) (duty-from4 .result)
+    (duty-from5 .result) (duty-from6 .result) (c .duty-from7 .result)
+    (duty-at (now (args .event)) (args .t2) 0 1 (duty-from .result) pre refl (duty-from .ensures))
+    (duty-at (now (args .event)) (args .t2) 1 2 (duty-from2 .result) pre refl (duty-from2 .ensures))
+    (duty-at (now (args .event)) (args .t2) 2 4 (duty-from3 .result) pre refl (duty-from3 .ensures))
+    (duty-at (now (args .event)) (args .t2) 3 8 (duty-from4 .result) pre refl (duty-from4 .ensures))
+    (duty-at (now (args .event)) (args .t2) 4 16 (duty-from5 .result) pre refl (duty-from5 .ensures))
+    (duty-at (now (args .event)) (args .t2) 5 32 (duty-from6 .result) pre refl (duty-from6 .ensures))
+    (duty-at (now (args .event)) (args .t2) 6 64 (c .duty-from7 .result) pre refl (c .duty-from7 .ensures))
 
 pub duties-alone-spec : {M : Type 1} → statement M
 duties-alone-spec =

@@ -28,8 +28,13 @@ choose-byte-requires-2 c κs = search needs
 
 returns : tie.Need-returns
 returns c =
-    fault-by (now (c .before .before .before .before .before .before .before .args .event)) (c .before .before .before .byte-at .result) (c .before .before .before .before .in-range .result) (c .before .before .known .result) (c .before .choose-byte .result) (c .choose-byte2 .result)
-    (c .before .before .before .before .in-range .ensures) (c .before .before .before .byte-at .ensures) (c .before .before .known .ensures) (c .before .choose-byte .ensures) (c .choose-byte2 .ensures)
+    let choose-byte = c .before .choose-byte in
+    let known = c .before .before .known in
+    let byte-at = c .before .before .before .byte-at in
+    let in-range = c .before .before .before .before .in-range in
+    let args = c .before .before .before .before .before .before .before .args in
+    fault-by (now (args .event)) (byte-at .result) (in-range .result) (known .result) (choose-byte .result) (c .choose-byte2 .result)
+    (in-range .ensures) (byte-at .ensures) (known .ensures) (choose-byte .ensures) (c .choose-byte2 .ensures)
 
 pub fault-spec : {M : Type 1} → statement M
 fault-spec =

@@ -38,10 +38,21 @@ loop-less : tie.Need-loop-less Inv-loop μ-loop
 loop-less c = omega arith
 
 loop-again : tie.Need-loop-again Inv-loop μ-loop
-loop-again c = (omega arith, below-turn (now (c .before .before .before .before .before .before .args .event)) (now (c .before .before .before .before .before .before .args .limits)) (c .before .before .before .loop .k) (c .before .before .before .loop .fine) (c .before .byte-at .result) (c .before .before .loop-test .taken) (c .before .byte-at .ensures) (c .before .before .before .loop .inv .1))
+loop-again c =
+    let byte-at = c .before .byte-at in
+    let loop-test = c .before .before .loop-test in
+    let loop = c .before .before .before .loop in
+    let args = c .before .before .before .before .before .before .args in (
+      omega arith,
+      below-turn (now (args .event)) (now (args .limits)) (loop .k) (loop .fine) (byte-at .result) (loop-test .taken) (byte-at .ensures)
+          (loop .inv .1),
+    )
 
 returns : tie.Need-returns Inv-loop μ-loop
-returns c = below-end (now (c .before .before .before .before .args .event)) (now (c .before .before .before .before .args .limits)) (c .before .loop .k) (c .before .loop .fine) (c .loop-test .left) (c .before .loop .inv .1)
+returns c =
+    let loop = c .before .loop in
+    let args = c .before .before .before .before .args in
+    below-end (now (args .event)) (now (args .limits)) (loop .k) (loop .fine) (c .loop-test .left) (loop .inv .1)
 
 pub in-range-spec : {M : Type 1} → statement M
 in-range-spec =

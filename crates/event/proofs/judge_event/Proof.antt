@@ -11,7 +11,10 @@ refusal-alone-requires : tie.Need-refusal-alone-requires
 refusal-alone-requires c κs = search needs
 
 returns : tie.Need-returns
-returns c = refused issueE (now (c .before .before .before .before .args .event)) (c .before .before .refusal-alone .result) (c .before .before .refusal-alone .ensures) (c .if1 .taken)
+returns c =
+    let refusal-alone = c .before .before .refusal-alone in
+    let args = c .before .before .before .before .args in
+    refused issueE (now (args .event)) (refusal-alone .result) (refusal-alone .ensures) (c .if1 .taken)
 
 sets-after-requires : tie.Need-sets-after-requires
 sets-after-requires c κs = search needs
@@ -20,7 +23,13 @@ duties-alone-requires : tie.Need-duties-alone-requires
 duties-alone-requires c κs = search needs
 
 returns-2 : tie.Need-returns-2
-returns-2 c = accepted issueE (now (c .before .before .before .before .before .before .args .event)) (c .before .before .before .before .refusal-alone .result) (c .before .sets-after .result) (c .duties-alone .result) (c .before .before .before .before .refusal-alone .ensures) (c .before .before .if1 .left) (c .before .sets-after .ensures) (c .duties-alone .ensures)
+returns-2 c =
+    let sets-after = c .before .sets-after in
+    let if1 = c .before .before .if1 in
+    let refusal-alone = c .before .before .before .before .refusal-alone in
+    let args = c .before .before .before .before .before .before .args in
+    accepted issueE (now (args .event)) (refusal-alone .result) (sets-after .result) (c .duties-alone .result) (refusal-alone .ensures)
+    (if1 .left) (sets-after .ensures) (c .duties-alone .ensures)
 
 pub judge-event-spec : {M : Type 1} → statement M
 judge-event-spec =

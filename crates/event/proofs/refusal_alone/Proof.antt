@@ -20,7 +20,9 @@ choose-byte-requires c κs = search needs
 
 returns : tie.Need-returns
 unfolding refusalAlone
-returns c = c .choose-byte .ensures ∙ ap (λ (n : ℕ). cond (eqb (length (now (c .before .before .before .args .event))) eventLength) n 1) (c .before .fault .ensures)
+returns c =
+    let args = c .before .before .before .args in
+    c .choose-byte .ensures ∙ ap (λ (n : ℕ). cond (eqb (length (now (args .event))) eventLength) n 1) (c .before .fault .ensures)
 
 pub refusal-alone-spec : {M : Type 1} → statement M
 refusal-alone-spec = tie.close (tie.spec fault-requires choose-byte-requires returns)

@@ -40,7 +40,13 @@ returns : tie.Need-returns Inv-loop μ-loop
 returns c = tt
 
 loop-holds : tie.Need-loop-holds Inv-loop μ-loop
-loop-holds c = (length-replicate {A = ℕ} size 0, search needs, search needs, omega (arith, begun-within _ _ (omega (arith, length-replicate {A = ℕ} size 0)) (c .before .before .before .before .before .begin .ensures) .0))
+loop-holds c =
+    let begin = c .before .before .before .before .before .begin in (
+      length-replicate {A = ℕ} size 0,
+      search needs,
+      search needs,
+      omega (arith, begun-within _ _ (omega (arith, length-replicate {A = ℕ} size 0)) (begin .ensures) .0),
+    )
 
 slice-aggregate-read-wanted : tie.Need-slice-aggregate-read-wanted Inv-loop μ-loop
 slice-aggregate-read-wanted c = search needs
@@ -82,7 +88,9 @@ loop-less : tie.Need-loop-less Inv-loop μ-loop
 loop-less c = omega arith
 
 loop-again : tie.Need-loop-again Inv-loop μ-loop
-loop-again c = (search needs, search needs, search needs, omega (arith, turned-within _ _ _ _ _ (c .before .before .before .before .before .before .before .turn .ensures) .0))
+loop-again c =
+    let turn = c .before .before .before .before .before .before .before .turn in
+    (search needs, search needs, search needs, omega (arith, turned-within _ _ _ _ _ (turn .ensures) .0))
 
 returns-5 : tie.Need-returns-5 Inv-loop μ-loop
 returns-5 c = tt

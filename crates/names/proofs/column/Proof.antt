@@ -46,7 +46,9 @@ returns c = in-column (c .before .before .before .args .number) (now (c .before 
 
 returns-2 : tie.Need-returns-2
 unfolding inColumn columns
-returns-2 c = in-column (c .before .before .before .args .number) (now (c .before .before .before .args .field)) 1 (c .before .match .keys2) (c .request .ensures)
+returns-2 c =
+    let args = c .before .before .before .args in
+    in-column (args .number) (now (args .field)) 1 (c .before .match .keys2) (c .request .ensures)
 
 returns-3 : tie.Need-returns-3
 unfolding inColumn columns
@@ -66,27 +68,42 @@ returns-6 c = in-column (c .before .before .before .args .number) (now (c .befor
 
 returns-7 : tie.Need-returns-7
 unfolding inColumn columns
-returns-7 c = in-column (c .before .before .before .args .number) (now (c .before .before .before .args .field)) 6 (c .before .match .keys7) (c .response .ensures)
+returns-7 c =
+    let args = c .before .before .before .args in
+    in-column (args .number) (now (args .field)) 6 (c .before .match .keys7) (c .response .ensures)
 
 returns-8 : tie.Need-returns-8
 unfolding inColumn columns
-returns-8 c = in-column (c .before .before .before .args .number) (now (c .before .before .before .args .field)) 7 (c .before .match .keys8) (c .tag-op .ensures)
+returns-8 c =
+    let args = c .before .before .before .args in
+    in-column (args .number) (now (args .field)) 7 (c .before .match .keys8) (c .tag-op .ensures)
 
 returns-9 : tie.Need-returns-9
 unfolding inColumn columns
-returns-9 c = in-column (c .before .before .before .args .number) (now (c .before .before .before .args .field)) 8 (c .before .match .keys9) (c .resp-err .ensures)
+returns-9 c =
+    let args = c .before .before .before .args in
+    in-column (args .number) (now (args .field)) 8 (c .before .match .keys9) (c .resp-err .ensures)
 
 returns-10 : tie.Need-returns-10
 unfolding inColumn columns
-returns-10 c = in-column (c .before .before .before .args .number) (now (c .before .before .before .args .field)) 9 (c .before .match .keys10) (c .forward .ensures)
+returns-10 c =
+    let args = c .before .before .before .args in
+    in-column (args .number) (now (args .field)) 9 (c .before .match .keys10) (c .forward .ensures)
 
 returns-11 : tie.Need-returns-11
 unfolding inColumn columns
-returns-11 c = in-column (c .before .before .before .args .number) (now (c .before .before .before .args .field)) 10 (c .before .match .keys11) (c .state-after .ensures)
+returns-11 c =
+    let args = c .before .before .before .args in
+    in-column (args .number) (now (args .field)) 10 (c .before .match .keys11) (c .state-after .ensures)
 
 returns-12 : tie.Need-returns-12
 unfolding columns
 returns-12 c = past-columns (c .before .before .args .number) (now (c .before .before .args .field)) (c .match .rest)
 
 pub column-spec : {M : Type 1} → statement M
-column-spec = tie.close (tie.spec pair-requires request-requires flag-requires flag-requires-2 flag-requires-3 tag-requires response-requires tag-op-requires resp-err-requires forward-requires state-after-requires returns returns-2 returns-3 returns-4 returns-5 returns-6 returns-7 returns-8 returns-9 returns-10 returns-11 returns-12)
+column-spec =
+    tie.close
+    (tie.spec
+    pair-requires request-requires flag-requires flag-requires-2 flag-requires-3 tag-requires response-requires
+    tag-op-requires resp-err-requires forward-requires state-after-requires returns returns-2 returns-3 returns-4
+    returns-5 returns-6 returns-7 returns-8 returns-9 returns-10 returns-11 returns-12)

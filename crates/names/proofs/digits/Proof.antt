@@ -25,7 +25,13 @@ returns : tie.Need-returns Inv-loop μ-loop
 returns c = read-other (c .before .before .before .loop .inv) (c .before .before .loop-test .taken) (c .if1 .taken)
 
 mul-v : tie.Need-mul-v Inv-loop μ-loop
-mul-v c = omega (arith, few-digits (c .before .before .before .loop .i) (length (now (c .before .before .before .before .args .field))) (c .before .before .before .loop .v) (c .before .before .loop-test .taken) (c .before .before .before .before .pre) (c .before .before .before .loop .inv .small))
+mul-v c =
+    let loop-test = c .before .before .loop-test in
+    let loop = c .before .before .before .loop in
+    let start = c .before .before .before .before in
+    let args = start .args in
+    let pre = start .pre in
+    omega (arith, few-digits (loop .i) (length (now (args .field))) (loop .v) (loop-test .taken) pre (loop .inv .small))
 
 sub-v : tie.Need-sub-v Inv-loop μ-loop
 sub-v c = omega (arith, digit-low (getD (now (c .before .before .before .before .args .field)) (c .before .before .before .loop .i) 0) (c .if1 .left))
@@ -34,7 +40,14 @@ cast-v : tie.Need-cast-v Inv-loop μ-loop
 cast-v c = omega (arith, digit-high (getD (now (c .before .before .before .before .args .field)) (c .before .before .before .loop .i) 0) (c .if1 .left))
 
 add-v : tie.Need-add-v Inv-loop μ-loop
-add-v c = omega (arith, few-digits (c .before .before .before .loop .i) (length (now (c .before .before .before .before .args .field))) (c .before .before .before .loop .v) (c .before .before .loop-test .taken) (c .before .before .before .before .pre) (c .before .before .before .loop .inv .small), digit-high (getD (now (c .before .before .before .before .args .field)) (c .before .before .before .loop .i) 0) (c .if1 .left))
+add-v c =
+    let loop-test = c .before .before .loop-test in
+    let loop = c .before .before .before .loop in
+    let start = c .before .before .before .before in
+    let args = start .args in
+    let pre = start .pre in
+    let small = few-digits (loop .i) (length (now (args .field))) (loop .v) (loop-test .taken) pre (loop .inv .small) in
+    omega (arith, small, digit-high (getD (now (args .field)) (loop .i) 0) (c .if1 .left))
 
 add-i : tie.Need-add-i Inv-loop μ-loop
 add-i c = omega arith

@@ -55,4 +55,8 @@ returns c =
     refl))))
 
 pub forward-spec : {M : Type 1} → statement M
-forward-spec = tie.close (tie.spec slice-aggregate-known known-requires slice-aggregate-known-2 known-requires-2 slice-aggregate-known-3 known-requires-3 slice-aggregate-known-4 known-requires-4 slice-aggregate-known-5 known-requires-5 returns)
+forward-spec =
+    tie.close
+    (tie.spec
+    slice-aggregate-known known-requires slice-aggregate-known-2 known-requires-2 slice-aggregate-known-3
+    known-requires-3 slice-aggregate-known-4 known-requires-4 slice-aggregate-known-5 known-requires-5 returns)

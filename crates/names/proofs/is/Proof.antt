@@ -19,7 +19,9 @@ returns : tie.Need-returns Inv-loop μ-loop
 returns c = sym (same-other-length (now (c .before .args .field)) (now (c .before .args .name)) (λ e. omega (arith, e, c .if1 .taken)))
 
 loop-holds : tie.Need-loop-holds Inv-loop μ-loop
-loop-holds c = alike-start (now (c .before .args .field)) (now (c .before .args .name)) (length (now (c .before .args .name))) (omega (arith, c .if1 .left)) refl
+loop-holds c =
+    let args = c .before .args in
+    alike-start (now (args .field)) (now (args .name)) (length (now (args .name))) (omega (arith, c .if1 .left)) refl
 
 shared-slice-read-alike : tie.Need-shared-slice-read-alike Inv-loop μ-loop
 shared-slice-read-alike c = omega (arith, c .before .before .loop .inv .first-length, c .before .loop-test .taken)

@@ -11,10 +11,14 @@ is-requires : tie.Need-is-requires
 is-requires c κs = search needs
 
 returns : tie.Need-returns
-returns c = met (same (now (c .before .before .before .before .args .field)) (now (c .before .before .before .before .args .name))) (c .before .before .before .before .args .code) (c .before .before .before .before .args .other) (c .before .is .ensures) (c .if1 .taken)
+returns c =
+    let args = c .before .before .before .before .args in
+    met (same (now (args .field)) (now (args .name))) (args .code) (args .other) (c .before .is .ensures) (c .if1 .taken)
 
 returns-2 : tie.Need-returns-2
-returns-2 c = missed (same (now (c .before .before .before .before .args .field)) (now (c .before .before .before .before .args .name))) (c .before .before .before .before .args .code) (c .before .before .before .before .args .other) (c .before .is .ensures) (c .if1 .left)
+returns-2 c =
+    let args = c .before .before .before .before .args in
+    missed (same (now (args .field)) (now (args .name))) (args .code) (args .other) (c .before .is .ensures) (c .if1 .left)
 
 pub known-spec : {M : Type 1} → statement M
 known-spec = tie.close (tie.spec is-requires returns returns-2)

@@ -18,7 +18,10 @@ digits-requires : tie.Need-digits-requires
 digits-requires c κs = few-bytes (now (c .before .before .before .before .args .field)) (c .before .before .if1 .left)
 
 returns-3 : tie.Need-returns-3
-returns-3 c = pair-digits (now (c .before .before .before .before .before .args .field)) (c .before .before .before .if1 .left) (c .before .if2 .left) (c .digits .ensures)
+returns-3 c =
+    let if1 = c .before .before .before .if1 in
+    let args = c .before .before .before .before .before .args in
+    pair-digits (now (args .field)) (if1 .left) (c .before .if2 .left) (c .digits .ensures)
 
 pub pair-spec : {M : Type 1} → statement M
 pair-spec = tie.close (tie.spec returns shared-slice-read-if2 returns-2 digits-requires returns-3)

@@ -71,4 +71,9 @@ returns c =
     refl))))))
 
 pub request-spec : {M : Type 1} → statement M
-request-spec = tie.close (tie.spec slice-aggregate-known known-requires slice-aggregate-known-2 known-requires-2 slice-aggregate-known-3 known-requires-3 slice-aggregate-known-4 known-requires-4 slice-aggregate-known-5 known-requires-5 slice-aggregate-known-6 known-requires-6 slice-aggregate-known-7 known-requires-7 returns)
+request-spec =
+    tie.close
+    (tie.spec
+    slice-aggregate-known known-requires slice-aggregate-known-2 known-requires-2 slice-aggregate-known-3
+    known-requires-3 slice-aggregate-known-4 known-requires-4 slice-aggregate-known-5 known-requires-5
+    slice-aggregate-known-6 known-requires-6 slice-aggregate-known-7 known-requires-7 returns)

@@ -191,4 +191,15 @@ returns c =
     refl)))))))))))))))))))))
 
 pub response-spec : {M : Type 1} → statement M
-response-spec = tie.close (tie.spec slice-aggregate-known known-requires slice-aggregate-known-2 known-requires-2 slice-aggregate-known-3 known-requires-3 slice-aggregate-known-4 known-requires-4 slice-aggregate-known-5 known-requires-5 slice-aggregate-known-6 known-requires-6 slice-aggregate-known-7 known-requires-7 slice-aggregate-known-8 known-requires-8 slice-aggregate-known-9 known-requires-9 slice-aggregate-known-10 known-requires-10 slice-aggregate-known-11 known-requires-11 slice-aggregate-known-12 known-requires-12 slice-aggregate-known-13 known-requires-13 slice-aggregate-known-14 known-requires-14 slice-aggregate-known-15 known-requires-15 slice-aggregate-known-16 known-requires-16 slice-aggregate-known-17 known-requires-17 slice-aggregate-known-18 known-requires-18 slice-aggregate-known-19 known-requires-19 slice-aggregate-known-20 known-requires-20 slice-aggregate-known-21 known-requires-21 slice-aggregate-known-22 known-requires-22 returns)
+response-spec =
+    tie.close
+    (tie.spec
+    slice-aggregate-known known-requires slice-aggregate-known-2 known-requires-2 slice-aggregate-known-3
+    known-requires-3 slice-aggregate-known-4 known-requires-4 slice-aggregate-known-5 known-requires-5
+    slice-aggregate-known-6 known-requires-6 slice-aggregate-known-7 known-requires-7 slice-aggregate-known-8
+    known-requires-8 slice-aggregate-known-9 known-requires-9 slice-aggregate-known-10 known-requires-10
+    slice-aggregate-known-11 known-requires-11 slice-aggregate-known-12 known-requires-12 slice-aggregate-known-13
+    known-requires-13 slice-aggregate-known-14 known-requires-14 slice-aggregate-known-15 known-requires-15
+    slice-aggregate-known-16 known-requires-16 slice-aggregate-known-17 known-requires-17 slice-aggregate-known-18
+    known-requires-18 slice-aggregate-known-19 known-requires-19 slice-aggregate-known-20 known-requires-20
+    slice-aggregate-known-21 known-requires-21 slice-aggregate-known-22 known-requires-22 returns)

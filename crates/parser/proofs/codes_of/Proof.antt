@@ -16,7 +16,11 @@ all-known-requires : tie.Need-all-known-requires
 all-known-requires c κs = search needs
 
 returns : tie.Need-returns
-returns c = codes-found (now (c .before .before .before .before .before .before .args .line)) (c .before .before .before .before .take-all .result) (c .before .all-known .result) (c .before .before .before .before .take-all .ensures) (c .before .all-known .ensures)
+returns c =
+    let all-known = c .before .all-known in
+    let take-all = c .before .before .before .before .take-all in
+    let args = c .before .before .before .before .before .before .args in
+    codes-found (now (args .line)) (take-all .result) (all-known .result) (take-all .ensures) (all-known .ensures)
 
 pub codes-of-spec : {M : Type 1} → statement M
 codes-of-spec =

@@ -66,7 +66,12 @@ array-read-t55 : tie.Need-array-read-t55
 array-read-t55 c = search needs
 
 returns : tie.Need-returns
-returns c = event-parts (c .before .before .before .before .args .t1) (c .before .before .wire .result) (c .wire2 .result) (c .before .before .before .answer .ensures) (c .before .before .wire .ensures) (c .before .from-state .ensures) (c .wire2 .ensures)
+returns c =
+    let wire = c .before .before .wire in
+    let answer = c .before .before .before .answer in
+    let args = c .before .before .before .before .args in
+    event-parts (args .t1) (wire .result) (c .wire2 .result) (answer .ensures) (wire .ensures) (c .before .from-state .ensures)
+    (c .wire2 .ensures)
 
 pub event-of-spec : {M : Type 1} → statement M
 event-of-spec =

@@ -15,7 +15,10 @@ refused-requires : tie.Need-refused-requires
 refused-requires c κs = search needs
 
 returns : tie.Need-returns
-returns c = c .refused .ensures ∙ found-ill (now (c .before .before .before .before .before .args .line)) (c .before .before .before .codes-of .result) (c .before .before .before .codes-of .ensures) (not-true _ (c .before .if1 .taken))
+returns c =
+    let codes-of = c .before .before .before .codes-of in
+    let args = c .before .before .before .before .before .args in
+    c .refused .ensures ∙ found-ill (now (args .line)) (codes-of .result) (codes-of .ensures) (not-true _ (c .before .if1 .taken))
 
 array-read-pair : tie.Need-array-read-pair
 array-read-pair c = search needs
@@ -24,7 +27,12 @@ refused-requires-2 : tie.Need-refused-requires-2
 refused-requires-2 c κs = search needs
 
 returns-2 : tie.Need-returns-2
-returns-2 c = c .refused2 .ensures ∙ found-high (now (c .before .before .before .before .before .before .args .line)) (c .before .before .before .before .codes-of .result) (c .before .before .before .before .codes-of .ensures) (not-false _ (c .before .before .if1 .left)) (c .before .if2 .taken)
+returns-2 c =
+    let if1 = c .before .before .if1 in
+    let codes-of = c .before .before .before .before .codes-of in
+    let args = c .before .before .before .before .before .before .args in
+    c .refused2 .ensures ∙ found-high (now (args .line)) (codes-of .result) (codes-of .ensures) (not-false _ (if1 .left))
+    (c .before .if2 .taken)
 
 cast-t13 : tie.Need-cast-t13
 cast-t13 c = search needs
@@ -36,7 +44,14 @@ event-of-requires : tie.Need-event-of-requires
 event-of-requires c κs = search needs
 
 returns-3 : tie.Need-returns-3
-returns-3 c = found-fine (now (c .before .before .before .before .before .before .before .args .line)) (c .before .before .before .before .before .codes-of .result) (c .before .before .before .before .before .codes-of .ensures) (c .before .as-bytes .result) (c .event-of .result) (not-false _ (c .before .before .before .if1 .left)) (c .before .before .if2 .left) (c .before .as-bytes .ensures) (c .event-of .ensures)
+returns-3 c =
+    let as-bytes = c .before .as-bytes in
+    let if2 = c .before .before .if2 in
+    let if1 = c .before .before .before .if1 in
+    let codes-of = c .before .before .before .before .before .codes-of in
+    let args = c .before .before .before .before .before .before .before .args in
+    found-fine (now (args .line)) (codes-of .result) (codes-of .ensures) (as-bytes .result) (c .event-of .result) (not-false _ (if1 .left))
+    (if2 .left) (as-bytes .ensures) (c .event-of .ensures)
 
 pub parse-line-spec : {M : Type 1} → statement M
 parse-line-spec =

@@ -1,5 +1,7 @@
--- `parser::take_all` meets its contract: a walk of its statements, by hand. The reader is made in a local, and is read and moved on as a plain machine value there; `field_at` and `gathered` are known by their contracts alone.
--- The line is Copy, so what it owns stands twice: one copy is kept, and each call of `field_at` gets another, with the token of the lifetime, which is given back.
+-- `parser::take_all` meets its contract: a walk of its statements, by hand. The reader is made in a local, and is read and moved on as a
+-- plain machine value there; `field_at` and `gathered` are known by their contracts alone.
+-- The line is Copy, so what it owns stands twice: one copy is kept, and each call of `field_at` gets another, with the token of the
+-- lifetime, which is given back.
 -- Assumes nothing.
 use mathlib.Core.Path.{_≡_, refl, sym, ap, subst}
 use Prim.Native.Nat.{ℕ, zero, suc, _<_, _*_, _-_, _^_}
@@ -18,7 +20,8 @@ use prog.Wp.{Heap, Env, Spot, spotOf, Calls, Loops, WpFn, Tables}
 use ghost.Atoms.{Atoms, sem}
 use contract.Monad.{Fun, fact}
 use contract.Running.{givenOf, tables, tablesOf}
-use types.Kit.{Given, Item, ‵, raw, _⊛_, ⋆, nth, put, some, later, _$_, _∵_, !, qed, by, move, drop, use0, use1, use2, split, join, pick, fsplit, fjoin, suffices, frame, await, done, Seq, Step, step, Goal, Post as PostOf, runs, lands}
+use types.Kit.{Given, Item, ‵, raw, _⊛_, ⋆, nth, put, some, later, _$_, _∵_, !, qed, by, move, drop, use0, use1, use2, split}
+use types.Kit.{join, pick, fsplit, fjoin, suffices, frame, await, done, Seq, Step, step, Goal, Post as PostOf, runs, lands}
 use types.Part.{agg}
 use types.Run.{look, init, stop, fld, from, load, lit, of-opd, and-then, no-more, assigns, land, returns, enter, alloc1, alloc0, params1, pass1, pass0, free0, Opds}
 use sound.WpLaws.{FmC, fmOf, WpFn-mono}
@@ -177,7 +180,8 @@ module _ {M : Type 1} (𝓤 : URA M) (H : Heap 𝓤) (A : Atoms 𝓤) (W : Given
       qed W (Token ∷ ‵ Own ∷ []) ∵ move ! (1 ∷ []) $ use1 W (‵ Own ⊛ ‵ Own) (shr-slice-copy 𝓤 H A W (named 0) κ u8 .twice s (v ∷ [])) $ split ! $
       nothing ! $ owned ! usize (Is usize) (uint-makes 𝓤 H A W w64) n _ (refl, fits) $ fjoin ! $ move ! (1 ∷ 0 ∷ []) $ fjoin ! $
       owned ! usize (Is usize) (uint-makes 𝓤 H A W w64) number _ (refl, number-fits) $ fjoin ! $ move ! (2 ∷ 0 ∷ []) $
-      use2 W (raw (FieldAt 𝓤 H A mem run .pre (to-field number n))) (qed W (Token ∷ ‵ (owns (usize ∷ ShrSlice (named 0) κ u8 ∷ usize ∷ []) (number, (s, (n, tt))) (passed number n)) ∷ []) ∵ join ! $ frame ! $ done !) $ frame ! $ done !
+      use2 W (raw (FieldAt 𝓤 H A mem run .pre (to-field number n)))
+      (qed W (Token ∷ ‵ (owns (usize ∷ ShrSlice (named 0) κ u8 ∷ usize ∷ []) (number, (s, (n, tt))) (passed number n)) ∷ []) ∵ join ! $ frame ! $ done !) $ frame ! $ done !
 
   field-said : (number n : ℕ) (f : Taken) → ent 𝓤 (ensured 𝓤 H A field-at.ended (field-at.clauses 𝓤 H A mem run) (κ, tt) (number, (s, (n, tt))) tt f) (fact 𝓤 (f ≡ takenAt number (now s) n))
   field-said number n f = exE 𝓤 _ (λ ws. snd∗ 𝓤 (sem 𝓤 H A (lasts field-at.ended (κ, tt) (number, (s, (n, tt))) ws)) (fact 𝓤 (f ≡ takenAt number (now s) n)))
@@ -193,7 +197,8 @@ module _ {M : Type 1} (𝓤 : URA M) (H : Heap 𝓤) (A : Atoms 𝓤) (W : Given
       suffices ! _ (ends-at 𝓤 H A take-all.ended stayed (take-all.clauses 𝓤 H A mem run) W (((κ, tt), (q, tt), tt, (s, tt), (v ∷ [], tt)), tt) u r (tt, tt) (tt, tt)) $ says ! e $
       move ! (1 ∷ []) $ frame ! $ nothing ! $ move ! (2 ∷ 0 ∷ []) $ fjoin ! $ frame ! $ done !
 
-  module _ (C : Calls 𝓤 H) (Λ : Loops 𝓤 H) (fm : FmC 𝓤 H (W .laws) C) (known-field : Triple 𝓤 (C #parser·field-at) (FieldAt 𝓤 H A mem run)) (known-gathered : Triple 𝓤 (C #parser·gathered) (Gathered 𝓤 H A mem run)) (wt : WT v) where
+  module _ (C : Calls 𝓤 H) (Λ : Loops 𝓤 H) (fm : FmC 𝓤 H (W .laws) C) (known-field : Triple 𝓤 (C #parser·field-at) (FieldAt 𝓤 H A mem run))
+      (known-gathered : Triple 𝓤 (C #parser·gathered) (Gathered 𝓤 H A mem run)) (wt : WT v) where
     -- a call of `field_at` as a step: the field comes out, with what is said of it
     calls-field : {K : Type 0} {Γ : List (Item 𝓤)} {E : Env 𝓤 H} {p : PostOf 𝓤 H} {xs : List Operand} {d : Place} {rest : Body} → K → (number n : ℕ) → number < 2 ^ 64 → n < 2 ^ 64
         → Opds K W (raw (FieldAt 𝓤 H A mem run .pre (to-field number n)) ∷ ‵ Own ∷ Γ) E xs (FieldAt 𝓤 H A mem run .args (to-field number n))
@@ -202,7 +207,10 @@ module _ {M : Type 1} (𝓤 : URA M) (H : Heap 𝓤) (A : Atoms 𝓤) (W : Given
     calls-field {K} {Γ} {E} {p} {xs} {d} {rest} t number n number-fits fits os k =
         use2 W (raw (FieldAt 𝓤 H A mem run .pre (to-field number n)) ⊛ ‵ Own) (goes-field number n number-fits fits) $ split t $
         calls-at t fm (FieldAt 𝓤 H A mem run) known-field (to-field number n) os (λ u.
-        use1 W (later (some (λ (f : Taken). (Token ⊛ ‵ (TakenT.the-row .own f (u ∷ []))) ⊛ raw (ensured 𝓤 H A field-at.ended (field-at.clauses 𝓤 H A mem run) (κ, tt) (number, (s, (n, tt))) tt f)))) (id⊢ 𝓤 _) $ await t tt $ pick t (λ f.
+        use1 W
+        (later (some (λ (f : Taken).
+        (Token ⊛ ‵ (TakenT.the-row .own f (u ∷ []))) ⊛ raw (ensured 𝓤 H A field-at.ended (field-at.clauses 𝓤 H A mem run) (κ, tt) (number, (s, (n, tt))) tt f))))
+        (id⊢ 𝓤 _) $ await t tt $ pick t (λ f.
         split t $ move t (1 ∷ []) $ use1 W (raw (fact 𝓤 (f ≡ takenAt number (now s) n))) (field-said number n f) $ heard t (f ≡ takenAt number (now s) n) (λ e. split t $ move t (1 ∷ []) $
         -- [what the field owns; the token; what the line owns; …]: what it owns tells its machine value, and is let go
         facts t TakenT.the-row (Is TakenT.the-row) (shows 𝓤 H A TakenT.the-row) f (u ∷ []) (λ is.
@@ -214,14 +222,22 @@ module _ {M : Type 1} (𝓤 : URA M) (H : Heap 𝓤) (A : Atoms 𝓤) (W : Given
       abbrev all-found : Args gathered.signature tt
       all-found = (f₀ .it, (f₁ .it, (f₂ .it, (f₃ .it, (f₄ .it, (f₅ .it, (f₆ .it, (f₇ .it, (f₈ .it, (f₉ .it, (f₁₀ .it, tt)))))))))))
 
+      -- the same as the machine has them
+      abbrev all-lowered : Vals gathered.signature tt
+      all-lowered =
+          let low : Found → List Val = λ f. Taken′.lowered (f .it) ∷ [] in
+          (low f₀, (low f₁, (low f₂, (low f₃, (low f₄, (low f₅, (low f₆, (low f₇, (low f₈, (low f₉, (low f₁₀, tt)))))))))))
+
       abbrev to-gathered : Gathered 𝓤 H A mem run .Ghost
-      to-gathered = ((tt, tt, tt, all-found, (Taken′.lowered (f₀ .it) ∷ [], (Taken′.lowered (f₁ .it) ∷ [], (Taken′.lowered (f₂ .it) ∷ [], (Taken′.lowered (f₃ .it) ∷ [], (Taken′.lowered (f₄ .it) ∷ [], (Taken′.lowered (f₅ .it) ∷ [], (Taken′.lowered (f₆ .it) ∷ [], (Taken′.lowered (f₇ .it) ∷ [], (Taken′.lowered (f₈ .it) ∷ [], (Taken′.lowered (f₉ .it) ∷ [], (Taken′.lowered (f₁₀ .it) ∷ [], tt)))))))))))), tt)
+      to-gathered = ((tt, tt, tt, all-found, all-lowered), tt)
 
       abbrev codes : Codes
       codes = gatheredOf (f₀ .it) (f₁ .it) (f₂ .it) (f₃ .it) (f₄ .it) (f₅ .it) (f₆ .it) (f₇ .it) (f₈ .it) (f₉ .it) (f₁₀ .it)
 
       goes-gathered : ent 𝓤 (emp 𝓤) (Gathered 𝓤 H A mem run .pre to-gathered)
-      goes-gathered = qed W [] ∵ nothing ! $ joined ! f₁₀ $ joined ! f₉ $ joined ! f₈ $ joined ! f₇ $ joined ! f₆ $ joined ! f₅ $ joined ! f₄ $ joined ! f₃ $ joined ! f₂ $ joined ! f₁ $ joined ! f₀ $ nothing ! $ join ! $ frame ! $ done !
+      goes-gathered =
+          qed W [] ∵ nothing ! $ joined ! f₁₀ $ joined ! f₉ $ joined ! f₈ $ joined ! f₇ $ joined ! f₆ $ joined ! f₅ $
+          joined ! f₄ $ joined ! f₃ $ joined ! f₂ $ joined ! f₁ $ joined ! f₀ $ nothing ! $ join ! $ frame ! $ done !
 
       gathered-said : (r : Codes) → ent 𝓤 (ensured 𝓤 H A gathered.ended (gathered.clauses 𝓤 H A mem run) tt all-found tt r) (fact 𝓤 (r ≡ codes))
       gathered-said r = exE 𝓤 _ (λ ws. snd∗ 𝓤 (sem 𝓤 H A (lasts gathered.ended tt all-found ws)) (fact 𝓤 (r ≡ codes)))
@@ -233,7 +249,10 @@ module _ {M : Type 1} (𝓤 : URA M) (H : Heap 𝓤) (A : Atoms 𝓤) (W : Given
       calls-gathered t os k =
           use0 W (raw (Gathered 𝓤 H A mem run .pre to-gathered)) goes-gathered $
           calls-at t fm (Gathered 𝓤 H A mem run) known-gathered to-gathered os (λ u.
-          use1 W (later (some (λ (r : Codes). (‵ ftrue ⊛ ‵ (CodesT.the-row .own r (u ∷ []))) ⊛ raw (ensured 𝓤 H A gathered.ended (gathered.clauses 𝓤 H A mem run) tt all-found tt r)))) (id⊢ 𝓤 _) $ await t tt $ pick t (λ r.
+          use1 W
+          (later (some (λ (r : Codes).
+          (‵ ftrue ⊛ ‵ (CodesT.the-row .own r (u ∷ []))) ⊛ raw (ensured 𝓤 H A gathered.ended (gathered.clauses 𝓤 H A mem run) tt all-found tt r))))
+          (id⊢ 𝓤 _) $ await t tt $ pick t (λ r.
           split t $ move t (1 ∷ []) $ use1 W (raw (fact 𝓤 (r ≡ codes))) (gathered-said r) $ heard t (r ≡ codes) (λ e. split t $ drop t $
           peeks t CodesT.the-row (Is CodesT.the-row) (shows 𝓤 H A CodesT.the-row) r (u ∷ []) (λ is. k r u e (LL.lawful CodesT.the-type Codes′.the-laws 𝓤 H A W .typed r _ is .0)))))
 
@@ -244,29 +263,39 @@ module _ {M : Type 1} (𝓤 : URA M) (H : Heap 𝓤) (A : Atoms 𝓤) (W : Given
         → Seq K W (Token ∷ ‵ Own ∷ Δ) (runs C Λ E (seq (assign (place i []) (rvOpd (copy (place 2 (field 0 ∷ []))))) (seq (assign (place j []) (rvOpd (copy (place 2 (field 1 ∷ [])))))
         (seq (call #parser·field-at (int w64 number ∷ copy (place i []) ∷ copy (place j []) ∷ []) (place m [])) rest))) p)
     takes {i = i} {j = j} {m = m} t number n ready ty number-fits fits k =
-        assigns t (of-opd t (load t (within t (λ z. ready z .0) (fld t refl (stop t))) (look-field t (slot 2) 0 (λ z. ready z .4) refl))) (within t (λ z. ready z .1) (stop t)) (init t (slot i) (λ z. ready z .5) (ty, wt)) $
-        assigns t (of-opd t (load t (within t (λ z. ready z .0) (fld t refl (stop t))) (look-field t (slot 2) 1 (λ z. ready z .6) refl))) (within t (λ z. ready z .2) (stop t)) (init t (slot j) (λ z. ready z .7) (tt, record { fits = fits })) $
+        assigns t (of-opd t (load t (within t (λ z. ready z .0) (fld t refl (stop t))) (look-field t (slot 2) 0 (λ z. ready z .4) refl)))
+        (within t (λ z. ready z .1) (stop t)) (init t (slot i) (λ z. ready z .5) (ty, wt)) $
+        assigns t (of-opd t (load t (within t (λ z. ready z .0) (fld t refl (stop t))) (look-field t (slot 2) 1 (λ z. ready z .6) refl)))
+        (within t (λ z. ready z .2) (stop t)) (init t (slot j) (λ z. ready z .7) (tt, record { fits = fits })) $
         calls-field t number n number-fits fits
-        (and-then t (lit t (lt→ltb number (2 ^ 64) number-fits)) (and-then t (held t (slot i) (λ z. ready z .1) (λ z. ready z .8)) (and-then t (held t (slot j) (λ z. ready z .2) (λ z. ready z .9)) (no-more t))))
+        (and-then t (lit t (lt→ltb number (2 ^ 64) number-fits))
+        (and-then t (held t (slot i) (λ z. ready z .1) (λ z. ready z .8)) (and-then t (held t (slot j) (λ z. ready z .2) (λ z. ready z .9)) (no-more t))))
         (λ f e. land t (within t (λ z. ready z .3) (stop t)) (init t (slot m) (λ z. ready z .10) (typed f)) $ k f e)
 
     -- the reader is moved on, to the place behind a field
-    moves : {K : Type 0} {Δ : List (Item 𝓤)} {E : Env 𝓤 H} {p : PostOf 𝓤 H} {m n b bₘ : ℕ} {rest : Body} → K → (f : Found) → spotOf 𝓤 H E 2 ≡ (readerTy, b, zero) → spotOf 𝓤 H E m ≡ (Taken′.mir, bₘ, zero)
+    moves : {K : Type 0} {Δ : List (Item 𝓤)} {E : Env 𝓤 H} {p : PostOf 𝓤 H} {m n b bₘ : ℕ} {rest : Body} → K → (f : Found)
+        → spotOf 𝓤 H E 2 ≡ (readerTy, b, zero) → spotOf 𝓤 H E m ≡ (Taken′.mir, bₘ, zero)
         → nth 𝓤 H A (cell m) Δ ≡ taken bₘ f → nth 𝓤 H A (cell 2) Δ ≡ reader b n
-        → Step K W (Token ∷ ‵ Own ∷ put 𝓤 H A (cell 2) (reader b (f .it .next)) Δ) (runs C Λ E rest p) (Token ∷ ‵ Own ∷ Δ) (runs C Λ E (seq (assign (place 2 (field 1 ∷ [])) (rvOpd (copy (place m (field 1 ∷ []))))) rest) p)
+        → Step K W (Token ∷ ‵ Own ∷ put 𝓤 H A (cell 2) (reader b (f .it .next)) Δ) (runs C Λ E rest p)
+        (Token ∷ ‵ Own ∷ Δ) (runs C Λ E (seq (assign (place 2 (field 1 ∷ [])) (rvOpd (copy (place m (field 1 ∷ []))))) rest) p)
     moves {m = m} t f at-2 at-m has-m has-2 =
-        assigns t (of-opd t (load t (within t at-m (fld t refl (stop t))) (look-field t (slot m) 1 has-m refl))) (within t at-2 (fld t refl (stop t))) (store-field t (slot 2) 1 has-2 refl (tt, record { fits = next-fits f }))
+        assigns t (of-opd t (load t (within t at-m (fld t refl (stop t))) (look-field t (slot m) 1 has-m refl)))
+        (within t at-2 (fld t refl (stop t))) (store-field t (slot 2) 1 has-2 refl (tt, record { fits = next-fits f }))
 
     -- _0 is the result, _1 the line, _2 the reader; then a local for each field, and two for each call of `field_at`: the line and the place
     walk : ent 𝓤 (onEntry 𝓤 H A take-all.signature (κ, tt) (q, tt) (s, tt) (v ∷ [], tt)) (WpFn 𝓤 H C Λ code.function (v ∷ []) Post)
     walk =
         qed W (raw (onEntry 𝓤 H A take-all.signature (κ, tt) (q, tt) (s, tt) (v ∷ [], tt)) ∷ []) ∵ enter ! C Λ code.function (v ∷ []) _ $
-        alloc1 ! (λ l₀. alloc1 ! (λ l₁. alloc1 ! (λ l₂. alloc1 ! (λ l₃. alloc1 ! (λ l₄. alloc1 ! (λ l₅. alloc1 ! (λ l₆. alloc1 ! (λ l₇. alloc1 ! (λ l₈. alloc1 ! (λ l₉. alloc1 ! (λ l₁₀. alloc1 ! (λ l₁₁.
-        alloc1 ! (λ l₁₂. alloc1 ! (λ l₁₃. alloc1 ! (λ l₁₄. alloc1 ! (λ l₁₅. alloc1 ! (λ l₁₆. alloc1 ! (λ l₁₇. alloc1 ! (λ l₁₈. alloc1 ! (λ l₁₉. alloc1 ! (λ l₂₀. alloc1 ! (λ l₂₁. alloc1 ! (λ l₂₂. alloc1 ! (λ l₂₃.
-        alloc1 ! (λ l₂₄. alloc1 ! (λ l₂₅. alloc1 ! (λ l₂₆. alloc1 ! (λ l₂₇. alloc1 ! (λ l₂₈. alloc1 ! (λ l₂₉. alloc1 ! (λ l₃₀. alloc1 ! (λ l₃₁. alloc1 ! (λ l₃₂. alloc1 ! (λ l₃₃. alloc1 ! (λ l₃₄. alloc1 ! (λ l₃₅.
+        alloc1 ! (λ l₀. alloc1 ! (λ l₁. alloc1 ! (λ l₂. alloc1 ! (λ l₃. alloc1 ! (λ l₄. alloc1 ! (λ l₅.
+        alloc1 ! (λ l₆. alloc1 ! (λ l₇. alloc1 ! (λ l₈. alloc1 ! (λ l₉. alloc1 ! (λ l₁₀. alloc1 ! (λ l₁₁.
+        alloc1 ! (λ l₁₂. alloc1 ! (λ l₁₃. alloc1 ! (λ l₁₄. alloc1 ! (λ l₁₅. alloc1 ! (λ l₁₆. alloc1 ! (λ l₁₇.
+        alloc1 ! (λ l₁₈. alloc1 ! (λ l₁₉. alloc1 ! (λ l₂₀. alloc1 ! (λ l₂₁. alloc1 ! (λ l₂₂. alloc1 ! (λ l₂₃.
+        alloc1 ! (λ l₂₄. alloc1 ! (λ l₂₅. alloc1 ! (λ l₂₆. alloc1 ! (λ l₂₇. alloc1 ! (λ l₂₈. alloc1 ! (λ l₂₉.
+        alloc1 ! (λ l₃₀. alloc1 ! (λ l₃₁. alloc1 ! (λ l₃₂. alloc1 ! (λ l₃₃. alloc1 ! (λ l₃₄. alloc1 ! (λ l₃₅.
         alloc0 ! $ params1 ! $ pass1 ! (init ! (cell 1) refl (tt, wt)) $ pass0 ! $
         move ! (slot 0 ∷ []) $ use1 W (Token ⊛ ‵ Own) goes-in $ split ! $
-        assigns ! (agg ! (and-then ! (load ! (from ! (stop !)) (look ! (slot 1) refl)) (and-then ! (lit ! tt) (no-more !)))) (from ! (stop !)) (init ! (slot 2) refl (tt, (wt, (record { fits = lit< tt }, tt)))) $
+        assigns ! (agg ! (and-then ! (load ! (from ! (stop !)) (look ! (slot 1) refl)) (and-then ! (lit ! tt) (no-more !))))
+        (from ! (stop !)) (init ! (slot 2) refl (tt, (wt, (record { fits = lit< tt }, tt)))) $
         takes ! 0 0 refl tt (lit< tt) (lit< tt) (λ f₀ e₀. moves ! f₀ refl refl refl refl $
         takes ! 1 (f₀ .it .next) refl tt (lit< tt) (next-fits f₀) (λ f₁ e₁. moves ! f₁ refl refl refl refl $
         takes ! 2 (f₁ .it .next) refl tt (lit< tt) (next-fits f₁) (λ f₂ e₂. moves ! f₂ refl refl refl refl $
@@ -280,8 +309,10 @@ module _ {M : Type 1} (𝓤 : URA M) (H : Heap 𝓤) (A : Atoms 𝓤) (W : Given
         takes ! 10 (f₉ .it .next) refl tt (lit< tt) (next-fits f₉) (λ f₁₀ e₁₀.
         -- [the token; what the line owns; the locals]: each field is in its local
         calls-gathered f₀ f₁ f₂ f₃ f₄ f₅ f₆ f₇ f₈ f₉ f₁₀ !
-        (and-then ! (held ! (past 3) refl refl) (and-then ! (held ! (past 4) refl refl) (and-then ! (held ! (past 5) refl refl) (and-then ! (held ! (past 6) refl refl) (and-then ! (held ! (past 7) refl refl)
-        (and-then ! (held ! (past 8) refl refl) (and-then ! (held ! (past 9) refl refl) (and-then ! (held ! (past 10) refl refl) (and-then ! (held ! (past 11) refl refl) (and-then ! (held ! (past 12) refl refl)
+        (and-then ! (held ! (past 3) refl refl) (and-then ! (held ! (past 4) refl refl) (and-then ! (held ! (past 5) refl refl)
+        (and-then ! (held ! (past 6) refl refl) (and-then ! (held ! (past 7) refl refl)
+        (and-then ! (held ! (past 8) refl refl) (and-then ! (held ! (past 9) refl refl) (and-then ! (held ! (past 10) refl refl)
+        (and-then ! (held ! (past 11) refl refl) (and-then ! (held ! (past 12) refl refl)
         (and-then ! (held ! (past 13) refl refl) (no-more !)))))))))))) (λ r u e ty. land ! (from ! (stop !)) (init ! (past 0) refl ty) $
         -- [what the result owns; the token; what the line owns; the locals]
         returns ! (look ! (past 0) refl) $
@@ -290,19 +321,27 @@ module _ {M : Type 1} (𝓤 : URA M) (H : Heap 𝓤) (A : Atoms 𝓤) (W : Given
         leaves ! (past 12) refl refl $ leaves ! (past 13) refl refl $ leaves ! (past 14) refl refl $ leaves ! (past 15) refl refl $ leaves ! (past 16) refl refl $ leaves ! (past 17) refl refl $
         leaves ! (past 18) refl refl $ leaves ! (past 19) refl refl $ leaves ! (past 20) refl refl $ leaves ! (past 21) refl refl $ leaves ! (past 22) refl refl $ leaves ! (past 23) refl refl $
         leaves ! (past 24) refl refl $ leaves ! (past 25) refl refl $ leaves ! (past 26) refl refl $ leaves ! (past 27) refl refl $ leaves ! (past 28) refl refl $ leaves ! (past 29) refl refl $
-        leaves ! (past 30) refl refl $ leaves ! (past 31) refl refl $ leaves ! (past 32) refl refl $ leaves ! (past 33) refl refl $ leaves ! (past 34) refl refl $ leaves ! (past 35) refl refl $ free0 ! $
+        leaves ! (past 30) refl refl $ leaves ! (past 31) refl refl $ leaves ! (past 32) refl refl $ leaves ! (past 33) refl refl $ leaves ! (past 34) refl refl $ leaves ! (past 35) refl refl $
+        free0 ! $
         by ! (exits r u (all-taken (now s) e₀ e₁ e₂ e₃ e₄ e₅ e₆ e₇ e₈ e₉ e₁₀ e))))))))))))))))))))))))))))))))))))))))))))))))))
 
 module _ {M : Type 1} (𝓤 : URA M) (H : Heap 𝓤) (A : Atoms 𝓤) (W : Given 𝓤 H A) (mem : Memory → SProp 𝓤) (run : Routine → Fun 𝓤) where
   take-all-walks : (C : Calls 𝓤 H) (Λ : Loops 𝓤 H) → FmC 𝓤 H (W .laws) C → Triple 𝓤 (C #parser·field-at) (FieldAt 𝓤 H A mem run) → Triple 𝓤 (C #parser·gathered) (Gathered 𝓤 H A mem run)
       → Walks 𝓤 H A take-all.ended stayed (WpFn 𝓤 H C Λ code.function) (take-all.clauses 𝓤 H A mem run)
-  take-all-walks C Λ fm known-field known-gathered = walked 𝓤 H A take-all.ended stayed (take-all.clauses 𝓤 H A mem run) (WpFn 𝓤 H C Λ code.function) (λ κs. (slice-vals, tt)) (λ κs. (shr-slice-tells (named 0) (κs .0) u8, tt))
-      (λ κs qs bounds a g are. via 𝓤 _ (fst∗ 𝓤 _ (emp 𝓤)) (walk 𝓤 H A W mem run (κs .0) (qs .0) (a .0) C Λ fm known-field known-gathered (shr-slice-lawful 𝓤 H A W (named 0) (κs .0) u8 .typed (a .0) _ (are .0) .0 .1)))
+  take-all-walks C Λ fm known-field known-gathered =
+      walked 𝓤 H A take-all.ended stayed (take-all.clauses 𝓤 H A mem run) (WpFn 𝓤 H C Λ code.function)
+      (λ κs. (slice-vals, tt)) (λ κs. (shr-slice-tells (named 0) (κs .0) u8, tt))
+      (λ κs qs bounds a g are.
+      via 𝓤 _ (fst∗ 𝓤 _ (emp 𝓤))
+      (walk 𝓤 H A W mem run (κs .0) (qs .0) (a .0) C Λ fm known-field known-gathered
+      (shr-slice-lawful 𝓤 H A W (named 0) (κs .0) u8 .typed (a .0) _ (are .0) .0 .1)))
 
 take-all-meets : {M : Type 1} (𝓤 : URA M) (H : Heap 𝓤) (A : Atoms 𝓤) (W : Given 𝓤 H A) (mem : Memory → SProp 𝓤) (run : Routine → Fun 𝓤) (𝓣 : Tables 𝓤 H)
     → Triple 𝓤 (𝓣 .C #parser·field-at) (FieldAt 𝓤 H A mem run) → Triple 𝓤 (𝓣 .C #parser·gathered) (Gathered 𝓤 H A mem run)
     → Meets 𝓤 H A take-all.signature (WpFn 𝓤 H (𝓣 .C) (𝓣 .Λ) code.function) (take-all.spec 𝓤 H A mem run)
-take-all-meets 𝓤 H A W mem run 𝓣 known-field known-gathered = walk-meets 𝓤 H A take-all.ended stayed W (goes-none-slice 𝓤 H A W 1 (0 ∷ []) tt (plain (λ _. u8)) yes, tt) (take-all.clauses 𝓤 H A mem run) (WpFn 𝓤 H (𝓣 .C) (𝓣 .Λ) code.function) (WpFn-mono 𝓤 H (W .laws) 𝓣 code.function)
+take-all-meets 𝓤 H A W mem run 𝓣 known-field known-gathered =
+    walk-meets 𝓤 H A take-all.ended stayed W (goes-none-slice 𝓤 H A W 1 (0 ∷ []) tt (plain (λ _. u8)) yes, tt)
+    (take-all.clauses 𝓤 H A mem run) (WpFn 𝓤 H (𝓣 .C) (𝓣 .Λ) code.function) (WpFn-mono 𝓤 H (W .laws) 𝓣 code.function)
     (take-all-walks 𝓤 H A W mem run (𝓣 .C) (𝓣 .Λ) (fmOf 𝓤 H (W .laws) 𝓣) known-field known-gathered)
 
 pub take-all-spec : {M : Type 1} → stated.statement M

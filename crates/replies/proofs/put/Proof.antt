@@ -27,7 +27,10 @@ same-length : tie.Need-same-length
 same-length c = search needs
 
 returns-3 : tie.Need-returns-3
-returns-3 c = put-fits _ _ _ _ (now (c .before .before .before .before .before .before .before .before .args .text)) refl (omega arith) (c .before .before .copy .ensures)
+returns-3 c =
+    let copy = c .before .before .copy in
+    let args = c .before .before .before .before .before .before .before .before .args in
+    put-fits _ _ _ _ (now (args .text)) refl (omega arith) (copy .ensures)
 
 pub put-spec : {M : Type 1} → statement M
 put-spec =

@@ -30,10 +30,23 @@ put-requires : tie.Need-put-requires
 put-requires c κs = tt
 
 returns : tie.Need-returns
-returns c = answered _ (c .before .before .before .before .before .before .before .before .before .before .before .before .before .before .before .before .before .before .before .before .before .before .args .event .0) (c .before .before .before .before .before .before .before .before .before .before .before .before .before .before .before .before .before .before .before .before .before .before .args .found) (c .before .before .before .before .before .before .before .before .before .before .before .before .before .before .before .before .before .before .before .put-number .ensures) (c .before .before .before .before .before .before .before .before .before .before .before .before .before .before .before .put-verdict .ensures) (c .before .before .before .before .before .before .before .before .before .before .before .put-duty .ensures) (c .before .before .before .before .before .before .before .put-states .ensures) (c .before .before .put .ensures)
+returns c =
+    let put = c .before .before .put in
+    let at-put-states = c .before .before .before .before .before .before .before in
+    let put-states = at-put-states .put-states in
+    let put-duty = at-put-states .before .before .before .before .put-duty in
+    let at-put-verdict = at-put-states .before .before .before .before .before .before .before .before in
+    let put-verdict = at-put-verdict .put-verdict in
+    let put-number = at-put-verdict .before .before .before .before .put-number in
+    let args = at-put-verdict .before .before .before .before .before .before .before .args in
+    answered _ (args .event .0) (args .found) (put-number .ensures) (put-verdict .ensures) (put-duty .ensures) (put-states .ensures)
+    (put .ensures)
 
 same-length : tie.Need-same-length
-same-length c = same-long (laid (c .before .before .before .before .before .before .before .before .before .before .before .before .before .before .before .before .before .before .before .before .before .before .args .at) (now (c .before .before .before .before .before .before .before .before .before .before .before .before .before .before .before .before .before .before .before .before .before .before .args .out))) (answerTexts (c .before .before .before .before .before .before .before .before .before .before .before .before .before .before .before .before .before .before .before .before .before .before .args .event .0) (c .before .before .before .before .before .before .before .before .before .before .before .before .before .before .before .before .before .before .before .before .before .before .args .found)) (returns c)
+same-length c =
+    let halfway = c .before .before .before .before .before .before .before .before .before .before .before in
+    let args = halfway .before .before .before .before .before .before .before .before .before .before .before .args in
+    same-long (laid (args .at) (now (args .out))) (answerTexts (args .event .0) (args .found)) (returns c)
 
 pub put-answer-spec : {M : Type 1} → statement M
 put-answer-spec =

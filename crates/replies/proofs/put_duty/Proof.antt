@@ -69,7 +69,14 @@ same-length-5 : tie.Need-same-length-5
 same-length-5 c = search needs
 
 returns-5 : tie.Need-returns-5
-returns-5 c = duty-unknown _ (c .before .before .before .before .before .before .before .before .before .before .before .if1 .left) (c .before .before .before .before .before .before .before .before .before .if2 .left) (c .before .before .before .before .before .before .before .if3 .left) (c .before .before .before .before .before .if4 .left) (c .before .before .put5 .ensures)
+returns-5 c =
+    let put5 = c .before .before .put5 in
+    let if4 = c .before .before .before .before .before .if4 in
+    let if3 = c .before .before .before .before .before .before .before .if3 in
+    let at-if2 = c .before .before .before .before .before .before .before .before .before in
+    let if2 = at-if2 .if2 in
+    let if1 = at-if2 .before .before .if1 in
+    duty-unknown _ (if1 .left) (if2 .left) (if3 .left) (if4 .left) (put5 .ensures)
 
 pub put-duty-spec : {M : Type 1} → statement M
 put-duty-spec =

@@ -29,7 +29,11 @@ same-length : tie.Need-same-length
 same-length c = search needs
 
 returns-3 : tie.Need-returns-3
-returns-3 c = put-fits _ _ _ _ (decimalText (c .before .before .before .before .before .before .before .before .args .n)) (c .before .before .before .before .before .before .places .ensures) (omega arith) (c .before .before .spell .ensures)
+returns-3 c =
+    let spell = c .before .before .spell in
+    let places = c .before .before .before .before .before .before .places in
+    let args = c .before .before .before .before .before .before .before .before .args in
+    put-fits _ _ _ _ (decimalText (args .n)) (places .ensures) (omega arith) (spell .ensures)
 
 pub put-number-spec : {M : Type 1} → statement M
 put-number-spec =

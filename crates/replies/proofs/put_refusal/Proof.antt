@@ -36,10 +36,22 @@ put-requires-3 : tie.Need-put-requires-3
 put-requires-3 c κs = tt
 
 returns : tie.Need-returns
-returns c = refused _ (c .before .before .before .before .before .before .before .before .before .before .before .before .before .before .before .before .before .before .before .before .before .before .before .before .args .refusal .0) (c .before .before .before .before .before .before .before .before .before .before .before .before .before .before .before .before .before .before .before .before .before .before .before .before .args .line) (c .before .before .before .before .before .before .before .before .before .before .before .before .before .before .before .before .before .before .before .before .put .ensures) (c .before .before .before .before .before .before .before .before .before .before .before .before .before .before .before .before .put-number .ensures) (c .before .before .before .before .before .before .before .before .before .before .before .put2 .ensures) (c .before .before .before .before .before .before .before .put-number2 .ensures) (c .before .before .put3 .ensures)
+returns c =
+    let put3 = c .before .before .put3 in
+    let at-put-number2 = c .before .before .before .before .before .before .before in
+    let put-number2 = at-put-number2 .put-number2 in
+    let put2 = at-put-number2 .before .before .before .before .put2 in
+    let at-put-number = at-put-number2 .before .before .before .before .before .before .before .before .before in
+    let put-number = at-put-number .put-number in
+    let put = at-put-number .before .before .before .before .put in
+    let args = at-put-number .before .before .before .before .before .before .before .before .args in
+    refused _ (args .refusal .0) (args .line) (put .ensures) (put-number .ensures) (put2 .ensures) (put-number2 .ensures) (put3 .ensures)
 
 same-length : tie.Need-same-length
-same-length c = same-long (laid (c .before .before .before .before .before .before .before .before .before .before .before .before .before .before .before .before .before .before .before .before .before .before .before .before .args .at) (now (c .before .before .before .before .before .before .before .before .before .before .before .before .before .before .before .before .before .before .before .before .before .before .before .before .args .out))) (refusalTexts (c .before .before .before .before .before .before .before .before .before .before .before .before .before .before .before .before .before .before .before .before .before .before .before .before .args .refusal .0) (c .before .before .before .before .before .before .before .before .before .before .before .before .before .before .before .before .before .before .before .before .before .before .before .before .args .line)) (returns c)
+same-length c =
+    let halfway = c .before .before .before .before .before .before .before .before .before .before .before .before in
+    let args = halfway .before .before .before .before .before .before .before .before .before .before .before .before .args in
+    same-long (laid (args .at) (now (args .out))) (refusalTexts (args .refusal .0) (args .line)) (returns c)
 
 pub put-refusal-spec : {M : Type 1} → statement M
 put-refusal-spec =

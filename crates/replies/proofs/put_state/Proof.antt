@@ -11,7 +11,9 @@ shr-if1 : tie.Need-shr-if1
 shr-if1 c = search needs
 
 returns : tie.Need-returns
-returns c = not-in (c .before .before .before .args .states) (c .before .before .before .args .state) (drop 1 (now (c .before .before .before .args .spaced))) (c .if1 .taken)
+returns c =
+    let args = c .before .before .before .args in
+    not-in (args .states) (args .state) (drop 1 (now (args .spaced))) (c .if1 .taken)
 
 shl-if2 : tie.Need-shl-if2
 shl-if2 c = search needs
@@ -35,7 +37,15 @@ same-length : tie.Need-same-length
 same-length c = search needs
 
 returns-2 : tie.Need-returns-2
-returns-2 c = first-in _ (c .before .before .before .before .before .before .before .before .before .args .states) (c .before .before .before .before .before .before .before .before .before .args .state) (now (c .before .before .before .before .before .before .before .before .before .args .spaced)) (c .before .before .before .before .before .before .if1 .left) (none-before (c .before .before .before .before .before .before .before .before .before .args .states) (c .before .before .before .before .before .before .before .before .before .args .state) (c .before .before .before .before .before .before .before .before .before .pre .0) (c .before .before .before .before .before .if2 .taken)) (c .before .before .put .ensures)
+returns-2 c =
+    let put = c .before .before .put in
+    let if2 = c .before .before .before .before .before .if2 in
+    let if1 = c .before .before .before .before .before .before .if1 in
+    let start = c .before .before .before .before .before .before .before .before .before in
+    let args = start .args in
+    let pre = start .pre in
+    first-in _ (args .states) (args .state) (now (args .spaced)) (if1 .left)
+    (none-before (args .states) (args .state) (pre .0) (if2 .taken)) (put .ensures)
 
 put-requires-2 : tie.Need-put-requires-2
 put-requires-2 c κs = search needs
@@ -44,7 +54,15 @@ same-length-2 : tie.Need-same-length-2
 same-length-2 c = search needs
 
 returns-3 : tie.Need-returns-3
-returns-3 c = later-in _ (c .before .before .before .before .before .before .before .before .args .states) (c .before .before .before .before .before .before .before .before .args .state) (now (c .before .before .before .before .before .before .before .before .args .spaced)) (c .before .before .before .before .before .if1 .left) (some-before (c .before .before .before .before .before .before .before .before .args .states) (c .before .before .before .before .before .before .before .before .args .state) (c .before .before .before .before .before .before .before .before .pre .0) (c .before .before .before .before .if2 .left)) (c .before .before .before .before .before .before .before .before .pre .1) (c .before .before .put2 .ensures)
+returns-3 c =
+    let put2 = c .before .before .put2 in
+    let if2 = c .before .before .before .before .if2 in
+    let if1 = c .before .before .before .before .before .if1 in
+    let start = c .before .before .before .before .before .before .before .before in
+    let args = start .args in
+    let pre = start .pre in
+    later-in _ (args .states) (args .state) (now (args .spaced)) (if1 .left) (some-before (args .states) (args .state) (pre .0) (if2 .left))
+    (pre .1) (put2 .ensures)
 
 pub put-state-spec : {M : Type 1} → statement M
 put-state-spec =

@@ -53,10 +53,26 @@ put-state-requires-7 : tie.Need-put-state-requires-7
 put-state-requires-7 c κs = (omega arith, refl)
 
 returns : tie.Need-returns
-returns c = seven _ (c .before .before .before .before .before .before .before .before .before .before .before .before .before .before .before .before .before .before .before .before .before .before .before .before .before .before .before .before .before .before .before .before .before .before .before .before .args .states) (c .before .before .before .before .before .before .before .before .before .before .before .before .before .before .before .before .before .before .before .before .before .before .before .before .before .before .before .before .before .before .before .before .put-state .ensures) (c .before .before .before .before .before .before .before .before .before .before .before .before .before .before .before .before .before .before .before .before .before .before .before .before .before .before .before .put-state2 .ensures) (c .before .before .before .before .before .before .before .before .before .before .before .before .before .before .before .before .before .before .before .before .before .before .put-state3 .ensures) (c .before .before .before .before .before .before .before .before .before .before .before .before .before .before .before .before .before .put-state4 .ensures) (c .before .before .before .before .before .before .before .before .before .before .before .before .put-state5 .ensures) (c .before .before .before .before .before .before .before .put-state6 .ensures) (c .before .before .put-state7 .ensures)
+returns c =
+    let put-state7 = c .before .before .put-state7 in
+    let at-put-state6 = c .before .before .before .before .before .before .before in
+    let put-state6 = at-put-state6 .put-state6 in
+    let put-state5 = at-put-state6 .before .before .before .before .before .put-state5 in
+    let at-put-state4 = at-put-state6 .before .before .before .before .before .before .before .before .before .before in
+    let put-state4 = at-put-state4 .put-state4 in
+    let put-state3 = at-put-state4 .before .before .before .before .before .put-state3 in
+    let at-put-state2 = at-put-state4 .before .before .before .before .before .before .before .before .before .before in
+    let put-state2 = at-put-state2 .put-state2 in
+    let put-state = at-put-state2 .before .before .before .before .before .put-state in
+    let args = at-put-state2 .before .before .before .before .before .before .before .before .before .args in
+    seven _ (args .states) (put-state .ensures) (put-state2 .ensures) (put-state3 .ensures) (put-state4 .ensures) (put-state5 .ensures)
+    (put-state6 .ensures) (put-state7 .ensures)
 
 same-length : tie.Need-same-length
-same-length c = same-long (laid (c .before .before .before .before .before .before .before .before .before .before .before .before .before .before .before .before .before .before .before .before .before .before .before .before .before .before .before .before .before .before .before .before .before .before .before .before .args .at) (now (c .before .before .before .before .before .before .before .before .before .before .before .before .before .before .before .before .before .before .before .before .before .before .before .before .before .before .before .before .before .before .before .before .before .before .before .before .args .out))) (statesTexts (c .before .before .before .before .before .before .before .before .before .before .before .before .before .before .before .before .before .before .before .before .before .before .before .before .before .before .before .before .before .before .before .before .before .before .before .before .args .states)) (returns c)
+same-length c =
+    let halfway = c .before .before .before .before .before .before .before .before .before .before .before .before .before .before .before .before .before .before in
+    let args = halfway .before .before .before .before .before .before .before .before .before .before .before .before .before .before .before .before .before .before .args in
+    same-long (laid (args .at) (now (args .out))) (statesTexts (args .states)) (returns c)
 
 pub put-states-spec : {M : Type 1} → statement M
 put-states-spec =

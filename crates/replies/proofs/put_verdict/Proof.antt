@@ -56,7 +56,12 @@ same-length-4 : tie.Need-same-length-4
 same-length-4 c = search needs
 
 returns-4 : tie.Need-returns-4
-returns-4 c = verdict-unknown _ (c .before .before .before .before .before .before .before .before .before .if1 .left) (c .before .before .before .before .before .before .before .if2 .left) (c .before .before .before .before .before .if3 .left) (c .before .before .put4 .ensures)
+returns-4 c =
+    let put4 = c .before .before .put4 in
+    let if3 = c .before .before .before .before .before .if3 in
+    let if2 = c .before .before .before .before .before .before .before .if2 in
+    let if1 = c .before .before .before .before .before .before .before .before .before .if1 in
+    verdict-unknown _ (if1 .left) (if2 .left) (if3 .left) (put4 .ensures)
 
 pub put-verdict-spec : {M : Type 1} → statement M
 put-verdict-spec =

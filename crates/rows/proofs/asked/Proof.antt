@@ -32,8 +32,13 @@ element-copy-out-result c = search needs
 
 returns : tie.Need-returns
 returns c =
-    asked-by (now (c .before .before .before .before .before .before .before .before .args .e)) (c .before .before .before .before .before .before .before .before .args .table) (c .before .before .before .before .before .before .before .before .args .ret) (c .before .before .before .before .before .before .before .before .args .marked) (c .before .before .before .before .before .excl .result) (c .before .before .before .before .before .before .asks .result) (c .before .before .before .fits2 .result) (c .before .fits3 .result)
-    (c .before .before .before .before .before .before .asks .ensures) (c .before .before .before .before .before .excl .ensures) (c .before .before .before .fits2 .ensures) (c .before .fits3 .ensures)
+    let fits3 = c .before .fits3 in
+    let fits2 = c .before .before .before .fits2 in
+    let excl = c .before .before .before .before .before .excl in
+    let asks = c .before .before .before .before .before .before .asks in
+    let args = c .before .before .before .before .before .before .before .before .args in
+    asked-by (now (args .e)) (args .table) (args .ret) (args .marked) (excl .result) (asks .result) (fits2 .result) (fits3 .result)
+    (asks .ensures) (excl .ensures) (fits2 .ensures) (fits3 .ensures)
 
 pub asked-spec : {M : Type 1} → statement M
 asked-spec =

@@ -22,8 +22,15 @@ choose-bool-requires-3 c κs = search needs
 
 returns : tie.Need-returns
 returns c =
-    by-tags (c .before .before .before .before .before .before .before .before .before .before .before .before .args .op .0) (c .before .before .before .before .before .before .before .before .before .before .before .before .args .tag .0) (c .before .before .before .before .before .before .before .before .before .before .before .before .args .before .0) (c .before .before .before .before .before .before .before .before .before .before .before .before .args .answer) (c .before .before .before .before .before .before .before .before .resp .result .0) (c .before .before .before .before .before .before .before .passes-dirty .result) (c .before .before .before .before .before .before .choose-bool .result) (c .before .before .before .choose-bool2 .result) (c .choose-bool3 .result)
-    (c .before .before .before .before .before .before .before .before .resp .ensures) (c .before .before .before .before .before .before .before .passes-dirty .ensures) (c .before .before .before .before .before .before .choose-bool .ensures) (c .before .before .before .choose-bool2 .ensures) (c .choose-bool3 .ensures)
+    let choose-bool2 = c .before .before .before .choose-bool2 in
+    let choose-bool = c .before .before .before .before .before .before .choose-bool in
+    let passes-dirty = c .before .before .before .before .before .before .before .passes-dirty in
+    let at-resp = c .before .before .before .before .before .before .before .before in
+    let resp = at-resp .resp in
+    let args = at-resp .before .before .before .before .args in
+    by-tags (args .op .0) (args .tag .0) (args .before .0) (args .answer) (resp .result .0) (passes-dirty .result) (choose-bool .result)
+    (choose-bool2 .result) (c .choose-bool3 .result) (resp .ensures) (passes-dirty .ensures) (choose-bool .ensures) (choose-bool2 .ensures)
+    (c .choose-bool3 .ensures)
 
 pub by-tags-spec : {M : Type 1} → statement M
 by-tags-spec =

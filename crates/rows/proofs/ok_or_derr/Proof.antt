@@ -12,7 +12,10 @@ choose-bool-requires : tie.Need-choose-bool-requires
 choose-bool-requires c κs = search needs
 
 returns : tie.Need-returns
-returns c = ok-or-derr (c .before .before .before .before .before .before .args .error .0) (c .before .before .before .before .before .before .args .answer) (c .before .has-data .result) (c .choose-bool .result) (c .before .has-data .ensures) (c .choose-bool .ensures)
+returns c =
+    let has-data = c .before .has-data in
+    let args = c .before .before .before .before .before .before .args in
+    ok-or-derr (args .error .0) (args .answer) (has-data .result) (c .choose-bool .result) (has-data .ensures) (c .choose-bool .ensures)
 
 pub ok-or-derr-spec : {M : Type 1} → statement M
 ok-or-derr-spec = tie.close (tie.spec has-data-requires choose-bool-requires returns)

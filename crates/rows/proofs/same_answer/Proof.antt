@@ -48,8 +48,12 @@ array-read-result-6 c = search needs
 
 returns : tie.Need-returns
 returns c =
-    let e = now (c .before .before .before .before .before .before .before .args .e) in
-    same-wire (channelOf e) (opcodeOf e) (respOf e) (fwdStateOf e) (forwardedOf e) (forwardedRespOf e) (c .before .before .before .before .before .before .before .args .answer) (c .before .before .before .before .before .before .wire .result) (c .before .before .before .before .before .before .wire .ensures)
+    let at-wire = c .before .before .before .before .before .before in
+    let wire = at-wire .wire in
+    let args = at-wire .before .args in
+    let e = now (args .e) in
+    same-wire (channelOf e) (opcodeOf e) (respOf e) (fwdStateOf e) (forwardedOf e) (forwardedRespOf e)
+    (args .answer) (wire .result) (wire .ensures)
 
 pub same-answer-spec : {M : Type 1} → statement M
 same-answer-spec =

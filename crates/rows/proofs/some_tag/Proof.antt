@@ -25,9 +25,16 @@ tagged-requires-3 : tie.Need-tagged-requires-3
 tagged-requires-3 c κs = search needs
 
 returns : tie.Need-returns
-returns c = some-tag (now (c .before .before .before .before .before .before .args .e)) (c .before .before .before .before .before .before .args .table) (c .before .before .before .before .before .before .args .before .0) (c .before .before .before .before .before .before .args .answer)
-    (c .before .before .before .before .before .sees-tag .result) (c .before .before .before .before .tagged .result) (c .before .before .before .sees-tag2 .result) (c .before .before .tagged2 .result) (c .before .sees-tag3 .result) (c .tagged3 .result)
-    (c .before .before .before .before .before .sees-tag .ensures) (c .before .before .before .before .tagged .ensures) (c .before .before .before .sees-tag2 .ensures) (c .before .before .tagged2 .ensures) (c .before .sees-tag3 .ensures) (c .tagged3 .ensures)
+returns c =
+    let sees-tag3 = c .before .sees-tag3 in
+    let tagged2 = c .before .before .tagged2 in
+    let sees-tag2 = c .before .before .before .sees-tag2 in
+    let tagged = c .before .before .before .before .tagged in
+    let sees-tag = c .before .before .before .before .before .sees-tag in
+    let args = c .before .before .before .before .before .before .args in
+    some-tag (now (args .e)) (args .table) (args .before .0) (args .answer) (sees-tag .result) (tagged .result) (sees-tag2 .result)
+    (tagged2 .result) (sees-tag3 .result) (c .tagged3 .result) (sees-tag .ensures) (tagged .ensures) (sees-tag2 .ensures) (tagged2 .ensures)
+    (sees-tag3 .ensures) (c .tagged3 .ensures)
 
 pub some-tag-spec : {M : Type 1} → statement M
 some-tag-spec =

@@ -26,8 +26,12 @@ tags-allow-requires c κs = search needs
 
 returns : tie.Need-returns
 returns c =
-    tagged-by (now (c .before .before .before .before .before .before .before .args .e)) (c .before .before .before .before .before .before .before .args .tag .0) (c .before .before .before .before .before .before .before .args .table) (c .before .before .before .before .before .before .before .args .before .0) (c .before .before .before .before .before .before .before .args .answer) (c .before .before .before .before .before .has-data .result) (c .before .before .before .before .on-data .result) (c .before .choose-bool .result) (c .tags-allow .result)
-    (c .before .before .before .before .before .has-data .ensures) (c .before .before .before .before .on-data .ensures) (c .before .choose-bool .ensures) (c .tags-allow .ensures)
+    let choose-bool = c .before .choose-bool in
+    let on-data = c .before .before .before .before .on-data in
+    let has-data = c .before .before .before .before .before .has-data in
+    let args = c .before .before .before .before .before .before .before .args in
+    tagged-by (now (args .e)) (args .tag .0) (args .table) (args .before .0) (args .answer) (has-data .result) (on-data .result)
+    (choose-bool .result) (c .tags-allow .result) (has-data .ensures) (on-data .ensures) (choose-bool .ensures) (c .tags-allow .ensures)
 
 pub tagged-spec : {M : Type 1} → statement M
 tagged-spec =

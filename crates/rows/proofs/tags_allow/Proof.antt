@@ -13,7 +13,10 @@ passes-dirty-requires c κs = search needs
 
 returns : tie.Need-returns
 returns c =
-    tags-allow (c .before .before .before .before .before .before .args .tag .0) (c .before .before .before .before .before .before .args .before .0) (c .before .before .before .before .before .before .args .answer) (c .before .fwd-state .result .0) (c .passes-dirty .result) (c .before .fwd-state .ensures) (c .passes-dirty .ensures)
+    let fwd-state = c .before .fwd-state in
+    let args = c .before .before .before .before .before .before .args in
+    tags-allow (args .tag .0) (args .before .0) (args .answer) (fwd-state .result .0) (c .passes-dirty .result) (fwd-state .ensures)
+    (c .passes-dirty .ensures)
 
 pub tags-allow-spec : {M : Type 1} → statement M
 tags-allow-spec = tie.close (tie.spec fwd-state-requires passes-dirty-requires returns)

@@ -48,9 +48,17 @@ from-state-requires-7 : tie.Need-from-state-requires-7
 from-state-requires-7 c κs = search needs
 
 returns : tie.Need-returns
-returns c = apply-chain (c .before .before .before .before .before .before .before .args .t1) (c .before .before .before .before .before .before .before .args .before)
-    (c .before .before .before .before .before .before .from-state .result) (c .before .before .before .before .before .from-state2 .result) (c .before .before .before .before .from-state3 .result) (c .before .before .before .from-state4 .result) (c .before .before .from-state5 .result) (c .before .from-state6 .result) (c .from-state7 .result)
-    (c .before .before .before .before .before .before .from-state .ensures) (c .before .before .before .before .before .from-state2 .ensures) (c .before .before .before .before .from-state3 .ensures) (c .before .before .before .from-state4 .ensures) (c .before .before .from-state5 .ensures) (c .before .from-state6 .ensures) (c .from-state7 .ensures)
+returns c =
+    let from-state6 = c .before .from-state6 in
+    let from-state5 = c .before .before .from-state5 in
+    let from-state4 = c .before .before .before .from-state4 in
+    let from-state3 = c .before .before .before .before .from-state3 in
+    let from-state2 = c .before .before .before .before .before .from-state2 in
+    let from-state = c .before .before .before .before .before .before .from-state in
+    let args = c .before .before .before .before .before .before .before .args in
+    apply-chain (args .t1) (args .before) (from-state .result) (from-state2 .result) (from-state3 .result) (from-state4 .result)
+    (from-state5 .result) (from-state6 .result) (c .from-state7 .result) (from-state .ensures) (from-state2 .ensures) (from-state3 .ensures)
+    (from-state4 .ensures) (from-state5 .ensures) (from-state6 .ensures) (c .from-state7 .ensures)
 
 pub apply-spec : {M : Type 1} → statement M
 apply-spec =

@@ -27,9 +27,17 @@ held-dirty-requires-7 : tie.Need-held-dirty-requires-7
 held-dirty-requires-7 c κs = search needs
 
 returns : tie.Need-returns
-returns c = dirty-chain (c .before .before .before .before .before .before .before .args .set)
-    (c .before .before .before .before .before .before .held-dirty .result) (c .before .before .before .before .before .held-dirty2 .result) (c .before .before .before .before .held-dirty3 .result) (c .before .before .before .held-dirty4 .result) (c .before .before .held-dirty5 .result) (c .before .held-dirty6 .result) (c .held-dirty7 .result)
-    (c .before .before .before .before .before .before .held-dirty .ensures) (c .before .before .before .before .before .held-dirty2 .ensures) (c .before .before .before .before .held-dirty3 .ensures) (c .before .before .before .held-dirty4 .ensures) (c .before .before .held-dirty5 .ensures) (c .before .held-dirty6 .ensures) (c .held-dirty7 .ensures)
+returns c =
+    let held-dirty6 = c .before .held-dirty6 in
+    let held-dirty5 = c .before .before .held-dirty5 in
+    let held-dirty4 = c .before .before .before .held-dirty4 in
+    let held-dirty3 = c .before .before .before .before .held-dirty3 in
+    let held-dirty2 = c .before .before .before .before .before .held-dirty2 in
+    let held-dirty = c .before .before .before .before .before .before .held-dirty in
+    let args = c .before .before .before .before .before .before .before .args in
+    dirty-chain (args .set) (held-dirty .result) (held-dirty2 .result) (held-dirty3 .result) (held-dirty4 .result) (held-dirty5 .result)
+    (held-dirty6 .result) (c .held-dirty7 .result) (held-dirty .ensures) (held-dirty2 .ensures) (held-dirty3 .ensures)
+    (held-dirty4 .ensures) (held-dirty5 .ensures) (held-dirty6 .ensures) (c .held-dirty7 .ensures)
 
 pub holds-dirty-spec : {M : Type 1} → statement M
 holds-dirty-spec =

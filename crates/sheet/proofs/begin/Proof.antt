@@ -22,7 +22,12 @@ same-length-2 : tie.Need-same-length-2
 same-length-2 c = search needs
 
 returns : tie.Need-returns
-returns c = begun-is (now (c .before .before .before .before .before .before .before .before .before .before .before .args .table)) (now (c .before .before .before .before .before .before .before .before .before .before .before .args .out)) (c .before .before .before .before .before .before .before .fill .ensures) (c .before .before .before .put-header .ensures) (c .answer .ensures)
+returns c =
+    let put-header = c .before .before .before .put-header in
+    let at-fill = c .before .before .before .before .before .before .before in
+    let fill = at-fill .fill in
+    let args = at-fill .before .before .before .before .args in
+    begun-is (now (args .table)) (now (args .out)) (fill .ensures) (put-header .ensures) (c .answer .ensures)
 
 pub begin-spec : {M : Type 1} → statement M
 begin-spec =

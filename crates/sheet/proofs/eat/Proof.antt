@@ -19,7 +19,9 @@ abbrev μ-loop : tie.MeasureT-loop
 μ-loop piece ended lines going table₀ out₀ taken₀ put₀ count₀ goes-on₀ table out taken put count goes-on = length piece - taken + cond goes-on 1 0
 
 loop-holds : tie.Need-loop-holds Inv-loop μ-loop
-loop-holds c = eating-start (c .before .before .before .args .ended) (now (c .before .before .before .args .piece)) (now (c .before .before .before .args .table)) (now (c .before .before .before .args .out)) (c .before .before .before .args .lines) (c .before .before .before .args .going)
+loop-holds c =
+    let args = c .before .before .before .args in
+    eating-start (args .ended) (now (args .piece)) (now (args .table)) (now (args .out)) (args .lines) (args .going)
 
 next-line-requires : tie.Need-next-line-requires Inv-loop μ-loop
 next-line-requires c κs = c .loop .inv .inside
@@ -34,28 +36,68 @@ same-length-2 : tie.Need-same-length-2 Inv-loop μ-loop
 same-length-2 c = c .before .before .loop .inv .long
 
 returns : tie.Need-returns Inv-loop μ-loop
-returns c = eaten-all (c .before .before .loop .inv) (sym (ready-test (c .before .next-line .result .sure) (c .before .before .loop .inv) (ap (λ (x : Next). x .sure) (c .before .next-line .ensures))) ∙ not-true _ (c .if1 .taken))
+returns c =
+    let next-line = c .before .next-line in
+    let loop = c .before .before .loop in
+    eaten-all (loop .inv)
+    (sym (ready-test (next-line .result .sure) (loop .inv) (ap (λ (x : Next). x .sure) (next-line .ensures))) ∙ not-true _ (c .if1 .taken))
 
 sub-judge-line : tie.Need-sub-judge-line Inv-loop μ-loop
-sub-judge-line c = next-end (c .before .before .before .before .before .before .args .ended) (c .before .before .loop .count) (c .before .before .loop .taken) (now (c .before .before .before .before .before .before .args .piece)) (c .before .next-line .result) (c .before .before .loop .inv .inside) (c .before .next-line .ensures) .0
+sub-judge-line c =
+    let next-line = c .before .next-line in
+    let loop = c .before .before .loop in
+    let args = c .before .before .before .before .before .before .args in
+    next-end (args .ended) (loop .count) (loop .taken) (now (args .piece)) (next-line .result) (loop .inv .inside) (next-line .ensures) .0
 
 part-judge-line-start : tie.Need-part-judge-line-start Inv-loop μ-loop
-part-judge-line-start c = next-end (c .before .before .before .before .before .before .args .ended) (c .before .before .loop .count) (c .before .before .loop .taken) (now (c .before .before .before .before .before .before .args .piece)) (c .before .next-line .result) (c .before .before .loop .inv .inside) (c .before .next-line .ensures) .0
+part-judge-line-start c =
+    let next-line = c .before .next-line in
+    let loop = c .before .before .loop in
+    let args = c .before .before .before .before .before .before .args in
+    next-end (args .ended) (loop .count) (loop .taken) (now (args .piece)) (next-line .result) (loop .inv .inside) (next-line .ensures) .0
 
 part-judge-line-end : tie.Need-part-judge-line-end Inv-loop μ-loop
-part-judge-line-end c = next-end (c .before .before .before .before .before .before .args .ended) (c .before .before .loop .count) (c .before .before .loop .taken) (now (c .before .before .before .before .before .before .args .piece)) (c .before .next-line .result) (c .before .before .loop .inv .inside) (c .before .next-line .ensures) .1
+part-judge-line-end c =
+    let next-line = c .before .next-line in
+    let loop = c .before .before .loop in
+    let args = c .before .before .before .before .before .before .args in
+    next-end (args .ended) (loop .count) (loop .taken) (now (args .piece)) (next-line .result) (loop .inv .inside) (next-line .ensures) .1
 
 judge-line-requires : tie.Need-judge-line-requires Inv-loop μ-loop
-judge-line-requires c κs = roomy-here (c .before .before .before .before .before .loop .inv) (sym (ready-test (c .before .before .before .before .next-line .result .sure) (c .before .before .before .before .before .loop .inv) (ap (λ (x : Next). x .sure) (c .before .before .before .before .next-line .ensures))) ∙ not-false _ (c .before .before .before .if1 .left))
+judge-line-requires c κs =
+    let if1 = c .before .before .before .if1 in
+    let next-line = c .before .before .before .before .next-line in
+    let loop = c .before .before .before .before .before .loop in
+    roomy-here (loop .inv)
+    (sym (ready-test (next-line .result .sure) (loop .inv) (ap (λ (x : Next). x .sure) (next-line .ensures))) ∙ not-false _ (if1 .left))
 
 counted-requires : tie.Need-counted-requires Inv-loop μ-loop
-counted-requires c κs = λ g. counts-on (c .before .before .before .before .before .before .before .before .before .before .loop .count) (c .before .before .before .before .before .before .before .before .before .before .loop .table) _ (c .before .before .before .before .judge-line .ensures) g
+counted-requires c κs =
+    let judge-line = c .before .before .before .before .judge-line in
+    let loop = c .before .before .before .before .before .before .before .before .before .before .loop in
+    λ g. counts-on (loop .count) (loop .table) _ (judge-line .ensures) g
 
 loop-less : tie.Need-loop-less Inv-loop μ-loop
-loop-less c = eating-less (c .before .before .before .before .before .before .before .before .before .before .before .loop .inv) (record { is-ready = sym (ready-test (c .before .before .before .before .before .before .before .before .before .before .next-line .result .sure) (c .before .before .before .before .before .before .before .before .before .before .before .loop .inv) (ap (λ (x : Next). x .sure) (c .before .before .before .before .before .before .before .before .before .before .next-line .ensures))) ∙ not-false _ (c .before .before .before .before .before .before .before .before .before .if1 .left); is-next = c .before .before .before .before .before .before .before .before .before .before .next-line .ensures; answered = c .before .before .before .before .before .judge-line .ensures; counted = c .counted .ensures })
+loop-less c =
+    let judge-line = c .before .before .before .before .before .judge-line in
+    let at-if1 = c .before .before .before .before .before .before .before .before .before in
+    let if1 = at-if1 .if1 in
+    let next-line = at-if1 .before .next-line in
+    let loop = at-if1 .before .before .loop in
+    let ready = sym (ready-test (next-line .result .sure) (loop .inv) (ap (λ (x : Next). x .sure) (next-line .ensures))) ∙ not-false _ (if1 .left) in
+    eating-less (loop .inv)
+    (record { is-ready = ready; is-next = next-line .ensures; answered = judge-line .ensures; counted = c .counted .ensures })
 
 loop-again : tie.Need-loop-again Inv-loop μ-loop
-loop-again c = eating-next (c .before .before .before .before .before .before .before .before .before .before .before .loop .inv) (record { is-ready = sym (ready-test (c .before .before .before .before .before .before .before .before .before .before .next-line .result .sure) (c .before .before .before .before .before .before .before .before .before .before .before .loop .inv) (ap (λ (x : Next). x .sure) (c .before .before .before .before .before .before .before .before .before .before .next-line .ensures))) ∙ not-false _ (c .before .before .before .before .before .before .before .before .before .if1 .left); is-next = c .before .before .before .before .before .before .before .before .before .before .next-line .ensures; answered = c .before .before .before .before .before .judge-line .ensures; counted = c .counted .ensures })
+loop-again c =
+    let judge-line = c .before .before .before .before .before .judge-line in
+    let at-if1 = c .before .before .before .before .before .before .before .before .before in
+    let if1 = at-if1 .if1 in
+    let next-line = at-if1 .before .next-line in
+    let loop = at-if1 .before .before .loop in
+    let ready = sym (ready-test (next-line .result .sure) (loop .inv) (ap (λ (x : Next). x .sure) (next-line .ensures))) ∙ not-false _ (if1 .left) in
+    eating-next (loop .inv)
+    (record { is-ready = ready; is-next = next-line .ensures; answered = judge-line .ensures; counted = c .counted .ensures })
 
 pub eat-spec : {M : Type 1} → statement M
 eat-spec =

@@ -30,13 +30,20 @@ loop-less : tie.Need-loop-less Inv-loop μ-loop
 loop-less c = omega (arith, c .loop-test .taken, pasting-long (c .before .loop .inv))
 
 loop-again : tie.Need-loop-again Inv-loop μ-loop
-loop-again c = pasting-next (c .before .loop .inv) (omega (arith, c .loop-test .taken, pasting-long (c .before .loop .inv))) (sym (getD-replicate (length (now (c .before .before .args .table))) (c .before .loop .pair) allStates 0 (omega (arith, c .loop-test .taken, pasting-long (c .before .loop .inv)))))
+loop-again c =
+    let loop = c .before .loop in
+    let args = c .before .before .args in
+    pasting-next (loop .inv) (omega (arith, c .loop-test .taken, pasting-long (loop .inv)))
+    (sym (getD-replicate (length (now (args .table))) (loop .pair) allStates 0 (omega (arith, c .loop-test .taken, pasting-long (loop .inv)))))
 
 same-length : tie.Need-same-length Inv-loop μ-loop
 same-length c = pasting-long (c .before .loop .inv)
 
 returns : tie.Need-returns Inv-loop μ-loop
-returns c = pasting-end (c .before .loop .inv) (omega (arith, c .loop-test .left, pasting-long (c .before .loop .inv))) ∙ filled (now (c .before .before .args .table))
+returns c =
+    let loop = c .before .loop in
+    let args = c .before .before .args in
+    pasting-end (loop .inv) (omega (arith, c .loop-test .left, pasting-long (loop .inv))) ∙ filled (now (args .table))
 
 pub fill-spec : {M : Type 1} → statement M
 fill-spec =

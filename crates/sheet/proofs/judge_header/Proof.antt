@@ -17,7 +17,11 @@ is-requires c κs = search needs
 
 returns : tie.Need-returns
 unfolding header
-returns c = header-good (now (c .before .before .before .before .before .args .line)) (now (c .before .before .before .before .before .args .out)) (c .before .before .before .before .before .args .at) (sym (c .before .is .ensures) ∙ c .if1 .taken) (omega (arith, c .before .before .before .before .before .pre))
+returns c =
+    let start = c .before .before .before .before .before in
+    let args = start .args in
+    let pre = start .pre in
+    header-good (now (args .line)) (now (args .out)) (args .at) (sym (c .before .is .ensures) ∙ c .if1 .taken) (omega (arith, pre))
 
 refuse-line-requires : tie.Need-refuse-line-requires
 refuse-line-requires c κs = search needs
@@ -27,7 +31,12 @@ same-length c = search needs
 
 returns-2 : tie.Need-returns-2
 unfolding header
-returns-2 c = header-bad (now (c .before .before .before .before .before .before .before .before .before .args .line)) (sym (c .before .before .before .before .before .is .ensures) ∙ c .before .before .before .before .if1 .left) (c .before .before .refuse-line .ensures)
+returns-2 c =
+    let refuse-line = c .before .before .refuse-line in
+    let if1 = c .before .before .before .before .if1 in
+    let is-call = c .before .before .before .before .before .is in
+    let args = c .before .before .before .before .before .before .before .before .before .args in
+    header-bad (now (args .line)) (sym (is-call .ensures) ∙ if1 .left) (refuse-line .ensures)
 
 pub judge-header-spec : {M : Type 1} → statement M
 judge-header-spec =

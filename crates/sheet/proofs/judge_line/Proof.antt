@@ -14,7 +14,11 @@ same-length : tie.Need-same-length
 same-length c = search needs
 
 returns : tie.Need-returns
-returns c = first-line (c .before .before .before .before .before .before .before .before .args .lines) (now (c .before .before .before .before .before .before .before .before .args .line)) (now (c .before .before .before .before .before .before .before .before .args .table)) (c .before .before .before .before .if1 .taken) (c .before .before .judge-header .ensures)
+returns c =
+    let judge-header = c .before .before .judge-header in
+    let if1 = c .before .before .before .before .if1 in
+    let args = c .before .before .before .before .before .before .before .before .args in
+    first-line (args .lines) (now (args .line)) (now (args .table)) (if1 .taken) (judge-header .ensures)
 
 add-if2 : tie.Need-add-if2
 add-if2 c = search needs
@@ -26,7 +30,12 @@ same-length-2 : tie.Need-same-length-2
 same-length-2 c = search needs
 
 returns-2 : tie.Need-returns-2
-returns-2 c = line-too-many (c .before .before .before .before .before .before .before .before .before .args .lines) (now (c .before .before .before .before .before .before .before .before .before .args .line)) (now (c .before .before .before .before .before .before .before .before .before .args .table)) (c .before .before .before .before .before .if1 .left) (c .before .before .before .before .if2 .taken) (c .before .before .refuse-line .ensures)
+returns-2 c =
+    let refuse-line = c .before .before .refuse-line in
+    let if2 = c .before .before .before .before .if2 in
+    let if1 = c .before .before .before .before .before .if1 in
+    let args = c .before .before .before .before .before .before .before .before .before .args in
+    line-too-many (args .lines) (now (args .line)) (now (args .table)) (if1 .left) (if2 .taken) (refuse-line .ensures)
 
 refuse-line-requires-2 : tie.Need-refuse-line-requires-2
 refuse-line-requires-2 c κs = search needs
@@ -35,13 +44,25 @@ same-length-3 : tie.Need-same-length-3
 same-length-3 c = search needs
 
 returns-3 : tie.Need-returns-3
-returns-3 c = line-too-long (c .before .before .before .before .before .before .before .before .before .before .args .lines) (now (c .before .before .before .before .before .before .before .before .before .before .args .line)) (now (c .before .before .before .before .before .before .before .before .before .before .args .table)) (c .before .before .before .before .before .before .if1 .left) (c .before .before .before .before .before .if2 .left) (c .before .before .before .before .if3 .taken) (c .before .before .refuse-line2 .ensures)
+returns-3 c =
+    let refuse-line2 = c .before .before .refuse-line2 in
+    let if3 = c .before .before .before .before .if3 in
+    let if2 = c .before .before .before .before .before .if2 in
+    let if1 = c .before .before .before .before .before .before .if1 in
+    let args = c .before .before .before .before .before .before .before .before .before .before .args in
+    line-too-long (args .lines) (now (args .line)) (now (args .table)) (if1 .left) (if2 .left) (if3 .taken) (refuse-line2 .ensures)
 
 parse-line-requires : tie.Need-parse-line-requires
 parse-line-requires c κs = search needs
 
 judge-parsed-requires : tie.Need-judge-parsed-requires
-judge-parsed-requires c κs = (c .before .before .before .before .before .before .before .before .before .pre, (positive (c .before .before .before .before .before .before .before .before .before .args .lines) (c .before .before .before .before .before .if1 .left), omega (arith, c .before .before .before .before .if2 .left)))
+judge-parsed-requires c κs =
+    let if2 = c .before .before .before .before .if2 in
+    let if1 = c .before .before .before .before .before .if1 in
+    let start = c .before .before .before .before .before .before .before .before .before in
+    let args = start .args in
+    let pre = start .pre in
+    (pre, (positive (args .lines) (if1 .left), omega (arith, if2 .left)))
 
 same-length-4 : tie.Need-same-length-4
 same-length-4 c = search needs
@@ -50,7 +71,16 @@ same-length-5 : tie.Need-same-length-5
 same-length-5 c = search needs
 
 returns-4 : tie.Need-returns-4
-returns-4 c = line-read (c .before .before .before .before .before .before .before .before .before .before .before .before .before .before .args .lines) (now (c .before .before .before .before .before .before .before .before .before .before .before .before .before .before .args .line)) (now (c .before .before .before .before .before .before .before .before .before .before .before .before .before .before .args .table)) (c .before .before .before .before .before .before .before .parse-line .result) (c .before .before .before .before .before .before .before .before .before .before .if1 .left) (c .before .before .before .before .before .before .before .before .before .if2 .left) (c .before .before .before .before .before .before .before .before .if3 .left) (c .before .before .before .before .before .before .before .parse-line .ensures) (c .before .before .before .before .judge-parsed .ensures)
+returns-4 c =
+    let judge-parsed = c .before .before .before .before .judge-parsed in
+    let parse-line = c .before .before .before .before .before .before .before .parse-line in
+    let if3 = c .before .before .before .before .before .before .before .before .if3 in
+    let if2 = c .before .before .before .before .before .before .before .before .before .if2 in
+    let at-if1 = c .before .before .before .before .before .before .before .before .before .before in
+    let if1 = at-if1 .if1 in
+    let args = at-if1 .before .before .before .before .args in
+    line-read (args .lines) (now (args .line)) (now (args .table)) (parse-line .result) (if1 .left) (if2 .left) (if3 .left) (parse-line .ensures)
+    (judge-parsed .ensures)
 
 pub judge-line-spec : {M : Type 1} → statement M
 judge-line-spec =

@@ -13,7 +13,11 @@ same-length : tie.Need-same-length
 same-length c = search needs
 
 returns : tie.Need-returns
-returns c = parsed-refused (c .before .before .before .before .before .before .before .before .args .lines) (now (c .before .before .before .before .before .before .before .before .args .table)) (c .before .before .before .before .before .before .before .before .args .parsed) (c .before .before .before .before .if1 .taken) (c .before .before .refuse-line .ensures)
+returns c =
+    let refuse-line = c .before .before .refuse-line in
+    let if1 = c .before .before .before .before .if1 in
+    let args = c .before .before .before .before .before .before .before .before .args in
+    parsed-refused (args .lines) (now (args .table)) (args .parsed) (if1 .taken) (refuse-line .ensures)
 
 set-in-requires : tie.Need-set-in-requires
 set-in-requires c κs = search needs
@@ -40,7 +44,18 @@ same-length-3 : tie.Need-same-length-3
 same-length-3 c = search needs
 
 returns-2 : tie.Need-returns-2
-returns-2 c = answer-put (c .before .before .before .before .before .before .before .before .before .before .before .before .before .before .before .before .before .before .args .lines) (c .before .before .before .before .before .before .before .before .before .before .before .before .before .before .before .before .before .before .args .at) (c .before .before .put-answer .result) (now (c .before .before .before .before .before .before .before .before .before .before .before .before .before .before .before .before .before .before .args .table)) (now (c .before .before .before .before .before .before .before .before .before .before .before .before .before .before .before .before .before .before .args .out)) _ _ (c .before .before .before .before .before .before .before .before .before .before .before .before .before .before .before .before .before .before .args .parsed) (c .before .before .before .before .before .before .before .before .judge .result) (c .before .before .before .before .before .before .before .before .before .before .set-in .result) (c .before .before .before .before .before .before .before .before .before .before .before .before .before .before .before .before .before .before .pre .1 .0) (c .before .before .before .before .before .before .before .before .before .before .before .before .before .before .before .before .before .before .pre .1 .1) (c .before .before .before .before .before .before .before .before .before .before .before .before .before .before .before .before .before .before .pre .0) (c .before .before .before .before .before .before .before .before .before .before .before .before .before .before .if1 .left) (c .before .before .before .before .before .before .before .before .before .before .set-in .ensures) (c .before .before .before .before .before .before .before .before .judge .ensures) (c .before .before .before .before .before .before .put-in .ensures) (c .before .before .put-answer .ensures)
+returns-2 c =
+    let put-answer = c .before .before .put-answer in
+    let put-in = c .before .before .before .before .before .before .put-in in
+    let judge = c .before .before .before .before .before .before .before .before .judge in
+    let at-set-in = c .before .before .before .before .before .before .before .before .before .before in
+    let set-in = at-set-in .set-in in
+    let if1 = at-set-in .before .before .before .before .if1 in
+    let start = at-set-in .before .before .before .before .before .before .before .before in
+    let args = start .args in
+    let pre = start .pre in
+    answer-put (args .lines) (args .at) (put-answer .result) (now (args .table)) (now (args .out)) _ _ (args .parsed) (judge .result)
+    (set-in .result) (pre .1 .0) (pre .1 .1) (pre .0) (if1 .left) (set-in .ensures) (judge .ensures) (put-in .ensures) (put-answer .ensures)
 
 pub judge-parsed-spec : {M : Type 1} → statement M
 judge-parsed-spec =

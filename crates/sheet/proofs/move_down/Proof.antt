@@ -33,7 +33,12 @@ loop-less : tie.Need-loop-less Inv-loop μ-loop
 loop-less c = omega (arith, c .before .loop-test .taken)
 
 loop-again : tie.Need-loop-again Inv-loop μ-loop
-loop-again c = pasting-next (c .before .before .loop .inv) (c .before .loop-test .taken) (still (c .before .before .before .args .from) (c .before .before .before .pre) (c .before .before .loop .inv))
+loop-again c =
+    let loop = c .before .before .loop in
+    let start = c .before .before .before in
+    let args = start .args in
+    let pre = start .pre in
+    pasting-next (loop .inv) (c .before .loop-test .taken) (still (args .from) pre (loop .inv))
 
 same-length : tie.Need-same-length Inv-loop μ-loop
 same-length c = pasting-long (c .before .loop .inv)

@@ -20,10 +20,21 @@ sub-left : tie.Need-sub-left
 sub-left c = search needs
 
 behind-requires : tie.Need-behind-requires
-behind-requires c κs = omega (arith, c .before .before .before .good .0 .1, subst (λ n. n ≤ length (now (c .before .before .before .args .piece))) (sym (c .before .line-end .ensures)) (end-within (now (c .before .before .before .args .piece)) (c .before .before .before .args .start) (c .before .before .before .pre)))
+behind-requires c κs =
+    let start = c .before .before .before in
+    let args = start .args in
+    let good = start .good in
+    let pre = start .pre in
+    omega
+    (arith, good .0 .1, subst (λ n. n ≤ length (now (args .piece))) (sym (c .before .line-end .ensures)) (end-within (now (args .piece)) (args .start) pre))
 
 returns : tie.Need-returns
-returns c = next-seen (c .before .before .before .before .args .ended) (c .before .before .before .before .args .lines) (now (c .before .before .before .before .args .piece)) (c .before .before .before .before .args .start) (c .before .before .line-end .result) (c .behind .result) (c .before .ends-line .result) (c .before .before .line-end .ensures) (c .before .ends-line .ensures) (c .behind .ensures)
+returns c =
+    let ends-line = c .before .ends-line in
+    let line-end = c .before .before .line-end in
+    let args = c .before .before .before .before .args in
+    next-seen (args .ended) (args .lines) (now (args .piece)) (args .start) (line-end .result) (c .behind .result) (ends-line .result)
+    (line-end .ensures) (ends-line .ensures) (c .behind .ensures)
 
 pub next-line-spec : {M : Type 1} → statement M
 next-line-spec =

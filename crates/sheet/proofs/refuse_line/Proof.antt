@@ -16,7 +16,13 @@ same-length : tie.Need-same-length
 same-length c = search needs
 
 returns : tie.Need-returns
-returns c = refuse-put (c .before .before .before .before .before .args .refusal .0) (c .before .before .before .before .before .args .lines) (c .before .before .before .before .before .args .at) (c .before .before .put-refusal .result) (now (c .before .before .before .before .before .args .out)) _ (search needs) (search needs) (c .before .before .before .before .before .pre) (c .before .before .put-refusal .ensures)
+returns c =
+    let put-refusal = c .before .before .put-refusal in
+    let start = c .before .before .before .before .before in
+    let args = start .args in
+    let pre = start .pre in
+    refuse-put (args .refusal .0) (args .lines) (args .at) (put-refusal .result) (now (args .out)) _ (search needs) (search needs) pre
+    (put-refusal .ensures)
 
 pub refuse-line-spec : {M : Type 1} → statement M
 refuse-line-spec = tie.close (tie.spec add-line put-refusal-requires same-length returns)

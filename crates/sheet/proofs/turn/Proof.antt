@@ -24,10 +24,20 @@ eat-requires : tie.Need-eat-requires
 eat-requires c κs = tt
 
 sub-rest : tie.Need-sub-rest
-sub-rest c = omega (arith, ate-most _ _ _ _ _ _ (c .before .before .before .before .eat .ensures), length-take (c .before .before .before .before .before .before .before .before .held-with .result) (now (c .before .before .before .before .before .before .before .before .before .before .before .before .before .before .args .piece)))
+sub-rest c =
+    let eat = c .before .before .before .before .eat in
+    let at-held-with = c .before .before .before .before .before .before .before .before in
+    let held-with = at-held-with .held-with in
+    let args = at-held-with .before .before .before .before .before .before .args in
+    omega (arith, ate-most _ _ _ _ _ _ (eat .ensures), length-take (held-with .result) (now (args .piece)))
 
 move-down-requires : tie.Need-move-down-requires
-move-down-requires c κs = omega (arith, ate-most _ _ _ _ _ _ (c .before .before .before .before .before .eat .ensures), length-take (c .before .before .before .before .before .before .before .before .before .held-with .result) (now (c .before .before .before .before .before .before .before .before .before .before .before .before .before .before .before .args .piece)), c .before .before .before .before .before .before .before .before .before .held-with .ensures)
+move-down-requires c κs =
+    let eat = c .before .before .before .before .before .eat in
+    let at-held-with = c .before .before .before .before .before .before .before .before .before in
+    let held-with = at-held-with .held-with in
+    let args = at-held-with .before .before .before .before .before .before .args in
+    omega (arith, ate-most _ _ _ _ _ _ (eat .ensures), length-take (held-with .result) (now (args .piece)), held-with .ensures)
 
 answer-requires : tie.Need-answer-requires
 answer-requires c κs = tt
@@ -42,7 +52,15 @@ same-length-3 : tie.Need-same-length-3
 same-length-3 c = search needs
 
 returns : tie.Need-returns
-returns c = turn-is (c .before .before .before .before .before .before .before .before .before .before .before .before .before .before .before .before .before .before .before .args .carried) (c .before .before .before .before .before .before .before .before .before .before .before .before .before .before .before .before .before .before .before .args .got) (now (c .before .before .before .before .before .before .before .before .before .before .before .before .before .before .before .before .before .before .before .args .piece)) (now (c .before .before .before .before .before .before .before .before .before .before .before .before .before .before .before .before .before .before .before .args .table)) (now (c .before .before .before .before .before .before .before .before .before .before .before .before .before .before .before .before .before .before .before .args .out)) (c .before .before .before .before .before .before .before .before .before .before .before .before .before .before .before .wants-more .ensures) (c .before .before .before .before .before .before .before .before .before .before .before .before .before .held-with .ensures) (c .before .before .before .before .before .before .before .before .before .eat .ensures) (c .before .before .before .move-down .ensures) (c .answer .ensures)
+returns c =
+    let move-down = c .before .before .before .move-down in
+    let at-eat = c .before .before .before .before .before .before .before .before .before in
+    let eat = at-eat .eat in
+    let held-with = at-eat .before .before .before .before .held-with in
+    let wants-more = at-eat .before .before .before .before .before .before .wants-more in
+    let args = at-eat .before .before .before .before .before .before .before .before .before .before .args in
+    turn-is (args .carried) (args .got) (now (args .piece)) (now (args .table)) (now (args .out)) (wants-more .ensures) (held-with .ensures)
+    (eat .ensures) (move-down .ensures) (c .answer .ensures)
 
 pub turn-spec : {M : Type 1} → statement M
 turn-spec =

@@ -35,10 +35,18 @@ loop-less c = omega arith
 
 loop-again : tie.Need-loop-again Inv-loop μ-loop
 loop-again c =
-    (omega arith, length-set (c .before .before .loop .bytes) (c .before .before .loop .i) (c .byte-at .result) ∙ c .before .before .loop .inv .1, bytes-turn (now (c .before .before .before .before .args .event)) (c .before .before .loop .bytes) (c .before .before .loop .i) (c .byte-at .result) (omega arith) (c .byte-at .ensures) (c .before .before .loop .inv .2))
+    let loop = c .before .before .loop in
+    let args = c .before .before .before .before .args in (
+      omega arith,
+      length-set (loop .bytes) (loop .i) (c .byte-at .result) ∙ loop .inv .1,
+      bytes-turn (now (args .event)) (loop .bytes) (loop .i) (c .byte-at .result) (omega arith) (c .byte-at .ensures) (loop .inv .2),
+    )
 
 returns : tie.Need-returns Inv-loop μ-loop
-returns c = bytes-end (now (c .before .before .before .args .event)) (c .before .loop .bytes) (c .before .loop .i) (c .before .loop .inv .1) (c .loop-test .left) (c .before .loop .inv .0) (c .before .loop .inv .2)
+returns c =
+    let loop = c .before .loop in
+    let args = c .before .before .before .args in
+    bytes-end (now (args .event)) (loop .bytes) (loop .i) (loop .inv .1) (c .loop-test .left) (loop .inv .0) (loop .inv .2)
 
 pub event-bytes-spec : {M : Type 1} → statement M
 event-bytes-spec =

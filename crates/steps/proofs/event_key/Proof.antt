@@ -34,7 +34,12 @@ row-key-requires : tie.Need-row-key-requires
 row-key-requires c κs = search needs
 
 returns : tie.Need-returns
-returns c = key-by (now (c .before .before .before .before .before .before .before .before .before .args .e)) (c .before .before .before .before .before .before .tables-of .result) (c .before .before .before .message-of .result) (c .row-key .result) (c .before .before .before .before .before .before .tables-of .ensures) (c .before .before .before .message-of .ensures) (c .row-key .ensures)
+returns c =
+    let message-of = c .before .before .before .message-of in
+    let tables-of = c .before .before .before .before .before .before .tables-of in
+    let args = c .before .before .before .before .before .before .before .before .before .args in
+    key-by (now (args .e)) (tables-of .result) (message-of .result) (c .row-key .result) (tables-of .ensures) (message-of .ensures)
+    (c .row-key .ensures)
 
 pub event-key-spec : {M : Type 1} → statement M
 event-key-spec =

@@ -14,7 +14,11 @@ choose-byte-requires-2 : tie.Need-choose-byte-requires-2
 choose-byte-requires-2 c κs = search needs
 
 returns : tie.Need-returns
-returns c = two-choices (eqb (c .before .before .before .before .args .channel) RSP) (eqb (c .before .before .before .before .args .opcode) op-SnpRespDataPtl) 0 2 1 (c .before .before .choose-byte .result) (c .choose-byte2 .result) (c .before .before .choose-byte .ensures) (c .choose-byte2 .ensures)
+returns c =
+    let choose-byte = c .before .before .choose-byte in
+    let args = c .before .before .before .before .args in
+    two-choices (eqb (args .channel) RSP) (eqb (args .opcode) op-SnpRespDataPtl) 0 2 1 (choose-byte .result) (c .choose-byte2 .result)
+    (choose-byte .ensures) (c .choose-byte2 .ensures)
 
 pub message-of-spec : {M : Type 1} → statement M
 message-of-spec = tie.close (tie.spec choose-byte-requires choose-byte-requires-2 returns)

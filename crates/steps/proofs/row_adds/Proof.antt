@@ -13,7 +13,10 @@ choose-byte-requires : tie.Need-choose-byte-requires
 choose-byte-requires c κs = search needs
 
 returns : tie.Need-returns
-returns c = adds (now (c .before .before .before .args .e)) (c .before .before .before .args .among) (c .before .before .before .args .row) (c .before .before .row-fits .result) (c .choose-byte .result) (c .before .before .row-fits .ensures) (c .choose-byte .ensures)
+returns c =
+    let row-fits = c .before .before .row-fits in
+    let args = c .before .before .before .args in
+    adds (now (args .e)) (args .among) (args .row) (row-fits .result) (c .choose-byte .result) (row-fits .ensures) (c .choose-byte .ensures)
 
 pub row-adds-spec : {M : Type 1} → statement M
 row-adds-spec = tie.close (tie.spec row-fits-requires choose-byte-requires returns)

@@ -19,7 +19,13 @@ some-tag-requires : tie.Need-some-tag-requires
 some-tag-requires c κs = search needs
 
 returns-2 : tie.Need-returns-2
-returns-2 c = fits-rest (now (c .before .before .before .before .before .args .e)) (c .before .before .before .before .before .args .row) (c .before .before .before .before .asked .result) (c .before .answered .result) (c .some-tag .result) (c .before .before .before .before .asked .ensures) (c .before .before .before .if1 .left) (c .before .answered .ensures) (c .some-tag .ensures)
+returns-2 c =
+    let answered = c .before .answered in
+    let if1 = c .before .before .before .if1 in
+    let asked = c .before .before .before .before .asked in
+    let args = c .before .before .before .before .before .args in
+    fits-rest (now (args .e)) (args .row) (asked .result) (answered .result) (c .some-tag .result) (asked .ensures) (if1 .left)
+    (answered .ensures) (c .some-tag .ensures)
 
 pub row-fits-spec : {M : Type 1} → statement M
 row-fits-spec =

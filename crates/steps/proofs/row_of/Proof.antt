@@ -34,8 +34,17 @@ column-requires-6 c κs = search needs
 
 returns : tie.Need-returns
 returns c =
-    row-parts (c .before .before .before .before .before .before .before .before .args .word) (c .before .before .before .before .before .before .before .column .result) (c .before .before .before .before .before .column2 .result) (c .before .before .before .before .column3 .result) (c .before .before .before .column4 .result) (c .before .before .column5 .result) (c .column6 .result) (c .before .before .before .before .before .before .table-of .result) (c .before .answer-of .result)
-    (c .before .before .before .before .before .before .before .column .ensures) (c .before .before .before .before .before .before .table-of .ensures) (c .before .before .before .before .before .column2 .ensures) (c .before .before .before .before .column3 .ensures) (c .before .before .before .column4 .ensures) (c .before .before .column5 .ensures) (c .before .answer-of .ensures) (c .column6 .ensures)
+    let answer-of = c .before .answer-of in
+    let column5 = c .before .before .column5 in
+    let column4 = c .before .before .before .column4 in
+    let column3 = c .before .before .before .before .column3 in
+    let column2 = c .before .before .before .before .before .column2 in
+    let table-of = c .before .before .before .before .before .before .table-of in
+    let column = c .before .before .before .before .before .before .before .column in
+    let args = c .before .before .before .before .before .before .before .before .args in
+    row-parts (args .word) (column .result) (column2 .result) (column3 .result) (column4 .result) (column5 .result) (c .column6 .result)
+    (table-of .result) (answer-of .result) (column .ensures) (table-of .ensures) (column2 .ensures) (column3 .ensures) (column4 .ensures)
+    (column5 .ensures) (answer-of .ensures) (c .column6 .ensures)
 
 pub row-of-spec : {M : Type 1} → statement M
 row-of-spec =

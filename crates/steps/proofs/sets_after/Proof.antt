@@ -51,7 +51,17 @@ loop-less : tie.Need-loop-less Inv-loop μ-loop
 loop-less c = omega arith
 
 loop-again : tie.Need-loop-again Inv-loop μ-loop
-loop-again c = (omega arith, c .before .before .loop .inv .1, pass-turn (now (c .before .before .before .before .before .before .before .before .args .event)) (c .before .before .loop .i) (c .before .before .before .before .before .before .event-bytes .result) (c .before .before .before .before .before .seen-states .result) (c .before .before .before .event-key .result) (c .before .before .loop .sets) (c .before .before .loop .inv .1) (c .before .loop-test .taken) (c .before .before .before .before .before .before .event-bytes .ensures) (c .before .before .before .before .before .seen-states .ensures) (c .before .before .before .event-key .ensures) (c .if1 .taken) (c .before .before .loop .inv .2))
+loop-again c =
+    let loop = c .before .before .loop in
+    let event-key = c .before .before .before .event-key in
+    let seen-states = c .before .before .before .before .before .seen-states in
+    let event-bytes = c .before .before .before .before .before .before .event-bytes in
+    let args = c .before .before .before .before .before .before .before .before .args in (
+      omega arith,
+      loop .inv .1,
+      pass-turn (now (args .event)) (loop .i) (event-bytes .result) (seen-states .result) (event-key .result) (loop .sets) (loop .inv .1)
+          (c .before .loop-test .taken) (event-bytes .ensures) (seen-states .ensures) (event-key .ensures) (c .if1 .taken) (loop .inv .2),
+    )
 
 row-of-requires : tie.Need-row-of-requires Inv-loop μ-loop
 row-of-requires c κs = search needs
@@ -63,10 +73,18 @@ row-adds-requires : tie.Need-row-adds-requires Inv-loop μ-loop
 row-adds-requires c κs = search needs
 
 array-read-sets : tie.Need-array-read-sets Inv-loop μ-loop
-array-read-sets c = word-before (c .before .before .before .before .before .before .loop .i) (c .before .before .before .row-of .result) (c .before .before .before .before .before .before .loop .inv .1) (c .before .before .before .before .before .loop-test .taken) (c .before .before .before .row-of .ensures)
+array-read-sets c =
+    let row-of = c .before .before .before .row-of in
+    let loop-test = c .before .before .before .before .before .loop-test in
+    let loop = c .before .before .before .before .before .before .loop in
+    word-before (loop .i) (row-of .result) (loop .inv .1) (loop-test .taken) (row-of .ensures)
 
 array-write-sets : tie.Need-array-write-sets Inv-loop μ-loop
-array-write-sets c = word-before (c .before .before .before .before .before .before .loop .i) (c .before .before .before .row-of .result) (c .before .before .before .before .before .before .loop .inv .1) (c .before .before .before .before .before .loop-test .taken) (c .before .before .before .row-of .ensures)
+array-write-sets c =
+    let row-of = c .before .before .before .row-of in
+    let loop-test = c .before .before .before .before .before .loop-test in
+    let loop = c .before .before .before .before .before .before .loop in
+    word-before (loop .i) (row-of .result) (loop .inv .1) (loop-test .taken) (row-of .ensures)
 
 add-i-2 : tie.Need-add-i-2 Inv-loop μ-loop
 add-i-2 c = omega arith
@@ -75,10 +93,26 @@ loop-less-2 : tie.Need-loop-less-2 Inv-loop μ-loop
 loop-less-2 c = omega arith
 
 loop-again-2 : tie.Need-loop-again-2 Inv-loop μ-loop
-loop-again-2 c = (omega arith, c .before .before .before .before .before .before .loop .inv .1, add-turn (now (c .before .before .before .before .before .before .before .before .before .before .before .before .args .event)) (c .before .before .before .before .before .before .loop .i) (c .before .before .before .before .before .before .before .before .before .before .event-bytes .result) (c .before .before .before .before .before .before .before .before .before .seen-states .result) (c .before .before .before .row-of .result) (c .before .before .before .before .before .before .loop .sets) (c .row-adds .result) (c .before .before .before .before .before .before .loop .inv .1) (c .before .before .before .before .before .loop-test .taken) (c .before .before .before .before .before .before .before .before .before .before .event-bytes .ensures) (c .before .before .before .before .before .before .before .before .before .seen-states .ensures) (c .before .before .before .row-of .ensures) (c .before .before .before .before .before .before .loop .inv .2) (c .row-adds .ensures))
+loop-again-2 c =
+    let row-of = c .before .before .before .row-of in
+    let loop-test = c .before .before .before .before .before .loop-test in
+    let loop = c .before .before .before .before .before .before .loop in
+    let seen-states = c .before .before .before .before .before .before .before .before .before .seen-states in
+    let at-event-bytes = c .before .before .before .before .before .before .before .before .before .before in
+    let event-bytes = at-event-bytes .event-bytes in
+    let args = at-event-bytes .before .before .args in (
+      omega arith,
+      loop .inv .1,
+      add-turn (now (args .event)) (loop .i) (event-bytes .result) (seen-states .result) (row-of .result) (loop .sets) (c .row-adds .result)
+          (loop .inv .1) (loop-test .taken) (event-bytes .ensures) (seen-states .ensures) (row-of .ensures) (loop .inv .2)
+          (c .row-adds .ensures),
+    )
 
 returns : tie.Need-returns Inv-loop μ-loop
-returns c = walk-end (now (c .before .before .before .before .before .before .before .args .event)) (c .before .loop .i) (c .before .loop .sets) (c .loop-test .left) (c .before .loop .inv .2)
+returns c =
+    let loop = c .before .loop in
+    let args = c .before .before .before .before .before .before .before .args in
+    walk-end (now (args .event)) (loop .i) (loop .sets) (c .loop-test .left) (loop .inv .2)
 
 pub sets-after-spec : {M : Type 1} → statement M
 sets-after-spec =

@@ -17,10 +17,18 @@ fault-at-requires : tie.Need-fault-at-requires
 fault-at-requires c κs = search needs
 
 returns : tie.Need-returns
-returns c = refused-event issueE (now (c .before .before .before .before .before .before .args .events)) (now (c .before .before .before .before .before .before .args .pairs)) (now (c .before .before .before .before .before .before .args .table)) (c .before .before .first-bad-event .result .0) (c .fault-at .result .0) (c .before .before .first-bad-event .ensures) (c .before .if1 .taken) (c .fault-at .ensures)
+returns c =
+    let first-bad-event = c .before .before .first-bad-event in
+    let args = c .before .before .before .before .before .before .args in
+    refused-event issueE (now (args .events)) (now (args .pairs)) (now (args .table)) (first-bad-event .result .0) (c .fault-at .result .0)
+    (first-bad-event .ensures) (c .before .if1 .taken) (c .fault-at .ensures)
 
 returns-2 : tie.Need-returns-2
-returns-2 c = no-event issueE (now (c .before .before .before .before .before .args .events)) (now (c .before .before .before .before .before .args .pairs)) (now (c .before .before .before .before .before .args .table)) (c .before .first-bad-event .result .0) (c .before .first-bad-event .ensures) (c .if1 .left)
+returns-2 c =
+    let first-bad-event = c .before .first-bad-event in
+    let args = c .before .before .before .before .before .args in
+    no-event issueE (now (args .events)) (now (args .pairs)) (now (args .table)) (first-bad-event .result .0) (first-bad-event .ensures)
+    (c .if1 .left)
 
 pub by-events-spec : {M : Type 1} → statement M
 by-events-spec =

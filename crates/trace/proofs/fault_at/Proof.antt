@@ -23,8 +23,15 @@ choose-byte-requires : tie.Need-choose-byte-requires
 choose-byte-requires c κs = search needs
 
 returns : tie.Need-returns
-returns c = fault-chain issueE (now (c .before .before .before .before .before .before .before .before .args .events)) (now (c .before .before .before .before .before .before .before .before .args .pairs)) (now (c .before .before .before .before .before .before .before .before .args .table)) (c .before .before .before .before .before .before .before .before .args .k .0) (c .before .before .before .before .pair-in .result .0) (c .before .before .before .within .result) (now (c .before .before .event-in .result)) (c .before .fault .result .0) (c .choose-byte .result)
-    (c .before .before .before .before .pair-in .ensures) (c .before .before .before .within .ensures) (c .before .before .event-in .ensures) (c .before .fault .ensures) (c .choose-byte .ensures)
+returns c =
+    let fault = c .before .fault in
+    let event-in = c .before .before .event-in in
+    let within = c .before .before .before .within in
+    let pair-in = c .before .before .before .before .pair-in in
+    let args = c .before .before .before .before .before .before .before .before .args in
+    fault-chain issueE (now (args .events)) (now (args .pairs)) (now (args .table)) (args .k .0) (pair-in .result .0) (within .result)
+    (now (event-in .result)) (fault .result .0) (c .choose-byte .result) (pair-in .ensures) (within .ensures) (event-in .ensures)
+    (fault .ensures) (c .choose-byte .ensures)
 
 pub fault-at-spec : {M : Type 1} → statement M
 fault-at-spec =

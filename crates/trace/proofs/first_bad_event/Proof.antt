@@ -18,7 +18,9 @@ abbrev μ-loop : tie.MeasureT-loop
 μ-loop events pairs table k₀ k = length pairs - k
 
 loop-holds : tie.Need-loop-holds Inv-loop μ-loop
-loop-holds c = first-start (badEvent issueE (now (c .before .before .before .args .events)) (now (c .before .before .before .args .pairs)) (now (c .before .before .before .args .table))) (length (now (c .before .before .before .args .pairs)))
+loop-holds c =
+    let args = c .before .before .before .args in
+    first-start (badEvent issueE (now (args .events)) (now (args .pairs)) (now (args .table))) (length (now (args .pairs)))
 
 cast-loop : tie.Need-cast-loop Inv-loop μ-loop
 cast-loop c = omega arith
@@ -27,7 +29,13 @@ fault-at-requires : tie.Need-fault-at-requires Inv-loop μ-loop
 fault-at-requires c κs = search needs
 
 returns : tie.Need-returns Inv-loop μ-loop
-returns c = first-here (c .before .before .before .before .loop .inv) (c .before .before .before .loop-test .taken) (bad (c .before .before .fault-at .result .0) (faultAt issueE (now (c .before .before .before .before .before .before .before .before .args .events)) (now (c .before .before .before .before .before .before .before .before .args .pairs)) (now (c .before .before .before .before .before .before .before .before .args .table)) (c .before .before .before .before .loop .k)) (c .before .before .fault-at .ensures) (c .if1 .taken))
+returns c =
+    let fault-at = c .before .before .fault-at in
+    let loop-test = c .before .before .before .loop-test in
+    let loop = c .before .before .before .before .loop in
+    let args = c .before .before .before .before .before .before .before .before .args in
+    first-here (loop .inv) (loop-test .taken)
+    (bad (fault-at .result .0) (faultAt issueE (now (args .events)) (now (args .pairs)) (now (args .table)) (loop .k)) (fault-at .ensures) (c .if1 .taken))
 
 add-k : tie.Need-add-k Inv-loop μ-loop
 add-k c = omega (arith, c .before .before .before .before .before .before .before .before .pre)
@@ -36,7 +44,13 @@ loop-less : tie.Need-loop-less Inv-loop μ-loop
 loop-less c = omega arith
 
 loop-again : tie.Need-loop-again Inv-loop μ-loop
-loop-again c = first-next (c .before .before .before .before .loop .inv) (c .before .before .before .loop-test .taken) (good (c .before .before .fault-at .result .0) (faultAt issueE (now (c .before .before .before .before .before .before .before .before .args .events)) (now (c .before .before .before .before .before .before .before .before .args .pairs)) (now (c .before .before .before .before .before .before .before .before .args .table)) (c .before .before .before .before .loop .k)) (c .before .before .fault-at .ensures) (c .if1 .left))
+loop-again c =
+    let fault-at = c .before .before .fault-at in
+    let loop-test = c .before .before .before .loop-test in
+    let loop = c .before .before .before .before .loop in
+    let args = c .before .before .before .before .before .before .before .before .args in
+    first-next (loop .inv) (loop-test .taken)
+    (good (fault-at .result .0) (faultAt issueE (now (args .events)) (now (args .pairs)) (now (args .table)) (loop .k)) (fault-at .ensures) (c .if1 .left))
 
 returns-2 : tie.Need-returns-2 Inv-loop μ-loop
 returns-2 c = first-end (c .before .loop .inv) (c .loop-test .left)

@@ -17,7 +17,12 @@ abbrev μ-loop : tie.MeasureT-loop
 μ-loop events pairs table₀ verdicts₀ duties₀ afters₀ k₀ table verdicts duties afters k = length pairs - k
 
 loop-holds : tie.Need-loop-holds Inv-loop μ-loop
-loop-holds c = going-start (now (c .before .before .before .before .before .before .args .events)) (now (c .before .before .before .before .before .before .args .pairs)) (now (c .before .before .before .before .before .before .args .table)) (now (c .before .before .before .before .before .before .args .verdicts)) (now (c .before .before .before .before .before .before .args .duties)) (now (c .before .before .before .before .before .before .args .afters)) (c .before .before .before .before .before .before .pre)
+loop-holds c =
+    let start = c .before .before .before .before .before .before in
+    let args = start .args in
+    let pre = start .pre in
+    going-start (now (args .events)) (now (args .pairs)) (now (args .table)) (now (args .verdicts)) (now (args .duties))
+    (now (args .afters)) pre
 
 cast-loop : tie.Need-cast-loop Inv-loop μ-loop
 cast-loop c = omega arith
@@ -26,13 +31,23 @@ judge-one-requires : tie.Need-judge-one-requires Inv-loop μ-loop
 judge-one-requires c κs = search needs
 
 add-k : tie.Need-add-k Inv-loop μ-loop
-add-k c = omega (arith, c .before .before .before .before .before .before .before .before .before .before .before .before .before .before .before .before .before .before .before .before .before .pre .few)
+add-k c =
+    let halfway = c .before .before .before .before .before .before .before .before .before .before in
+    let pre = halfway .before .before .before .before .before .before .before .before .before .before .before .pre in
+    omega (arith, pre .few)
 
 loop-less : tie.Need-loop-less Inv-loop μ-loop
 loop-less c = omega arith
 
 loop-again : tie.Need-loop-again Inv-loop μ-loop
-loop-again c = going-next (now (c .before .before .before .before .before .before .before .before .before .before .before .before .before .before .before .before .before .before .before .before .before .args .events)) (now (c .before .before .before .before .before .before .before .before .before .before .before .before .before .before .before .before .before .before .before .before .before .args .pairs)) (now (c .before .before .before .before .before .before .before .before .before .before .before .before .before .before .before .before .before .before .before .before .before .args .table)) (c .before .before .before .before .before .before .before .before .before .before .before .before .before .before .loop .inv) (c .before .before .before .before .before .before .before .before .before .before .before .before .before .loop-test .taken) (c .before .before .before .before .before .before .before .before .judge-one .ensures)
+loop-again c =
+    let at-judge-one = c .before .before .before .before .before .before .before .before in
+    let judge-one = at-judge-one .judge-one in
+    let loop-test = at-judge-one .before .before .before .before .before .loop-test in
+    let at-loop = at-judge-one .before .before .before .before .before .before in
+    let loop = at-loop .loop in
+    let args = at-loop .before .before .before .before .before .before .before .args in
+    going-next (now (args .events)) (now (args .pairs)) (now (args .table)) (loop .inv) (loop-test .taken) (judge-one .ensures)
 
 same-length : tie.Need-same-length Inv-loop μ-loop
 same-length c = c .before .loop .inv .long
@@ -47,7 +62,9 @@ same-length-4 : tie.Need-same-length-4 Inv-loop μ-loop
 same-length-4 c = c .before .loop .inv .afters-so .long ∙ sym (c .before .before .before .before .before .before .before .before .pre .afters-fit)
 
 returns : tie.Need-returns Inv-loop μ-loop
-returns c = going-end (now (c .before .before .before .before .before .before .before .before .args .events)) (now (c .before .before .before .before .before .before .before .before .args .pairs)) (now (c .before .before .before .before .before .before .before .before .args .table)) (c .before .loop .inv) (c .loop-test .left)
+returns c =
+    let args = c .before .before .before .before .before .before .before .before .args in
+    going-end (now (args .events)) (now (args .pairs)) (now (args .table)) (c .before .loop .inv) (c .loop-test .left)
 
 pub judge-all-spec : {M : Type 1} → statement M
 judge-all-spec =

@@ -25,9 +25,16 @@ same-length : tie.Need-same-length
 same-length c = search needs
 
 returns : tie.Need-returns
-returns c = on-table (now (c .before .before .before .before .before .before .before .before .before .before .before .before .args .events)) (now (c .before .before .before .before .before .before .before .before .before .before .before .before .args .pairs)) (c .before .before .before .before .before .before .before .before .before .before .before .before .args .k .0) (now (c .before .before .before .before .before .before .before .before .before .before .before .before .args .table)) _
-    (c .before .before .before .before .before .before .before .before .pair-in .result .0) (c .before .before .before .before .before .before .set-in .result) (now (c .before .before .before .before .before .event-in .result)) (c .before .before .before .before .judge .result)
-    (c .before .before .before .before .before .before .before .before .pair-in .ensures) (c .before .before .before .before .before .before .set-in .ensures) (c .before .before .before .before .before .event-in .ensures) (c .before .before .before .before .judge .ensures) (c .before .before .put-in .ensures)
+returns c =
+    let put-in = c .before .before .put-in in
+    let judge = c .before .before .before .before .judge in
+    let event-in = c .before .before .before .before .before .event-in in
+    let set-in = c .before .before .before .before .before .before .set-in in
+    let at-pair-in = c .before .before .before .before .before .before .before .before in
+    let pair-in = at-pair-in .pair-in in
+    let args = at-pair-in .before .before .before .before .args in
+    on-table (now (args .events)) (now (args .pairs)) (args .k .0) (now (args .table)) _ (pair-in .result .0) (set-in .result)
+    (now (event-in .result)) (judge .result) (pair-in .ensures) (set-in .ensures) (event-in .ensures) (judge .ensures) (put-in .ensures)
 
 pub judge-on-table-spec : {M : Type 1} → statement M
 judge-on-table-spec =

@@ -31,8 +31,16 @@ same-length-4 : tie.Need-same-length-4
 same-length-4 c = search needs
 
 returns : tie.Need-returns
-returns c = one-judged (now (c .before .before .before .before .before .before .before .before .before .before .before .before .before .before .before .before .before .before .before .before .before .before .args .verdicts)) (now (c .before .before .before .before .before .before .before .before .before .before .before .before .before .before .before .before .before .before .before .before .before .before .args .duties)) (now (c .before .before .before .before .before .before .before .before .before .before .before .before .before .before .before .before .before .before .before .before .before .before .args .afters)) _ _ _
-    (c .before .before .before .before .before .before .before .before .before .before .before .before .before .before .judge-on-table .ensures) (c .before .before .before .before .before .before .before .before .before .before .put-in .ensures) (c .before .before .before .before .before .before .put-in2 .ensures) (c .before .before .put-in3 .ensures)
+returns c =
+    let put-in3 = c .before .before .put-in3 in
+    let put-in2 = c .before .before .before .before .before .before .put-in2 in
+    let at-put-in = c .before .before .before .before .before .before .before .before .before .before in
+    let put-in = at-put-in .put-in in
+    let at-judge-on-table = at-put-in .before .before .before .before in
+    let judge-on-table = at-judge-on-table .judge-on-table in
+    let args = at-judge-on-table .before .before .before .before .before .before .before .before .args in
+    one-judged (now (args .verdicts)) (now (args .duties)) (now (args .afters)) _ _ _ (judge-on-table .ensures) (put-in .ensures)
+    (put-in2 .ensures) (put-in3 .ensures)
 
 pub judge-one-spec : {M : Type 1} → statement M
 judge-one-spec =

@@ -26,10 +26,23 @@ same-length-4 : tie.Need-same-length-4
 same-length-4 c = search needs
 
 returns : tie.Need-returns
-returns c = left-refused issueE (lent (now (c .before .before .before .before .before .before .before .before .before .before .before .before .before .args .events)) (now (c .before .before .before .before .before .before .before .before .before .before .before .before .before .args .pairs)) (now (c .before .before .before .before .before .before .before .before .before .before .before .before .before .args .table)) (now (c .before .before .before .before .before .before .before .before .before .before .before .before .before .args .verdicts)) (now (c .before .before .before .before .before .before .before .before .before .before .before .before .before .args .duties)) (now (c .before .before .before .before .before .before .before .before .before .before .before .before .before .args .afters))) (c .before .before .outcome-of .result) (c .before .before .outcome-of .ensures) (c .if1 .taken)
+returns c =
+    let at-outcome-of = c .before .before in
+    let outcome-of = at-outcome-of .outcome-of in
+    let args = at-outcome-of .before .before .before .before .before .before .before .before .before .before .before .args in
+    left-refused issueE
+    (lent (now (args .events)) (now (args .pairs)) (now (args .table)) (now (args .verdicts)) (now (args .duties)) (now (args .afters)))
+    (outcome-of .result) (outcome-of .ensures) (c .if1 .taken)
 
 judge-all-requires : tie.Need-judge-all-requires
-judge-all-requires c κs = room issueE (lent (now (c .before .before .before .before .before .before .before .before .before .before .before .before .before .before .before .before .before .args .events)) (now (c .before .before .before .before .before .before .before .before .before .before .before .before .before .before .before .before .before .args .pairs)) (now (c .before .before .before .before .before .before .before .before .before .before .before .before .before .before .before .before .before .args .table)) (now (c .before .before .before .before .before .before .before .before .before .before .before .before .before .before .before .before .before .args .verdicts)) (now (c .before .before .before .before .before .before .before .before .before .before .before .before .before .before .before .before .before .args .duties)) (now (c .before .before .before .before .before .before .before .before .before .before .before .before .before .before .before .before .before .args .afters))) (sym (ap (λ (o : Outcome). o .refusal .0) (c .before .before .before .before .before .before .outcome-of .ensures)) ∙ c .before .before .before .before .if1 .left)
+judge-all-requires c κs =
+    let if1 = c .before .before .before .before .if1 in
+    let at-outcome-of = c .before .before .before .before .before .before in
+    let outcome-of = at-outcome-of .outcome-of in
+    let args = at-outcome-of .before .before .before .before .before .before .before .before .before .before .before .args in
+    room issueE
+    (lent (now (args .events)) (now (args .pairs)) (now (args .table)) (now (args .verdicts)) (now (args .duties)) (now (args .afters)))
+    (sym (ap (λ (o : Outcome). o .refusal .0) (outcome-of .ensures)) ∙ if1 .left)
 
 same-length-5 : tie.Need-same-length-5
 same-length-5 c = search needs
@@ -44,7 +57,17 @@ same-length-8 : tie.Need-same-length-8
 same-length-8 c = search needs
 
 returns-2 : tie.Need-returns-2
-returns-2 c = left-accepted issueE (lent (now (c .before .before .before .before .before .before .before .before .before .before .before .before .before .before .before .before .before .before .before .before .before .before .before .before .before .before .args .events)) (now (c .before .before .before .before .before .before .before .before .before .before .before .before .before .before .before .before .before .before .before .before .before .before .before .before .before .before .args .pairs)) (now (c .before .before .before .before .before .before .before .before .before .before .before .before .before .before .before .before .before .before .before .before .before .before .before .before .before .before .args .table)) (now (c .before .before .before .before .before .before .before .before .before .before .before .before .before .before .before .before .before .before .before .before .before .before .before .before .before .before .args .verdicts)) (now (c .before .before .before .before .before .before .before .before .before .before .before .before .before .before .before .before .before .before .before .before .before .before .before .before .before .before .args .duties)) (now (c .before .before .before .before .before .before .before .before .before .before .before .before .before .before .before .before .before .before .before .before .before .before .before .before .before .before .args .afters))) (c .before .before .before .before .before .before .before .before .before .before .before .before .before .before .before .outcome-of .result) _ _ _ _ (c .before .before .before .before .before .before .before .before .before .before .before .before .before .before .before .outcome-of .ensures) (c .before .before .before .before .before .before .before .before .before .before .before .before .before .if1 .left) (fits (lent (now (c .before .before .before .before .before .before .before .before .before .before .before .before .before .before .before .before .before .before .before .before .before .before .before .before .before .before .args .events)) (now (c .before .before .before .before .before .before .before .before .before .before .before .before .before .before .before .before .before .before .before .before .before .before .before .before .before .before .args .pairs)) (now (c .before .before .before .before .before .before .before .before .before .before .before .before .before .before .before .before .before .before .before .before .before .before .before .before .before .before .args .table)) (now (c .before .before .before .before .before .before .before .before .before .before .before .before .before .before .before .before .before .before .before .before .before .before .before .before .before .before .args .verdicts)) (now (c .before .before .before .before .before .before .before .before .before .before .before .before .before .before .before .before .before .before .before .before .before .before .before .before .before .before .args .duties)) (now (c .before .before .before .before .before .before .before .before .before .before .before .before .before .before .before .before .before .before .before .before .before .before .before .before .before .before .args .afters))) (accepted-fits issueE (lent (now (c .before .before .before .before .before .before .before .before .before .before .before .before .before .before .before .before .before .before .before .before .before .before .before .before .before .before .args .events)) (now (c .before .before .before .before .before .before .before .before .before .before .before .before .before .before .before .before .before .before .before .before .before .before .before .before .before .before .args .pairs)) (now (c .before .before .before .before .before .before .before .before .before .before .before .before .before .before .before .before .before .before .before .before .before .before .before .before .before .before .args .table)) (now (c .before .before .before .before .before .before .before .before .before .before .before .before .before .before .before .before .before .before .before .before .before .before .before .before .before .before .args .verdicts)) (now (c .before .before .before .before .before .before .before .before .before .before .before .before .before .before .before .before .before .before .before .before .before .before .before .before .before .before .args .duties)) (now (c .before .before .before .before .before .before .before .before .before .before .before .before .before .before .before .before .before .before .before .before .before .before .before .before .before .before .args .afters))) (sym (ap (λ (o : Outcome). o .refusal .0) (c .before .before .before .before .before .before .before .before .before .before .before .before .before .before .before .outcome-of .ensures)) ∙ c .before .before .before .before .before .before .before .before .before .before .before .before .before .if1 .left)) .pairs-fit) (c .before .before .before .before .before .before .before .before .judge-all .ensures)
+returns-2 c =
+    let at-judge-all = c .before .before .before .before .before .before .before .before in
+    let judge-all = at-judge-all .judge-all in
+    let if1 = at-judge-all .before .before .before .before .before .if1 in
+    let at-outcome-of = at-judge-all .before .before .before .before .before .before .before in
+    let outcome-of = at-outcome-of .outcome-of in
+    let args = at-outcome-of .before .before .before .before .before .before .before .before .before .before .before .args in
+    let given = lent (now (args .events)) (now (args .pairs)) (now (args .table)) (now (args .verdicts)) (now (args .duties)) (now (args .afters)) in
+    left-accepted issueE given (outcome-of .result) _ _ _ _ (outcome-of .ensures) (if1 .left)
+    (fits given (accepted-fits issueE given (sym (ap (λ (o : Outcome). o .refusal .0) (outcome-of .ensures)) ∙ if1 .left)) .pairs-fit)
+    (judge-all .ensures)
 
 pub judge-trace-spec : {M : Type 1} → statement M
 judge-trace-spec =

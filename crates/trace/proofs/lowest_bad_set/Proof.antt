@@ -31,7 +31,14 @@ bad-set-requires : tie.Need-bad-set-requires Inv-loop μ-loop
 bad-set-requires c κs = search needs
 
 returns : tie.Need-returns Inv-loop μ-loop
-returns c = first-here (c .before .before .before .before .loop .inv) (c .before .before .before .loop-test .taken) (set-tested (c .before .before .set-in .result) (setIn (now (c .before .before .before .before .before .before .args .table)) (c .before .before .before .before .loop .p)) (c .before .bad-set .result) true (c .before .before .set-in .ensures) (c .before .bad-set .ensures) (c .if1 .taken))
+returns c =
+    let bad-set = c .before .bad-set in
+    let set-in = c .before .before .set-in in
+    let loop-test = c .before .before .before .loop-test in
+    let loop = c .before .before .before .before .loop in
+    let args = c .before .before .before .before .before .before .args in
+    first-here (loop .inv) (loop-test .taken)
+    (set-tested (set-in .result) (setIn (now (args .table)) (loop .p)) (bad-set .result) true (set-in .ensures) (bad-set .ensures) (c .if1 .taken))
 
 add-p : tie.Need-add-p Inv-loop μ-loop
 add-p c = omega arith
@@ -40,7 +47,14 @@ loop-less : tie.Need-loop-less Inv-loop μ-loop
 loop-less c = omega arith
 
 loop-again : tie.Need-loop-again Inv-loop μ-loop
-loop-again c = first-next (c .before .before .before .before .loop .inv) (c .before .before .before .loop-test .taken) (set-tested (c .before .before .set-in .result) (setIn (now (c .before .before .before .before .before .before .args .table)) (c .before .before .before .before .loop .p)) (c .before .bad-set .result) false (c .before .before .set-in .ensures) (c .before .bad-set .ensures) (c .if1 .left))
+loop-again c =
+    let bad-set = c .before .bad-set in
+    let set-in = c .before .before .set-in in
+    let loop-test = c .before .before .before .loop-test in
+    let loop = c .before .before .before .before .loop in
+    let args = c .before .before .before .before .before .before .args in
+    first-next (loop .inv) (loop-test .taken)
+    (set-tested (set-in .result) (setIn (now (args .table)) (loop .p)) (bad-set .result) false (set-in .ensures) (bad-set .ensures) (c .if1 .left))
 
 returns-2 : tie.Need-returns-2 Inv-loop μ-loop
 returns-2 c = first-end (c .before .loop .inv) (c .loop-test .left)

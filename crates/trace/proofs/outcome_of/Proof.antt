@@ -12,19 +12,51 @@ lengths-fit-requires : tie.Need-lengths-fit-requires
 lengths-fit-requires c κs = search needs
 
 returns : tie.Need-returns
-returns c = refused-lengths issueE (lent (now (c .before .before .before .before .before .before .before .before .args .events)) (now (c .before .before .before .before .before .before .before .before .args .pairs)) (now (c .before .before .before .before .before .before .before .before .args .table)) (now (c .before .before .before .before .before .before .before .before .args .verdicts)) (now (c .before .before .before .before .before .before .before .before .args .duties)) (now (c .before .before .before .before .before .before .before .before .args .afters))) (c .before .lengths-fit .result) (c .before .lengths-fit .ensures) (c .if1 .taken)
+returns c =
+    let lengths-fit = c .before .lengths-fit in
+    let args = c .before .before .before .before .before .before .before .before .args in
+    refused-lengths issueE
+    (lent (now (args .events)) (now (args .pairs)) (now (args .table)) (now (args .verdicts)) (now (args .duties)) (now (args .afters)))
+    (lengths-fit .result) (lengths-fit .ensures) (c .if1 .taken)
 
 lowest-bad-set-requires : tie.Need-lowest-bad-set-requires
-lowest-bad-set-requires c κs = few-sets issueE (lent (now (c .before .before .before .before .before .before .before .before .args .events)) (now (c .before .before .before .before .before .before .before .before .args .pairs)) (now (c .before .before .before .before .before .before .before .before .args .table)) (now (c .before .before .before .before .before .before .before .before .args .verdicts)) (now (c .before .before .before .before .before .before .before .before .args .duties)) (now (c .before .before .before .before .before .before .before .before .args .afters))) (c .before .lengths-fit .result) (c .before .lengths-fit .ensures) (c .if1 .left)
+lowest-bad-set-requires c κs =
+    let lengths-fit = c .before .lengths-fit in
+    let args = c .before .before .before .before .before .before .before .before .args in
+    few-sets issueE
+    (lent (now (args .events)) (now (args .pairs)) (now (args .table)) (now (args .verdicts)) (now (args .duties)) (now (args .afters)))
+    (lengths-fit .result) (lengths-fit .ensures) (c .if1 .left)
 
 returns-2 : tie.Need-returns-2
-returns-2 c = refused-set issueE (lent (now (c .before .before .before .before .before .before .before .before .before .before .args .events)) (now (c .before .before .before .before .before .before .before .before .before .before .args .pairs)) (now (c .before .before .before .before .before .before .before .before .before .before .args .table)) (now (c .before .before .before .before .before .before .before .before .before .before .args .verdicts)) (now (c .before .before .before .before .before .before .before .before .before .before .args .duties)) (now (c .before .before .before .before .before .before .before .before .before .before .args .afters))) (c .before .before .before .lengths-fit .result) (c .before .lowest-bad-set .result) (c .before .before .before .lengths-fit .ensures) (c .before .before .if1 .left) (c .before .lowest-bad-set .ensures) (c .if2 .taken)
+returns-2 c =
+    let lowest-bad-set = c .before .lowest-bad-set in
+    let if1 = c .before .before .if1 in
+    let lengths-fit = c .before .before .before .lengths-fit in
+    let args = c .before .before .before .before .before .before .before .before .before .before .args in
+    refused-set issueE
+    (lent (now (args .events)) (now (args .pairs)) (now (args .table)) (now (args .verdicts)) (now (args .duties)) (now (args .afters)))
+    (lengths-fit .result) (lowest-bad-set .result) (lengths-fit .ensures) (if1 .left) (lowest-bad-set .ensures) (c .if2 .taken)
 
 by-events-requires : tie.Need-by-events-requires
-by-events-requires c κs = few-pair-numbers issueE (lent (now (c .before .before .before .before .before .before .before .before .before .before .args .events)) (now (c .before .before .before .before .before .before .before .before .before .before .args .pairs)) (now (c .before .before .before .before .before .before .before .before .before .before .args .table)) (now (c .before .before .before .before .before .before .before .before .before .before .args .verdicts)) (now (c .before .before .before .before .before .before .before .before .before .before .args .duties)) (now (c .before .before .before .before .before .before .before .before .before .before .args .afters))) (c .before .before .before .lengths-fit .result) (c .before .before .before .lengths-fit .ensures) (c .before .before .if1 .left)
+by-events-requires c κs =
+    let if1 = c .before .before .if1 in
+    let lengths-fit = c .before .before .before .lengths-fit in
+    let args = c .before .before .before .before .before .before .before .before .before .before .args in
+    few-pair-numbers issueE
+    (lent (now (args .events)) (now (args .pairs)) (now (args .table)) (now (args .verdicts)) (now (args .duties)) (now (args .afters)))
+    (lengths-fit .result) (lengths-fit .ensures) (if1 .left)
 
 returns-3 : tie.Need-returns-3
-returns-3 c = left-to-events issueE (lent (now (c .before .before .before .before .before .before .before .before .before .before .before .args .events)) (now (c .before .before .before .before .before .before .before .before .before .before .before .args .pairs)) (now (c .before .before .before .before .before .before .before .before .before .before .before .args .table)) (now (c .before .before .before .before .before .before .before .before .before .before .before .args .verdicts)) (now (c .before .before .before .before .before .before .before .before .before .before .before .args .duties)) (now (c .before .before .before .before .before .before .before .before .before .before .before .args .afters))) (c .before .before .before .before .lengths-fit .result) (c .before .before .lowest-bad-set .result) (c .by-events .result) (c .before .before .before .before .lengths-fit .ensures) (c .before .before .before .if1 .left) (c .before .before .lowest-bad-set .ensures) (c .before .if2 .left) (c .by-events .ensures)
+returns-3 c =
+    let lowest-bad-set = c .before .before .lowest-bad-set in
+    let if1 = c .before .before .before .if1 in
+    let at-lengths-fit = c .before .before .before .before in
+    let lengths-fit = at-lengths-fit .lengths-fit in
+    let args = at-lengths-fit .before .before .before .before .before .before .before .args in
+    left-to-events issueE
+    (lent (now (args .events)) (now (args .pairs)) (now (args .table)) (now (args .verdicts)) (now (args .duties)) (now (args .afters)))
+    (lengths-fit .result) (lowest-bad-set .result) (c .by-events .result) (lengths-fit .ensures) (if1 .left) (lowest-bad-set .ensures)
+    (c .before .if2 .left) (c .by-events .ensures)
 
 pub outcome-of-spec : {M : Type 1} → statement M
 outcome-of-spec =

@@ -25,8 +25,16 @@ choose-byte-requires-3 : tie.Need-choose-byte-requires-3
 choose-byte-requires-3 c κs = search needs
 
 returns : tie.Need-returns
-returns c = found (now (c .before .before .before .before .before .before .before .before .args .event)) (c .before .before .before .before .before .before .before .before .args .before) (c .before .before .before .before .before .apply .result) (c .before .before .before .before .choose-byte .result) (c .before .before .before .choose-byte2 .result) (c .before .before .duty .result .0) (c .choose-byte3 .result) (c .before .before .before .before .before .before .sets-after .result)
-    (c .before .before .before .before .before .before .sets-after .ensures) (c .before .before .before .before .before .apply .ensures) (c .before .before .before .before .choose-byte .ensures) (c .before .before .before .choose-byte2 .ensures) (c .before .before .duty .ensures) (c .choose-byte3 .ensures)
+returns c =
+    let duty = c .before .before .duty in
+    let choose-byte2 = c .before .before .before .choose-byte2 in
+    let choose-byte = c .before .before .before .before .choose-byte in
+    let apply = c .before .before .before .before .before .apply in
+    let sets-after = c .before .before .before .before .before .before .sets-after in
+    let args = c .before .before .before .before .before .before .before .before .args in
+    found (now (args .event)) (args .before) (apply .result) (choose-byte .result) (choose-byte2 .result) (duty .result .0)
+    (c .choose-byte3 .result) (sets-after .result) (sets-after .ensures) (apply .ensures) (choose-byte .ensures) (choose-byte2 .ensures)
+    (duty .ensures) (c .choose-byte3 .ensures)
 
 pub judge-spec : {M : Type 1} → statement M
 judge-spec =

@@ -27,16 +27,26 @@ known-requires : tie.Need-known-requires
 known-requires c κs = search needs
 
 returns : tie.Need-returns
-returns c = told (λ T. c .before .before .before .before .before .before .args .request .0 ∈? rulesOf T .asks) (c .before .before .before .before .enum-told .given .1) (one-of-4 (c .before .before .before .before .before .before .args .request .0) 1 2 4 21)
+returns c =
+    let enum-told-call = c .before .before .before .before .enum-told in
+    let args = c .before .before .before .before .before .before .args in
+    told (λ T. args .request .0 ∈? rulesOf T .asks) (enum-told-call .given .1) (one-of-4 (args .request .0) 1 2 4 21)
 
 returns-2 : tie.Need-returns-2
-returns-2 c = told (λ T. c .before .before .before .before .args .request .0 ∈? rulesOf T .asks) (c .before .before .enum-told2 .given .1) (one-of-2 (c .before .before .before .before .args .request .0) 18 20)
+returns-2 c =
+    let enum-told2 = c .before .before .enum-told2 in
+    let args = c .before .before .before .before .args in
+    told (λ T. args .request .0 ∈? rulesOf T .asks) (enum-told2 .given .1) (one-of-2 (args .request .0) 18 20)
 
 returns-3 : tie.Need-returns-3
-returns-3 c = told (λ T. c .before .before .before .args .request .0 ∈? rulesOf T .asks) (c .before .enum-told3 .given .1) (one-of-1 (c .before .before .before .args .request .0) 22)
+returns-3 c =
+    let args = c .before .before .before .args in
+    told (λ T. args .request .0 ∈? rulesOf T .asks) (c .before .enum-told3 .given .1) (one-of-1 (args .request .0) 22)
 
 returns-4 : tie.Need-returns-4
-returns-4 c = told (λ T. c .before .before .before .args .request .0 ∈? rulesOf T .asks) (c .before .enum-told4 .given .1) (one-of-1 (c .before .before .before .args .request .0) 22)
+returns-4 c =
+    let args = c .before .before .before .args in
+    told (λ T. args .request .0 ∈? rulesOf T .asks) (c .before .enum-told4 .given .1) (one-of-1 (args .request .0) 22)
 
 returns-5 : tie.Need-returns-5
 returns-5 c = told (λ T. c .before .before .before .args .request .0 ∈? rulesOf T .asks) (c .before .enum-told5 .given .1) (c .known .ensures)

@@ -29,19 +29,33 @@ nderr-requires : tie.Need-nderr-requires
 nderr-requires c κs = search needs
 
 returns : tie.Need-returns
-returns c = told (λ T. c .before .before .before .args .error .0 ∈? rulesOf T .errors (c .before .before .before .args .answer)) (c .enum-told .given .1) (c .before .before .ok-or-derr .ensures)
+returns c =
+    let ok-or-derr = c .before .before .ok-or-derr in
+    let args = c .before .before .before .args in
+    told (λ T. args .error .0 ∈? rulesOf T .errors (args .answer)) (c .enum-told .given .1) (ok-or-derr .ensures)
 
 returns-2 : tie.Need-returns-2
-returns-2 c = told (λ T. c .before .before .before .args .error .0 ∈? rulesOf T .errors (c .before .before .before .args .answer)) (c .enum-told2 .given .1) (c .before .before .ok-or-derr .ensures)
+returns-2 c =
+    let ok-or-derr = c .before .before .ok-or-derr in
+    let args = c .before .before .before .args in
+    told (λ T. args .error .0 ∈? rulesOf T .errors (args .answer)) (c .enum-told2 .given .1) (ok-or-derr .ensures)
 
 returns-3 : tie.Need-returns-3
-returns-3 c = told (λ T. c .before .before .before .args .error .0 ∈? rulesOf T .errors (c .before .before .before .args .answer)) (c .enum-told3 .given .1) (c .before .before .ok-or-derr .ensures)
+returns-3 c =
+    let ok-or-derr = c .before .before .ok-or-derr in
+    let args = c .before .before .before .args in
+    told (λ T. args .error .0 ∈? rulesOf T .errors (args .answer)) (c .enum-told3 .given .1) (ok-or-derr .ensures)
 
 returns-4 : tie.Need-returns-4
-returns-4 c = told (λ T. c .before .before .before .args .error .0 ∈? rulesOf T .errors (c .before .before .before .args .answer)) (c .enum-told4 .given .1) (c .before .before .ok-or-derr .ensures)
+returns-4 c =
+    let ok-or-derr = c .before .before .ok-or-derr in
+    let args = c .before .before .before .args in
+    told (λ T. args .error .0 ∈? rulesOf T .errors (args .answer)) (c .enum-told4 .given .1) (ok-or-derr .ensures)
 
 returns-5 : tie.Need-returns-5
-returns-5 c = told (λ T. c .before .before .before .before .args .error .0 ∈? rulesOf T .errors (c .before .before .before .before .args .answer)) (c .before .enum-told5 .given .1) (c .nderr .ensures)
+returns-5 c =
+    let args = c .before .before .before .before .args in
+    told (λ T. args .error .0 ∈? rulesOf T .errors (args .answer)) (c .before .enum-told5 .given .1) (c .nderr .ensures)
 
 pub errors-spec : {M : Type 1} → statement M
 errors-spec =

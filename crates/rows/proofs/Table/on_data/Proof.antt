@@ -30,19 +30,36 @@ enum-told-5 : tie.Need-enum-told-5
 enum-told-5 c = search needs
 
 returns : tie.Need-returns
-returns c = told (λ T. c .before .before .before .before .args .op .0 ∈? rulesOf T .onData (c .before .before .before .before .args .tag .0) (c .before .before .before .before .args .before .0) (c .before .before .before .before .args .answer)) (c .before .enum-told .given .1) (c .up-to-update .ensures)
+returns c =
+    let args = c .before .before .before .before .args in
+    told (λ T. args .op .0 ∈? rulesOf T .onData (args .tag .0) (args .before .0) (args .answer)) (c .before .enum-told .given .1)
+    (c .up-to-update .ensures)
 
 returns-2 : tie.Need-returns-2
-returns-2 c = told (λ T. c .before .before .before .args .op .0 ∈? rulesOf T .onData (c .before .before .before .args .tag .0) (c .before .before .before .args .before .0) (c .before .before .before .args .answer)) (c .enum-told2 .given .1) (c .before .before .by-tags .ensures)
+returns-2 c =
+    let by-tags = c .before .before .by-tags in
+    let args = c .before .before .before .args in
+    told (λ T. args .op .0 ∈? rulesOf T .onData (args .tag .0) (args .before .0) (args .answer)) (c .enum-told2 .given .1)
+    (by-tags .ensures)
 
 returns-3 : tie.Need-returns-3
-returns-3 c = told (λ T. c .before .before .before .args .op .0 ∈? rulesOf T .onData (c .before .before .before .args .tag .0) (c .before .before .before .args .before .0) (c .before .before .before .args .answer)) (c .enum-told3 .given .1) (c .before .before .by-tags .ensures)
+returns-3 c =
+    let by-tags = c .before .before .by-tags in
+    let args = c .before .before .before .args in
+    told (λ T. args .op .0 ∈? rulesOf T .onData (args .tag .0) (args .before .0) (args .answer)) (c .enum-told3 .given .1)
+    (by-tags .ensures)
 
 returns-4 : tie.Need-returns-4
-returns-4 c = told (λ T. c .before .before .before .args .op .0 ∈? rulesOf T .onData (c .before .before .before .args .tag .0) (c .before .before .before .args .before .0) (c .before .before .before .args .answer)) (c .enum-told4 .given .1) (c .before .before .by-tags .ensures)
+returns-4 c =
+    let by-tags = c .before .before .by-tags in
+    let args = c .before .before .before .args in
+    told (λ T. args .op .0 ∈? rulesOf T .onData (args .tag .0) (args .before .0) (args .answer)) (c .enum-told4 .given .1)
+    (by-tags .ensures)
 
 returns-5 : tie.Need-returns-5
-returns-5 c = told (λ T. c .before .before .before .args .op .0 ∈? rulesOf T .onData (c .before .before .before .args .tag .0) (c .before .before .before .args .before .0) (c .before .before .before .args .answer)) (c .enum-told5 .given .1) refl
+returns-5 c =
+    let args = c .before .before .before .args in
+    told (λ T. args .op .0 ∈? rulesOf T .onData (args .tag .0) (args .before .0) (args .answer)) (c .enum-told5 .given .1) refl
 
 pub on-data-spec : {M : Type 1} → statement M
 on-data-spec =
