@@ -25,18 +25,18 @@ pub const HIGHEST_PAIR: u32 = 4095;
 // The set of all seven states: no set is above it.
 pub const ALL_STATES: u8 = 127;
 
-// The first of two bytes where the test holds, else the second.
-pub fn choose_byte(test: bool, first: u8, second: u8) -> u8
-    ensures { λ r. ⌜ r ≡ cond test first second ⌝ }
+// One byte where the test holds, else the other.
+pub fn choose_byte(test: bool, one: u8, other: u8) -> u8
+    ensures { λ r. ⌜ r ≡ cond test one other ⌝ }
 {
-    if test { first } else { second }
+    if test { one } else { other }
 }
 
-// The first of two truth values where the test holds, else the second.
-pub fn choose_bool(test: bool, first: bool, second: bool) -> bool
-    ensures { λ r. ⌜ r ≡ cond test first second ⌝ }
+// One truth value where the test holds, else the other.
+pub fn choose_bool(test: bool, this: bool, that: bool) -> bool
+    ensures { λ r. ⌜ r ≡ cond test this that ⌝ }
 {
-    if test { first } else { second }
+    if test { this } else { that }
 }
 
 // The state of a line in a cache.
