@@ -5,6 +5,7 @@ use mathlib.Core.Bool.{true, false, cond, _&&_}
 use mathlib.Core.List.{List, [], _∷_}
 use Prim.Native.Nat.{ℕ, zero, suc, _+_, _-_, _≤_, _<_, min}
 use native.Mathlib.Nat.{add-zero, suc-min-suc, zero-min, min-zero}
+use native.Mathlib.Numerals.{add-one}
 use native.Mathlib.Omega.{arith}
 use borrow.Author.Tests.{ne-eqb}
 use lib.ListN.{length, getD, drop, drop-of-length-le, length-drop}
@@ -13,9 +14,6 @@ use lib.Dec.{eqb}
 use Rattle.text.specs.Text.{CR, LF}
 use Rattle.lines.specs.Lines.{crlf}
 use Rattle.lines.specs.Seen.{tooLong, reach, lineEnd}
-
-next-place : (n : ℕ) → suc n ≡ n + 1
-next-place n = omega arith
 
 -- fewer than two bytes are no CR LF
 short-none : (s : List ℕ) → length s < 2 → crlf s ≡ false
@@ -32,7 +30,7 @@ none-last s i h = short-none (drop i s) (subst (λ n. n < 2) (sym (length-drop i
 pub crlf-at : (s : List ℕ) (i : ℕ) → i + 1 < length s → eqb (getD s i 0) CR && eqb (getD s (i + 1) 0) LF ≡ crlf (drop i s)
 crlf-at s i h =
     sym (ap crlf (drop-cons s i 0 (omega (arith, h)) ∙ ap (λ r. getD s i 0 ∷ r) (drop-cons s (suc i) 0 (omega (arith, h))))
-    ∙ ap (λ n. eqb (getD s i 0) CR && eqb (getD s n 0) LF) (next-place i))
+    ∙ ap (λ n. eqb (getD s i 0) CR && eqb (getD s n 0) LF) (sym (add-one i)))
 
 -- where no CR stands, no CR LF does
 first-CR : (x : ℕ) (s : List ℕ) → eqb x CR ≡ false → crlf (x ∷ s) ≡ false
@@ -76,7 +74,7 @@ one-more n s at h f =
 pub looked-next : {s : List ℕ} {start last at : ℕ} → Looked s start last at → at < last → crlf (drop at s) ≡ false → Looked s start last (at + 1)
 looked-next {s} {start} {last} {at} l h f = record {
   so = l .so ∙ ap (λ n. at + reach n (drop at s)) gap ∙ ap (λ n. at + n) (one-more (last - (at + 1)) s at (omega (arith, h, l .inside)) f)
-      ∙ sym (add-suc-left at (reach (last - (at + 1)) (drop (suc at) s))) ∙ ap (λ n. n + reach (last - (at + 1)) (drop n s)) (next-place at);
+      ∙ sym (add-suc-left at (reach (last - (at + 1)) (drop (suc at) s))) ∙ ap (λ n. n + reach (last - (at + 1)) (drop n s)) (sym (add-one at));
   below = omega (arith, h);
   inside = l .inside;
 }
