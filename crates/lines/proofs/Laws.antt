@@ -4,7 +4,7 @@ use mathlib.Core.Path.{_≡_, refl, sym, _∙_, ap, subst}
 use mathlib.Core.Bool.{true, false, cond, _&&_}
 use mathlib.Core.List.{List, [], _∷_}
 use Prim.Native.Nat.{ℕ, zero, suc, _+_, _-_, _≤_, _<_, min}
-use native.Mathlib.Nat.{add-zero, suc-min-suc, zero-min, min-zero}
+use native.Mathlib.Nat.{add-zero, add-suc, suc-add, suc-min-suc, zero-min, min-zero}
 use native.Mathlib.Numerals.{add-one}
 use native.Mathlib.Omega.{arith}
 use borrow.Author.Tests.{ne-eqb}
@@ -40,9 +40,6 @@ first-CR x (y ∷ s) h = ap (λ b. b && eqb y LF) h
 pub none-here : (s : List ℕ) (i : ℕ) → i < length s → (getD s i 0 ≡ CR → ⊥) → crlf (drop i s) ≡ false
 none-here s i h f = ap crlf (drop-cons s i 0 h) ∙ first-CR (getD s i 0) (drop (suc i) s) (ne-eqb (getD s i 0) CR f)
 
-add-suc-left : (m n : ℕ) → suc m + n ≡ m + suc n
-add-suc-left m n = omega arith
-
 -- looking no further than the end is no loss
 reach-min : (n : ℕ) (s : List ℕ) → reach n s ≡ reach (min (length s) n) s
 reach-min zero s = sym (ap (λ k. reach k s) (min-zero (length s)))
@@ -74,7 +71,7 @@ one-more n s at h f =
 pub looked-next : {s : List ℕ} {start last at : ℕ} → Looked s start last at → at < last → crlf (drop at s) ≡ false → Looked s start last (at + 1)
 looked-next {s} {start} {last} {at} l h f = record {
   so = l .so ∙ ap (λ n. at + reach n (drop at s)) gap ∙ ap (λ n. at + n) (one-more (last - (at + 1)) s at (omega (arith, h, l .inside)) f)
-      ∙ sym (add-suc-left at (reach (last - (at + 1)) (drop (suc at) s))) ∙ ap (λ n. n + reach (last - (at + 1)) (drop n s)) (sym (add-one at));
+      ∙ add-suc at (reach (last - (at + 1)) (drop (suc at) s)) ∙ sym (suc-add at (reach (last - (at + 1)) (drop (suc at) s))) ∙ ap (λ n. n + reach (last - (at + 1)) (drop n s)) (sym (add-one at));
   below = omega (arith, h);
   inside = l .inside;
 }
