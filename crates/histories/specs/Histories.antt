@@ -1,4 +1,4 @@
--- A history of one pair, in the page's words.
+-- Histories of one pair, and the verdict and the duty of an event over them.
 use Prim.Native.Nat.{ℕ, suc}
 use mathlib.Core.Path.{_≡_}
 use mathlib.Core.Logic.{_↔_}

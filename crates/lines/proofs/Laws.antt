@@ -63,6 +63,10 @@ looked-start s start last h e = record {
     gap : min (length (drop start s)) tooLong ≡ last - start
     gap = subst (λ n. min (length (drop start s)) tooLong ≡ n - start) (sym e) (omega arith)
 
+-- a place before the last leaves one byte more to look at than the next place
+one-left : (last at : ℕ) → at < last → last - at ≡ suc (last - (at + 1))
+one-left last at h = omega (arith, h)
+
 one-more : (n : ℕ) (s : List ℕ) (at : ℕ) → at < length s → crlf (drop at s) ≡ false → reach (suc n) (drop at s) ≡ suc (reach n (drop (suc at) s))
 one-more n s at h f =
     ap (reach (suc n)) (drop-cons s at 0 h)
@@ -70,21 +74,15 @@ one-more n s at h f =
 
 pub looked-next : {s : List ℕ} {start last at : ℕ} → Looked s start last at → at < last → crlf (drop at s) ≡ false → Looked s start last (at + 1)
 looked-next {s} {start} {last} {at} l h f = record {
-  so = l .so ∙ ap (λ n. at + reach n (drop at s)) gap ∙ ap (λ n. at + n) (one-more (last - (at + 1)) s at (omega (arith, h, l .inside)) f)
+  so = l .so ∙ ap (λ n. at + reach n (drop at s)) (one-left last at h) ∙ ap (λ n. at + n) (one-more (last - (at + 1)) s at (omega (arith, h, l .inside)) f)
       ∙ add-suc at (reach (last - (at + 1)) (drop (suc at) s)) ∙ sym (suc-add at (reach (last - (at + 1)) (drop (suc at) s))) ∙ ap (λ n. n + reach (last - (at + 1)) (drop n s)) (sym (add-one at));
   below = omega (arith, h);
   inside = l .inside;
 }
-  where
-    gap : last - at ≡ suc (last - (at + 1))
-    gap = omega (arith, h)
 
 pub looked-here : {s : List ℕ} {start last at : ℕ} → Looked s start last at → at < last → crlf (drop at s) ≡ true → at ≡ lineEnd s start
-looked-here {s} {start} {last} {at} l h t = sym (l .so ∙ ap (λ n. at + reach n (drop at s)) gap ∙ ap (λ n. at + n) here ∙ add-zero at)
+looked-here {s} {start} {last} {at} l h t = sym (l .so ∙ ap (λ n. at + reach n (drop at s)) (one-left last at h) ∙ ap (λ n. at + n) here ∙ add-zero at)
   where
-    gap : last - at ≡ suc (last - (at + 1))
-    gap = omega (arith, h)
-
     here : reach (suc (last - (at + 1))) (drop at s) ≡ 0
     here =
         ap (reach (suc (last - (at + 1)))) (drop-cons s at 0 (omega (arith, h, l .inside)))

@@ -25,16 +25,17 @@ none-come : (h : Held) (input : List ℕ) → h .going ≡ false → [] ≡ toCo
 unfolding toCome
 none-come h input e = sym (ap (λ b. cond b (answers (h .lines) (h .table) (linesOf (h .rest ++ input))) []) e)
 
+-- a choice between one thing and itself
+pub either {ℓ} : {A : Type ℓ} (b : Bool) (x : A) → cond b x x ≡ x
+either true x = refl
+either false x = refl
+
 all-taken : (h : Held) → h .rest ≡ [] → 0 < h .lines → [] ≡ toCome h []
 unfolding toCome
 all-taken h e k =
     sym (ap (λ (s : List ℕ). cond (h .going) (answers (h .lines) (h .table) (linesOf (s ++ []))) []) e
     ∙ ap (λ b. cond (h .going) (cond b (refusedLine 6 1) []) []) (ne-eqb (h .lines) 0 (λ z. omega (arith, k, z)))
-    ∙ either (h .going))
-  where
-    either : (b : Bool) → _≡_ {A = List ℕ} (cond b [] []) []
-    either true = refl
-    either false = refl
+    ∙ either (h .going) [])
 
 -- an eaten piece: what was put, and then what is still to come
 eaten-come : (ended : Bool) (space : ℕ) (h : Held) (more : List ℕ) → (ended ≡ true → more ≡ [])

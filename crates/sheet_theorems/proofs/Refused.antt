@@ -21,6 +21,7 @@ use Rattle.parser.proofs.Events.{parsed-ill, parsed-high, parsed-fine}
 use Rattle.replies.specs.Replies.{refusedLine}
 use Rattle.sheet.specs.Sheet.{Told, told, refuse, header, longest, mostLines, onHeader, onParsed, onLine, answers, startTable}
 use Rattle.sheet.proofs.Bites.{tooLongTold, long-told}
+use Rattle.sheet.proofs.Runs.{either}
 use Rattle.sheet_theorems.specs.Good.{eventsOf, good, AllGood, answerLines}
 use Rattle.sheet_theorems.specs.Refused.{RefusedWith, not-header, too-many, too-long, ill-formed, high-pair, LineIs, is-header, is-good, is-refused, SheetSays, no-lines, no-header, all-answered, refused}
 use Rattle.sheet_theorems.proofs.Answers.{line-is-read, counted, good-then-more, good-alone, lines-number}
@@ -89,17 +90,13 @@ read k line q r =
     ap (λ b. cond b 7 (cond (ltb longest (length line)) 7 (cond (wellFormed line) 3 8))) (le-ltb mostLines (k + 1) (omega (arith, q)))
     ∙ ap (λ b. cond b 7 (cond (wellFormed line) 3 8)) (le-ltb longest (length line) r)
 
-either : (b : Bool) → _≡_ {A = ℕ} (cond b 7 7) 7
-either true = refl
-either false = refl
-
 its-number : {k : ℕ} {line : List ℕ} {n : ℕ} → RefusedWith k line n → number k line ≡ n
 unfolding number
 its-number {k} {line} (not-header p q) =
     ap (λ b. cond b 6 (cond (ltb mostLines (k + 1)) 7 (cond (ltb longest (length line)) 7 (cond (wellFormed line) 3 8)))) (eq-eqb k 0 p)
 its-number {k} {line} (too-many p q) =
     behind k line p ∙ ap (λ b. cond b 7 (cond (ltb longest (length line)) 7 (cond (wellFormed line) 3 8))) (lt-ltb mostLines (k + 1) (omega (arith, q)))
-its-number {k} {line} (too-long p q) = behind k line p ∙ ap (λ b. cond (ltb mostLines (k + 1)) 7 (cond b 7 (cond (wellFormed line) 3 8))) (lt-ltb longest (length line) q) ∙ either (ltb mostLines (k + 1))
+its-number {k} {line} (too-long p q) = behind k line p ∙ ap (λ b. cond (ltb mostLines (k + 1)) 7 (cond b 7 (cond (wellFormed line) 3 8))) (lt-ltb longest (length line) q) ∙ either (ltb mostLines (k + 1)) 7
 its-number {k} {line} (ill-formed p q r s) = behind k line p ∙ read k line q r ∙ ap (λ b. cond b 3 8) s
 its-number {k} {line} (high-pair p q r s t) = behind k line p ∙ read k line q r ∙ ap (λ b. cond b 3 8) s
 
