@@ -34,13 +34,13 @@ pub record SomeHistory (start : ℕ) (es : List (List ℕ)) : Type 0 where
   pub end : ℕ
   pub history : History start es end
 
--- the verdict of an event that some history reaches, or none, and that some history passes, or none
+-- the verdict of an event, by whether some history reaches it and whether some history passes it
 pub data VerdictIs (Reaches Passes : Type 0) : ℕ → Type 0 where
   passed : Passes → VerdictIs Reaches Passes explained
   stopped : Reaches → (Passes → ⊥) → VerdictIs Reaches Passes unexplained
   not-reached : (Reaches → ⊥) → VerdictIs Reaches Passes notJudged
 
--- d is the definition's duty byte of event e, asked of the set before: the states in which the histories end that reach it
+-- d is the duty byte of event e, asked of the set before it: the states in which histories reach it
 pub record DutyIs (ReachesIn : ℕ → Type 0) (e : List ℕ) (d : ℕ) : Type 0 where
   pub before : ℕ
   pub exactly : (s : ℕ) → bit before s ≡ true ↔ ReachesIn s
