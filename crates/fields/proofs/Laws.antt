@@ -10,8 +10,8 @@ use borrow.Author.Tests.{le-leb, lt-leb, leb-true, leb-false, eq-eqb, ne-eqb}
 use lib.Dec.{eqb, leb, leb·zero, leb·suc-suc}
 use lib.ListN.{length, take, drop, getD, length-drop, drop-of-length-le}
 use lib.Seq.{drop-cons, drop-drop}
-use Rattle.text.specs.Text.{comma}
-use Rattle.fields.specs.Fields.{field, onFirst, fieldsOf, fieldsFrom, fieldEnd}
+use Rattle.text.specs.Text.{comma, onFirst}
+use Rattle.fields.specs.Fields.{field, fieldsOf, fieldsFrom, fieldEnd}
 
 -- where nothing is left, the field ends at once
 pub end-at-end : (line : List ℕ) (at : ℕ) → length line ≤ at → fieldEnd line at ≡ at

@@ -4,17 +4,12 @@ use mathlib.Core.Bool.{cond}
 use mathlib.Core.List.{List, [], _∷_}
 use lib.Dec.{eqb, leb}
 use lib.ListN.{length, drop}
-use Rattle.text.specs.Text.{comma}
+use Rattle.text.specs.Text.{comma, onFirst}
 
 -- the bytes before the first comma, or all of them
 abbrev pub field : List ℕ → List ℕ
 field [] = []
 field (x ∷ s) = cond (eqb x comma) [] (x ∷ field s)
-
--- a byte put in front of the first field
-abbrev pub onFirst : ℕ → List (List ℕ) → List (List ℕ)
-onFirst x [] = (x ∷ []) ∷ []
-onFirst x (f ∷ fs) = (x ∷ f) ∷ fs
 
 -- the fields of a line: parted by commas, at least one
 abbrev pub fieldsOf : List ℕ → List (List ℕ)

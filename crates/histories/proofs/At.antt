@@ -1,27 +1,25 @@
 -- Event k of an accepted trace: the set of its pair before it and after it, its byte in each output, and its verdict, over histories.
 -- Assumes nothing.
 use mathlib.Core.Path.{_≡_, refl, sym, _∙_, ap, subst}
-use mathlib.Core.Bool.{Bool, true, false}
+use mathlib.Core.Logic.{_↔_}
 use mathlib.Core.List.{List, [], _∷_, _++_, append-nil}
 use Prim.Native.Nat.{ℕ, suc, _+_, _-_, _<_, _≤_}
 use native.Mathlib.Nat.{zero-add}
 use native.Mathlib.Numerals.{add-one}
 use native.Mathlib.Omega.{arith}
-use borrow.Author.Tests.{eqb-true, eqb-false}
-use lib.Dec.{eqb}
 use lib.ListN.{length, getD}
 use Rattle.kinds.specs.Places.{setIn, pairIn, eventIn}
-use Rattle.sets.proofs.Laws.{Held, held-some, some-held}
+use Rattle.sets.proofs.Laws.{Held}
 use Rattle.event.specs.Refusals.{Issue}
 use Rattle.verdicts.specs.Verdicts.{afterSet, verdict}
-use Rattle.verdicts.proofs.Laws.{after-below, is-explained, is-unexplained, is-not-judged}
 use Rattle.trace.specs.Events.{eventAt, eventsFrom, run, outputs}
 use Rattle.trace.specs.Lent.{Lent, count}
 use Rattle.trace.specs.Given.{GoodSoFar}
 use Rattle.trace.specs.Judged.{trace}
-use Rattle.histories.specs.Histories.{own, first, SomeHistory, Passes, VerdictGiven, passed, stopped, not-reached}
-use Rattle.histories.proofs.Walk.{walk, walk-below, walk-append, ends, ends-in, walk-empty}
+use Rattle.histories.specs.Histories.{own, first, SomeHistoryTo, Passes, VerdictGiven}
+use Rattle.histories.proofs.Walk.{walk, walk-below, walk-append, some-ends, walk-empty}
 use Rattle.histories.proofs.Own.{own-same, own-other, own-append, eventsFrom-append, run-own, output-at}
+use Rattle.histories.proofs.Verdicts.{verdict-is, is-verdict}
 
 -- the set of pair p after its events among the first k
 abbrev pub setBefore : Lent → ℕ → ℕ → ℕ
@@ -65,12 +63,12 @@ set-lost l p k j h z =
     split : (a b : ℕ) → a ≤ b → b ≡ a + (b - a)
     split a b le = omega arith
 
--- a state of the set, and a history that ends there
-pub held-history : (l : Lent) (p k : ℕ) → Held (setBefore l p k) → SomeHistory l p k
-held-history l p k h = record { end = h .state; history = ends (setIn (l .table) p) (own p (first l k)) (h .state) (h .inside) }
+-- histories reach event k exactly when the set before it holds a state, and pass it exactly when the set after it does
+pub reached-held : (l : Lent) (p k : ℕ) → Held (setBefore l p k) ↔ SomeHistoryTo l p k
+reached-held l p k = some-ends (setIn (l .table) p) (own p (first l k))
 
-pub history-held : {l : Lent} {p k : ℕ} → SomeHistory l p k → Held (setBefore l p k)
-history-held {l} {p} {k} h = record { state = h .end; inside = ends-in (setIn (l .table) p) (own p (first l k)) (h .end) (h .history) }
+passed-held : (l : Lent) (k : ℕ) → Held (afterSet (eventIn (l .events) k) (setBefore l (pairIn (l .pairs) k) k)) ↔ Passes l k
+passed-held l k = subst (λ m. Held m ↔ Passes l k) (set-next l k) (reached-held l (pairIn (l .pairs) k) (suc k))
 
 -- EVENT k OF A TRACE THAT IS ACCEPTED.
 module _ (issue : Issue) (l : Lent) (good : GoodSoFar issue l (count l)) where
@@ -99,43 +97,13 @@ module _ (issue : Issue) (l : Lent) (good : GoodSoFar issue l (count l)) where
 
   -- the verdict of an event, both ways
   pub verdict-given : (k : ℕ) → k < count l → VerdictGiven l k (getD (outputs verdict (l .table) (trace l)) k 0)
-  verdict-given k h = subst (VerdictGiven l k) (sym (byte-at verdict k h)) (go (eqb m 0) (eqb (afterSet e m) 0) refl refl)
-    where
-      e : List ℕ
-      e = eventIn (l .events) k
-
-      m : ℕ
-      m = setBefore l (pairIn (l .pairs) k) k
-
-      below : m < 128
-      below = set-below (pairIn (l .pairs) k) k (pair-in k h)
-
-      pass : Held (afterSet e m) → Passes l k
-      pass x = held-history l (pairIn (l .pairs) k) (suc k) (subst Held (sym (set-next l k)) x)
-
-      no-pass : eqb (afterSet e m) 0 ≡ true → Passes l k → ⊥
-      no-pass q s = held-some (subst Held (set-next l k) (history-held s)) (eqb-true (afterSet e m) 0 q)
-
-      go : (a b : Bool) → eqb m 0 ≡ a → eqb (afterSet e m) 0 ≡ b → VerdictGiven l k (verdict e m)
-      go a false p q =
-          let x = some-held (afterSet e m) (after-below e m) (eqb-false (afterSet e m) 0 q) in
-          subst (VerdictGiven l k) (sym (is-explained e m below x)) (passed (pass x))
-      go false true p q =
-          let x = some-held m below (eqb-false m 0 p) in
-          subst (VerdictGiven l k) (sym (is-unexplained e m below x (λ y. held-some y (eqb-true (afterSet e m) 0 q))))
-          (stopped (held-history l (pairIn (l .pairs) k) k x) (no-pass q))
-      go true true p q =
-          subst (VerdictGiven l k) (sym (is-not-judged e m below (λ x. held-some x (eqb-true m 0 p))))
-          (not-reached (λ s. held-some (history-held s) (eqb-true m 0 p)))
+  verdict-given k h =
+      let p = pairIn (l .pairs) k in
+      subst (VerdictGiven l k) (sym (byte-at verdict k h))
+      (verdict-is (eventIn (l .events) k) (setBefore l p k) (set-below p k (pair-in k h)) (reached-held l p k) (passed-held l k))
 
   pub gives-verdict : (k : ℕ) → k < count l → {v : ℕ} → VerdictGiven l k v → getD (outputs verdict (l .table) (trace l)) k 0 ≡ v
-  gives-verdict k h (passed s) =
+  gives-verdict k h g =
+      let p = pairIn (l .pairs) k in
       byte-at verdict k h
-      ∙ is-explained (eventIn (l .events) k) (setBefore l (pairIn (l .pairs) k) k) (set-below (pairIn (l .pairs) k) k (pair-in k h)) (subst Held (set-next l k) (history-held s))
-  gives-verdict k h (stopped s none) =
-      byte-at verdict k h
-      ∙ is-unexplained (eventIn (l .events) k) (setBefore l (pairIn (l .pairs) k) k) (set-below (pairIn (l .pairs) k) k (pair-in k h)) (history-held s)
-      (λ x. none (held-history l (pairIn (l .pairs) k) (suc k) (subst Held (sym (set-next l k)) x)))
-  gives-verdict k h (not-reached none) =
-      byte-at verdict k h
-      ∙ is-not-judged (eventIn (l .events) k) (setBefore l (pairIn (l .pairs) k) k) (set-below (pairIn (l .pairs) k) k (pair-in k h)) (λ x. none (held-history l (pairIn (l .pairs) k) k x))
+      ∙ is-verdict (eventIn (l .events) k) (setBefore l p k) (set-below p k (pair-in k h)) (reached-held l p k) (passed-held l k) g

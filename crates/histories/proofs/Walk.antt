@@ -1,14 +1,15 @@
 -- The set that events leave of a starting set holds exactly the states in which some history ends.
 -- Assumes nothing.
 use mathlib.Core.Path.{_≡_, refl, _∙_, ap}
+use mathlib.Core.Logic.{_↔_}
 use mathlib.Core.Bool.{true}
 use mathlib.Core.List.{List, [], _∷_, _++_}
 use Prim.Native.Nat.{ℕ, _<_}
 use Rattle.sets.specs.Sets.{bit}
-use Rattle.sets.proofs.Laws.{held-some, none-held}
+use Rattle.sets.proofs.Laws.{Held, held-some, none-held}
 use Rattle.verdicts.specs.Verdicts.{afterSet}
 use Rattle.verdicts.proofs.Laws.{after-below, after-from, from-after, after-some}
-use Rattle.histories.specs.Histories.{Through, done, then, History}
+use Rattle.histories.specs.Histories.{Through, done, then, History, SomeHistory}
 
 -- the set after events, one after another
 abbrev pub walk : ℕ → List (List ℕ) → ℕ
@@ -24,7 +25,7 @@ walk-append m [] fs = refl
 walk-append m (e ∷ es) fs = walk-append (afterSet e m) es fs
 
 -- BOTH WAYS: a state in the set is the end of a history
-pub ends : (m : ℕ) (es : List (List ℕ)) (s′ : ℕ) → bit (walk m es) s′ ≡ true → History m es s′
+ends : (m : ℕ) (es : List (List ℕ)) (s′ : ℕ) → bit (walk m es) s′ ≡ true → History m es s′
 ends m [] s′ h = record { from = s′; in-start = h; way = done }
 ends m (e ∷ es) s′ h =
     let later = ends (afterSet e m) es s′ h in
@@ -36,8 +37,15 @@ way-ends : {es : List (List ℕ)} {s s′ : ℕ} (m : ℕ) → bit m s ≡ true 
 way-ends m h done = h
 way-ends m h (then {e = e} {s = s} {s₁ = s₁} step rest) = way-ends (afterSet e m) (from-after (record { state = s; inside = h; step = step })) rest
 
-pub ends-in : (m : ℕ) (es : List (List ℕ)) (s′ : ℕ) → History m es s′ → bit (walk m es) s′ ≡ true
-ends-in m es s′ h = way-ends m (h .in-start) (h .way)
+-- so a state is in the set exactly when a history ends there, and the set holds one exactly when there is a history
+pub ends-exact : (m : ℕ) (es : List (List ℕ)) (s : ℕ) → bit (walk m es) s ≡ true ↔ History m es s
+ends-exact m es s = (ends m es s, λ h. way-ends m (h .in-start) (h .way))
+
+pub some-ends : (m : ℕ) (es : List (List ℕ)) → Held (walk m es) ↔ SomeHistory m es
+some-ends m es = (
+  λ h. record { end = h .state; history = ends-exact m es (h .state) .0 (h .inside) },
+  λ h. record { state = h .end; inside = ends-exact m es (h .end) .1 (h .history) },
+)
 
 -- from the empty set nothing comes
 pub after-empty : (e : List ℕ) → afterSet e 0 ≡ 0

@@ -4,7 +4,8 @@ use mathlib.Core.Path.{_≡_, refl, sym, _∙_, ap, subst}
 use mathlib.Core.Bool.{true, false, cond, _&&_}
 use mathlib.Core.List.{List, [], _∷_}
 use Prim.Native.Nat.{ℕ, zero, suc, _+_, _-_, _≤_, _<_, min}
-use native.Mathlib.Nat.{add-zero, suc-min-suc, zero-min, min-zero}
+use native.Mathlib.Nat.{add-zero, add-suc, suc-add, suc-min-suc, zero-min, min-zero}
+use native.Mathlib.Numerals.{add-one}
 use native.Mathlib.Omega.{arith}
 use borrow.Author.Tests.{ne-eqb}
 use lib.ListN.{length, getD, drop, drop-of-length-le, length-drop}
@@ -13,9 +14,6 @@ use lib.Dec.{eqb}
 use Rattle.text.specs.Text.{CR, LF}
 use Rattle.lines.specs.Lines.{crlf}
 use Rattle.lines.specs.Seen.{tooLong, reach, lineEnd}
-
-next-place : (n : ℕ) → suc n ≡ n + 1
-next-place n = omega arith
 
 -- fewer than two bytes are no CR LF
 short-none : (s : List ℕ) → length s < 2 → crlf s ≡ false
@@ -32,7 +30,7 @@ none-last s i h = short-none (drop i s) (subst (λ n. n < 2) (sym (length-drop i
 pub crlf-at : (s : List ℕ) (i : ℕ) → i + 1 < length s → eqb (getD s i 0) CR && eqb (getD s (i + 1) 0) LF ≡ crlf (drop i s)
 crlf-at s i h =
     sym (ap crlf (drop-cons s i 0 (omega (arith, h)) ∙ ap (λ r. getD s i 0 ∷ r) (drop-cons s (suc i) 0 (omega (arith, h))))
-    ∙ ap (λ n. eqb (getD s i 0) CR && eqb (getD s n 0) LF) (next-place i))
+    ∙ ap (λ n. eqb (getD s i 0) CR && eqb (getD s n 0) LF) (sym (add-one i)))
 
 -- where no CR stands, no CR LF does
 first-CR : (x : ℕ) (s : List ℕ) → eqb x CR ≡ false → crlf (x ∷ s) ≡ false
@@ -41,9 +39,6 @@ first-CR x (y ∷ s) h = ap (λ b. b && eqb y LF) h
 
 pub none-here : (s : List ℕ) (i : ℕ) → i < length s → (getD s i 0 ≡ CR → ⊥) → crlf (drop i s) ≡ false
 none-here s i h f = ap crlf (drop-cons s i 0 h) ∙ first-CR (getD s i 0) (drop (suc i) s) (ne-eqb (getD s i 0) CR f)
-
-add-suc-left : (m n : ℕ) → suc m + n ≡ m + suc n
-add-suc-left m n = omega arith
 
 -- looking no further than the end is no loss
 reach-min : (n : ℕ) (s : List ℕ) → reach n s ≡ reach (min (length s) n) s
@@ -68,6 +63,10 @@ looked-start s start last h e = record {
     gap : min (length (drop start s)) tooLong ≡ last - start
     gap = subst (λ n. min (length (drop start s)) tooLong ≡ n - start) (sym e) (omega arith)
 
+-- a place before the last leaves one byte more to look at than the next place
+one-left : (last at : ℕ) → at < last → last - at ≡ suc (last - (at + 1))
+one-left last at h = omega (arith, h)
+
 one-more : (n : ℕ) (s : List ℕ) (at : ℕ) → at < length s → crlf (drop at s) ≡ false → reach (suc n) (drop at s) ≡ suc (reach n (drop (suc at) s))
 one-more n s at h f =
     ap (reach (suc n)) (drop-cons s at 0 h)
@@ -75,21 +74,15 @@ one-more n s at h f =
 
 pub looked-next : {s : List ℕ} {start last at : ℕ} → Looked s start last at → at < last → crlf (drop at s) ≡ false → Looked s start last (at + 1)
 looked-next {s} {start} {last} {at} l h f = record {
-  so = l .so ∙ ap (λ n. at + reach n (drop at s)) gap ∙ ap (λ n. at + n) (one-more (last - (at + 1)) s at (omega (arith, h, l .inside)) f)
-      ∙ sym (add-suc-left at (reach (last - (at + 1)) (drop (suc at) s))) ∙ ap (λ n. n + reach (last - (at + 1)) (drop n s)) (next-place at);
+  so = l .so ∙ ap (λ n. at + reach n (drop at s)) (one-left last at h) ∙ ap (λ n. at + n) (one-more (last - (at + 1)) s at (omega (arith, h, l .inside)) f)
+      ∙ add-suc at (reach (last - (at + 1)) (drop (suc at) s)) ∙ sym (suc-add at (reach (last - (at + 1)) (drop (suc at) s))) ∙ ap (λ n. n + reach (last - (at + 1)) (drop n s)) (sym (add-one at));
   below = omega (arith, h);
   inside = l .inside;
 }
-  where
-    gap : last - at ≡ suc (last - (at + 1))
-    gap = omega (arith, h)
 
 pub looked-here : {s : List ℕ} {start last at : ℕ} → Looked s start last at → at < last → crlf (drop at s) ≡ true → at ≡ lineEnd s start
-looked-here {s} {start} {last} {at} l h t = sym (l .so ∙ ap (λ n. at + reach n (drop at s)) gap ∙ ap (λ n. at + n) here ∙ add-zero at)
+looked-here {s} {start} {last} {at} l h t = sym (l .so ∙ ap (λ n. at + reach n (drop at s)) (one-left last at h) ∙ ap (λ n. at + n) here ∙ add-zero at)
   where
-    gap : last - at ≡ suc (last - (at + 1))
-    gap = omega (arith, h)
-
     here : reach (suc (last - (at + 1))) (drop at s) ≡ 0
     here =
         ap (reach (suc (last - (at + 1)))) (drop-cons s at 0 (omega (arith, h, l .inside)))

@@ -8,7 +8,8 @@ use native.Mathlib.Nat.{zero-min, min-zero, suc-min-suc}
 use native.Mathlib.Omega.{arith}
 use lib.ListN.{length, take, drop}
 use lib.Seq.{drop-nil}
-use Rattle.lines.specs.Lines.{crlf, onFirst, linesOf}
+use Rattle.text.specs.Text.{onFirst}
+use Rattle.lines.specs.Lines.{crlf, linesOf}
 use Rattle.lines.specs.Seen.{reach}
 
 -- where CR LF stands at the end of what is reached, that is the first line, and the text goes on behind it

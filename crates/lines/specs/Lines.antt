@@ -3,18 +3,13 @@ use Prim.Native.Nat.{ℕ}
 use mathlib.Core.Bool.{Bool, false, cond, _&&_}
 use mathlib.Core.List.{List, [], _∷_}
 use lib.Dec.{eqb}
-use Rattle.text.specs.Text.{CR, LF}
+use Rattle.text.specs.Text.{CR, LF, onFirst}
 
 -- the bytes begin with CR LF
 abbrev pub crlf : List ℕ → Bool
 crlf [] = false
 crlf (x ∷ []) = false
 crlf (x ∷ y ∷ s) = eqb x CR && eqb y LF
-
--- a byte put in front of the first line
-abbrev pub onFirst : ℕ → List (List ℕ) → List (List ℕ)
-onFirst x [] = (x ∷ []) ∷ []
-onFirst x (l ∷ ls) = (x ∷ l) ∷ ls
 
 -- the lines, without their CR LF; nothing behind the last CR LF is no line
 abbrev pub linesOf : List ℕ → List (List ℕ)

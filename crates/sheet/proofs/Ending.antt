@@ -1,12 +1,12 @@
 -- Every input has turns to the end, where a piece holds enough and the buffer has room for a line: each turn leaves less to do.
 -- Assumes nothing.
 use mathlib.Core.Path.{_≡_, refl, sym, _∙_, ap, ap₂, subst}
-use mathlib.Core.Bool.{Bool, true, false, cond, not, _&&_, _||_, false≢true}
+use mathlib.Core.Bool.{Bool, true, false, cond, not, _&&_, _||_, or-false, Bool·not-not, false≢true}
 use mathlib.Core.List.{List, [], _++_, append-nil}
 use Prim.Native.Nat.{ℕ, zero, suc, _+_, _-_, _≤_, _<_}
-use native.Mathlib.Nat.{le-trans}
+use native.Mathlib.Nat.{le-trans, pos-of-ne-zero}
 use native.Mathlib.Omega.{arith}
-use borrow.Author.Tests.{le-leb, lt-ltb, le-ltb, ltb-true, ltb-false, eq-eqb, ne-eqb, eqb-true, eqb-false}
+use borrow.Author.Tests.{le-leb, lt-ltb, le-ltb, ltb-true, ltb-false, eqb-true, eqb-false}
 use lib.Dec.{eqb, ltb}
 use lib.ListN.{length, take, drop, take-append-drop, length-append, length-take, length-drop}
 use Rattle.kinds.specs.Places.{mostPairs}
@@ -17,7 +17,6 @@ use Rattle.sheet.specs.Pieces.{Held, held, whole, sure, ready, eaten}
 use Rattle.sheet.specs.Runs.{emptied, withPiece, start}
 use Rattle.sheet.specs.Turns.{enough, wanted, isOver, answerWith, Begun, begun, inFront, endedBy, carriedOf, turnLeftBy, last, more, SomeTurns}
 use Rattle.sheet.proofs.Bites.{nothing, size, eaten-less, eaten-not-more}
-use Rattle.sheet.proofs.Laws.{positive}
 use Rattle.sheet.proofs.Turns.{in-front, turn-eats, none-left, begun-start}
 
 -- tests that say the contrary
@@ -33,18 +32,10 @@ some-not n = go (eqb n 0) refl
   where
     go : (b : Bool) → eqb n 0 ≡ b → ltb 0 n ≡ not b
     go true e = le-ltb 0 n (omega (arith, eqb-true n 0 e))
-    go false e = lt-ltb 0 n (positive n (eqb-false n 0 e))
+    go false e = lt-ltb 0 n (pos-of-ne-zero (eqb-false n 0 e))
 
 none-not : (n : ℕ) → eqb n 0 ≡ not (ltb 0 n)
-none-not n = go (ltb 0 n) refl
-  where
-    go : (b : Bool) → ltb 0 n ≡ b → eqb n 0 ≡ not b
-    go true e = ne-eqb n 0 (λ z. omega (arith, z, ltb-true 0 n e))
-    go false e = eq-eqb n 0 (omega (arith, ltb-false 0 n e))
-
-or-false : (b : Bool) → b || false ≡ b
-or-false true = refl
-or-false false = refl
+none-not n = sym (Bool·not-not (eqb n 0)) ∙ ap not (sym (some-not n))
 
 not-yet : (b : Bool) → not b ≡ true → _≡_ {A = ℕ} (cond b 0 1) 1
 not-yet true e = absurd (false≢true e)
@@ -107,7 +98,7 @@ module _ (ended : Bool) (h : Held) (space : ℕ) (arrived : List ℕ) (n : ℕ) 
       let x : _≡_ {A = ℕ} (cond now-ended 0 1) 0 = ap (λ b. cond b 0 1) (or-right ended _ (and-both w e)) in
       omega (arith, not-more, x, not-yet ended (and-left (not ended) _ w), eqb-true (length arrived) 0 e)
   by-read false e w =
-      omega (arith, not-more, at-most-one now-ended, not-yet ended (and-left (not ended) _ w), positive (length arrived) (eqb-false (length arrived) 0 e))
+      omega (arith, not-more, at-most-one now-ended, not-yet ended (and-left (not ended) _ w), pos-of-ne-zero (eqb-false (length arrived) 0 e))
 
   -- none was
   by-line : wanted (carriedOf ended h) ≡ false → toDo now-ended (size after) n < toDo ended (size h) (length arrived + n)

@@ -3,8 +3,9 @@
 use mathlib.Core.Path.{_≡_, refl, sym, _∙_, ap, ap₂, subst}
 use mathlib.Core.Bool.{Bool, true, false, cond, _&&_, _||_, false≢true}
 use mathlib.Core.List.{List, [], _++_, append-nil}
-use Prim.Native.Nat.{ℕ, zero, suc, _+_, _-_, _≤_, _<_, _^_, min}
-use native.Mathlib.Nat.{add-zero, zero-add, add-assoc, add-comm, le-of-eq}
+use Prim.Native.Nat.{ℕ, suc, _+_, _-_, _≤_, _<_, _^_, min}
+use native.Mathlib.Nat.{add-zero, zero-add, add-assoc, add-comm, le-of-eq, le-antisymm, add-sub-cancel-left, pos-of-ne-zero}
+use native.Mathlib.Numerals.{add-one}
 use native.Mathlib.Omega.{arith}
 use borrow.Author.Tests.{leb-true, leb-false, le-leb, lt-leb, lt-ltb, le-ltb, ltb-false, eq-eqb, ne-eqb, eqb-true}
 use lib.Dec.{eqb, leb, ltb}
@@ -142,10 +143,7 @@ pub record OneMore (ended : Bool) (piece out₀ table out : List ℕ) (taken₀ 
 module _ {ended : Bool} {piece out₀ : List ℕ} {h₀ : Held} {table out : List ℕ} {taken₀ put lines : ℕ} {going : Bool} {next : Next} {r : Answered} {table′ out′ : List ℕ} {lines′ : ℕ}
     (e : Eating ended piece out₀ h₀ table out taken₀ put lines going) (o : OneMore ended piece out₀ table out taken₀ put lines going next r table′ out′ lines′) where
   line : take (next .end - taken₀) (drop taken₀ piece) ≡ nextLine (drop taken₀ piece)
-  line = ap (λ n. take n (drop taken₀ piece)) (ap (λ (x : Next). x .end - taken₀) (o .is-next) ∙ plus-minus taken₀ (reach tooLong (drop taken₀ piece)))
-    where
-      plus-minus : (m n : ℕ) → m + n - m ≡ n
-      plus-minus m n = omega arith
+  line = ap (λ n. take n (drop taken₀ piece)) (ap (λ (x : Next). x .end - taken₀) (o .is-next) ∙ add-sub-cancel-left taken₀ (reach tooLong (drop taken₀ piece)))
 
   abbrev t : Told
   t = onLine lines table (nextLine (drop taken₀ piece))
@@ -338,8 +336,7 @@ answer-put k at n table out out′ table′ e found before pos few roomy zero-is
     is-found = f ∙ ap (finding (e .event)) b
 
 pub positive : (n : ℕ) → (n ≡ 0 → ⊥) → 0 < n
-positive zero f = absurd (f refl)
-positive (suc n) f = omega arith
+positive n f = pos-of-ne-zero f
 
 -- where the next line ends, it lies in the piece
 pub next-end : (ended : Bool) (lines start : ℕ) (piece : List ℕ) (next : Next) → start ≤ length piece → next ≡ nextIn ended lines piece start
@@ -392,20 +389,14 @@ module _ {text : List ℕ} {count : ℕ} {buffer₀ buffer : List ℕ} {at : ℕ
     so = ap₂ (λ (s : List ℕ) (y : ℕ). set s at y) (p .so ∙ pasted text buffer₀ at) e
         ∙ ap (λ n. set (paste buffer₀ 0 text at) n (getD text at 0)) (sym (zero-add at))
         ∙ paste-suc buffer₀ 0 text at 0 (omega (arith, p .fits, k)) (omega (arith, p .long, k))
-        ∙ sym (pasted text buffer₀ (suc at)) ∙ ap (λ n. take n text ++ drop n buffer₀) (next-one at);
+        ∙ sym (pasted text buffer₀ (suc at)) ∙ ap (λ n. take n text ++ drop n buffer₀) (sym (add-one at));
     below = omega (arith, k);
     long = p .long;
     fits = p .fits;
   }
-    where
-      next-one : (n : ℕ) → suc n ≡ n + 1
-      next-one n = omega arith
 
   pub pasting-end : count ≤ at → buffer ≡ take count text ++ drop count buffer₀
-  pasting-end h = p .so ∙ ap (λ n. take n text ++ drop n buffer₀) (same-place at count (p .below) h)
-    where
-      same-place : (a b : ℕ) → a ≤ b → b ≤ a → a ≡ b
-      same-place a b q r = omega (arith, q, r)
+  pasting-end h = p .so ∙ ap (λ n. take n text ++ drop n buffer₀) (le-antisymm (p .below) h)
 
 pub part-long : (piece : List ℕ) (start count : ℕ) → start + count ≤ length piece → count ≤ length (drop start piece)
 part-long piece start count h = subst (λ n. count ≤ n) (sym (length-drop start piece)) (omega (arith, h))

@@ -4,6 +4,7 @@ use mathlib.Core.Path.{_≡_, refl, sym, _∙_, ap, subst}
 use mathlib.Core.Bool.{Bool, true, false, cond, _&&_, _||_, false≢true}
 use mathlib.Core.List.{List, [], _++_, append-nil, append-assoc}
 use Prim.Native.Nat.{ℕ, zero, suc, _≤_, _<_}
+use native.Mathlib.Nat.{pos-of-ne-zero}
 use native.Mathlib.Omega.{arith}
 use borrow.Author.Tests.{ne-eqb, ltb-false, eqb-false}
 use lib.Dec.{eqb, ltb}
@@ -24,16 +25,17 @@ none-come : (h : Held) (input : List ℕ) → h .going ≡ false → [] ≡ toCo
 unfolding toCome
 none-come h input e = sym (ap (λ b. cond b (answers (h .lines) (h .table) (linesOf (h .rest ++ input))) []) e)
 
+-- a choice between one thing and itself
+pub either {ℓ} : {A : Type ℓ} (b : Bool) (x : A) → cond b x x ≡ x
+either true x = refl
+either false x = refl
+
 all-taken : (h : Held) → h .rest ≡ [] → 0 < h .lines → [] ≡ toCome h []
 unfolding toCome
 all-taken h e k =
     sym (ap (λ (s : List ℕ). cond (h .going) (answers (h .lines) (h .table) (linesOf (s ++ []))) []) e
     ∙ ap (λ b. cond (h .going) (cond b (refusedLine 6 1) []) []) (ne-eqb (h .lines) 0 (λ z. omega (arith, k, z)))
-    ∙ either (h .going))
-  where
-    either : (b : Bool) → _≡_ {A = List ℕ} (cond b [] []) []
-    either true = refl
-    either false = refl
+    ∙ either (h .going) [])
 
 -- an eaten piece: what was put, and then what is still to come
 eaten-come : (ended : Bool) (space : ℕ) (h : Held) (more : List ℕ) → (ended ≡ true → more ≡ [])
@@ -74,12 +76,8 @@ not-ready h e = go (h .going) refl (whole (h .rest)) (ltb tooLong (length (h .re
     go true f false false false g true k q = absurd (false≢true (sym q))
     go true f false false false g false k q = record {
       out = [];
-      run = done (nothing (h .rest) (ltb-false 0 (length (h .rest)) g)) (positive (h .lines) (eqb-false (h .lines) 0 k));
+      run = done (nothing (h .rest) (ltb-false 0 (length (h .rest)) g)) (pos-of-ne-zero (eqb-false (h .lines) 0 k));
     }
-      where
-        positive : (n : ℕ) → (n ≡ 0 → ⊥) → 0 < n
-        positive zero p = absurd (p refl)
-        positive (suc n) p = omega arith
 
 finish : (n : ℕ) (h : Held) (b : Bool) → ready true room (emptied h) ≡ b → size h ≤ n → SomeRun h []
 unfolding size

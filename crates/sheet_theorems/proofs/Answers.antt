@@ -4,7 +4,7 @@ use mathlib.Core.Path.{_≡_, refl, sym, _∙_, ap, ap₂}
 use mathlib.Core.Bool.{true, cond}
 use mathlib.Core.List.{List, [], _∷_, _++_, append-nil, append-assoc}
 use Prim.Native.Nat.{ℕ, suc, _+_, _-_, _≤_, _<_}
-use native.Mathlib.Nat.{add-zero}
+use native.Mathlib.Nat.{add-zero, add-sub-cancel-left}
 use native.Mathlib.Omega.{arith}
 use borrow.Author.Tests.{eqb-true, eq-eqb, ne-eqb, leb-true, le-ltb}
 use lib.Dec.{eqb, ltb, leb}
@@ -54,6 +54,10 @@ others-good {k} {line} {lines} g = record {
   each-good = and-right (good line) (all good lines) (g .each-good);
 }
 
+-- lines counted from the one behind the first
+pub counted : (a b : ℕ) → a + 1 + b ≡ a + suc b
+counted a b = omega arith
+
 -- GOOD LINES, and then more
 pub good-then-more : (k : ℕ) (table : List ℕ) (lines more : List (List ℕ)) → AllGood k lines
     → answers k table (lines ++ more) ≡ answerLines (k - 1) table (eventsOf lines) ++ answers (k + length lines) (run table (eventsOf lines)) more
@@ -73,9 +77,6 @@ good-then-more k table (line ∷ lines) more g =
     one-on : (n : ℕ) → 0 < n → n + 1 - 1 ≡ n - 1 + 1
     one-on n h = omega (arith, h)
 
-    counted : (n m : ℕ) → n + 1 + m ≡ n + suc m
-    counted n m = omega arith
-
 -- good lines, and nothing behind them
 pub good-alone : (k : ℕ) (table : List ℕ) (lines : List (List ℕ)) → AllGood k lines → answers k table lines ≡ answerLines (k - 1) table (eventsOf lines)
 good-alone k table lines g =
@@ -93,13 +94,14 @@ answer-between n table (y ∷ xs) x ys =
     ap (λ (s : List ℕ). answerLine n (foundOn table y) ++ s) (answer-between (n + 1) (moved table y) xs x ys)
     ∙ ap (λ (i : ℕ). answerLine n (foundOn table y) ++ (answerLines (n + 1) (moved table y) xs ++ (answerLine i (foundOn (run (moved table y) xs) x) ++ answerLines (i + 1) (moved (run (moved table y) xs) x) ys))) (counted n (length xs))
     ∙ sym (append-assoc (answerLine n (foundOn table y)) (answerLines (n + 1) (moved table y) xs) _)
-  where
-    counted : (a b : ℕ) → a + 1 + b ≡ a + suc b
-    counted a b = omega arith
 
 pub events-append : (before more : List (List ℕ)) → eventsOf (before ++ more) ≡ eventsOf before ++ eventsOf more
 events-append [] more = refl
 events-append (line ∷ before) more = ap (λ (xs : List TraceEvent). eventOn line ∷ xs) (events-append before more)
+
+-- the number of the line behind the header and so many lines
+pub lines-number : (n : ℕ) → 1 + n + 1 ≡ n + 2
+lines-number n = omega arith
 
 -- one good line behind others, and what follows it
 pub answer-behind : (table : List ℕ) (before : List (List ℕ)) (line : List ℕ) (more : List (List ℕ)) → AllGood 1 before → good line ≡ true → length before + 1 < mostLines
@@ -110,17 +112,11 @@ answer-behind table before line more g h q =
     good-then-more 1 table before (line ∷ more) g
     ∙ ap (λ (t : Told). answerLines 0 table (eventsOf before) ++ (t .text ++ cond (t .goes) (answers (1 + length before + 1) (t .table) more) []))
     (line-is-good (1 + length before) now line (omega arith) (omega (arith, q)) h)
-    ∙ ap₂ (λ (i n : ℕ). answerLines 0 table (eventsOf before) ++ (answerLine i (foundOn now (eventOn line)) ++ answers n (moved now (eventOn line)) more)) (event-number (length before)) (lines-number (length before))
+    ∙ ap₂ (λ (i n : ℕ). answerLines 0 table (eventsOf before) ++ (answerLine i (foundOn now (eventOn line)) ++ answers n (moved now (eventOn line)) more)) (add-sub-cancel-left 1 (length before)) (lines-number (length before))
     ∙ ap (λ (t : List ℕ). answerLines 0 table (eventsOf before) ++ (answerLine (length before) (foundOn now (eventOn line)) ++ answers (length before + 2) t more)) (sym moves)
   where
     now : List ℕ
     now = run table (eventsOf before)
-
-    event-number : (n : ℕ) → 1 + n - 1 ≡ n
-    event-number n = omega arith
-
-    lines-number : (n : ℕ) → 1 + n + 1 ≡ n + 2
-    lines-number n = omega arith
 
     moves : run table (eventsOf (before ++ (line ∷ []))) ≡ moved now (eventOn line)
     moves = ap (run table) (events-append before (line ∷ [])) ∙ run-append table (eventsOf before) (eventOn line ∷ [])

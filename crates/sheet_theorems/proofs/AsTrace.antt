@@ -4,7 +4,7 @@ use mathlib.Core.Path.{_≡_, refl, sym, _∙_, ap, ap₂, subst}
 use mathlib.Core.Bool.{true}
 use mathlib.Core.List.{List, [], _∷_, _++_, append-assoc}
 use Prim.Native.Nat.{ℕ, zero, suc, _+_, _*_, _/_, _%_, _≤_, _<_}
-use native.Mathlib.Nat.{mul-div-left, mul-mod-left}
+use native.Mathlib.Nat.{add-zero, zero-add, add-suc, suc-add, mul-div-left, mul-mod-left}
 use native.Mathlib.Omega.{arith}
 use lib.ListN.{length, getD, take, length-append}
 use lib.Seq.{take-at, drop-at, getD-at}
@@ -87,21 +87,15 @@ fine-at : {xs : List TraceEvent} (bs ps : List ℕ) (i k : ℕ) → AllFine xs �
     → Fine (eventAt (bs ++ bytesOf xs) (ps ++ pairsOf xs) (i + k))
 fine-at bs ps i k none e f h = absurd (omega arith)
 fine-at bs ps i zero (one {x = x} {xs = xs} g gs) e f h =
-    subst (λ j. Fine (eventAt (bs ++ bytesOf (x ∷ xs)) (ps ++ pairsOf (x ∷ xs)) j)) (plus-none i) (subst Fine (sym (event-here bs ps i x xs e f (g .long))) g)
-  where
-    plus-none : (n : ℕ) → n ≡ n + 0
-    plus-none n = omega arith
+    subst (λ j. Fine (eventAt (bs ++ bytesOf (x ∷ xs)) (ps ++ pairsOf (x ∷ xs)) j)) (sym (add-zero i)) (subst Fine (sym (event-here bs ps i x xs e f (g .long))) g)
 fine-at bs ps i (suc k) (one {x = x} {xs = xs} g gs) e f h =
     subst Fine
     (ap₂ (λ (b p : List ℕ). eventAt b p (suc i + k)) (append-assoc bs (x .bytes) (bytesOf xs)) (append-assoc ps (x .pair ∷ []) (pairsOf xs))
-    ∙ ap (eventAt (bs ++ bytesOf (x ∷ xs)) (ps ++ pairsOf (x ∷ xs))) (one-on i k))
+    ∙ ap (eventAt (bs ++ bytesOf (x ∷ xs)) (ps ++ pairsOf (x ∷ xs))) (suc-add i k ∙ sym (add-suc i k)))
     (fine-at (bs ++ x .bytes) (ps ++ (x .pair ∷ [])) (suc i) k gs
     (omega (arith, length-append bs (x .bytes), e, g .long))
     (omega (arith, length-append ps (x .pair ∷ []), f))
     (omega (arith, h)))
-  where
-    one-on : (a b : ℕ) → suc a + b ≡ a + suc b
-    one-on a b = omega arith
 
 -- THE CALL.
 module _ (lines : List (List ℕ)) (verdicts duties afters : List ℕ) (g : all good lines ≡ true) (few : length lines ≤ mostEvents)
@@ -140,11 +134,8 @@ module _ (lines : List (List ℕ)) (verdicts duties afters : List ℕ) (g : all 
     where
       event-good : (k : ℕ) → k < count l → EventGood issueE l k
       event-good k h =
-          let f = subst (λ j. Fine (eventAt (bytesOf (eventsOf lines)) (pairsOf (eventsOf lines)) j)) (plus k) (fine-at [] [] 0 k (all-fine lines g) refl refl (omega (arith, h, counted, length-events lines))) in
+          let f = subst (λ j. Fine (eventAt (bytesOf (eventsOf lines)) (pairsOf (eventsOf lines)) j)) (zero-add k) (fine-at [] [] 0 k (all-fine lines g) refl refl (omega (arith, h, counted, length-events lines))) in
           record { pair-good = subst (λ n. pairIn (pairsOf (eventsOf lines)) k < n) (sym start-length) (f .pair-in); bytes-good = f .in-range; request-good = f .is-request }
-        where
-          plus : (n : ℕ) → 0 + n ≡ n
-          plus n = omega arith
 
   outcome-so : outcomeOf issueE l ≡ outcome 0 (length lines)
   outcome-so = sym (gives issueE l (accepted good-so-far)) ∙ ap (outcome 0) counted

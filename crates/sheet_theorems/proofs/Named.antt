@@ -1,7 +1,7 @@
 -- The names that an answer writes are those of the states in its set, each of them and no other.
 -- Assumes nothing.
 use mathlib.Core.Path.{_≡_, refl, sym, _∙_, ap}
-use mathlib.Core.Bool.{Bool, true, false, cond, _&&_, _||_}
+use mathlib.Core.Bool.{Bool, true, false, cond, _&&_, _||_, and-true, and-false, or-false}
 use mathlib.Core.List.{List, [], _∷_}
 use Prim.Native.Nat.{ℕ, suc, _<_}
 use lib.ListN.{getD}
@@ -17,18 +17,6 @@ use Rattle.sheet_theorems.specs.Good.{names}
 anyFrom : (List ℕ → Bool) → ℕ → ℕ → List (List ℕ) → Bool
 anyFrom p m n [] = false
 anyFrom p m n (x ∷ xs) = (p x && bit m n) || anyFrom p m (suc n) xs
-
-and-true : (b : Bool) → b && true ≡ b
-and-true true = refl
-and-true false = refl
-
-and-false : (b : Bool) → b && false ≡ false
-and-false true = refl
-and-false false = refl
-
-or-false : (b : Bool) → b || false ≡ b
-or-false true = refl
-or-false false = refl
 
 any-from : (p : List ℕ → Bool) (m n : ℕ) (xs : List (List ℕ)) → any p (namesIn m n xs) ≡ anyFrom p m n xs
 unfolding anyFrom

@@ -3,8 +3,8 @@
 use mathlib.Core.Path.{_≡_, refl, sym, _∙_, ap, subst}
 use mathlib.Core.Bool.{Bool, true, false, cond, true≢false}
 use mathlib.Core.List.{List, [], _∷_, _++_, append-nil}
-use Prim.Native.Nat.{ℕ, zero, suc, _+_, _≤_, _<_}
-use native.Mathlib.Nat.{add-zero}
+use Prim.Native.Nat.{ℕ, _+_, _≤_, _<_}
+use native.Mathlib.Nat.{add-zero, pos-of-ne-zero}
 use native.Mathlib.Omega.{arith}
 use borrow.Author.Tests.{eqb-true, eqb-false, eq-eqb, ne-eqb, ltb-true, ltb-false, lt-ltb, le-ltb, le-leb}
 use lib.Dec.{eqb, ltb}
@@ -21,9 +21,10 @@ use Rattle.parser.proofs.Events.{parsed-ill, parsed-high, parsed-fine}
 use Rattle.replies.specs.Replies.{refusedLine}
 use Rattle.sheet.specs.Sheet.{Told, told, refuse, header, longest, mostLines, onHeader, onParsed, onLine, answers, startTable}
 use Rattle.sheet.proofs.Bites.{tooLongTold, long-told}
+use Rattle.sheet.proofs.Runs.{either}
 use Rattle.sheet_theorems.specs.Good.{eventsOf, good, AllGood, answerLines}
 use Rattle.sheet_theorems.specs.Refused.{RefusedWith, not-header, too-many, too-long, ill-formed, high-pair, LineIs, is-header, is-good, is-refused, SheetSays, no-lines, no-header, all-answered, refused}
-use Rattle.sheet_theorems.proofs.Answers.{line-is-read, good-then-more, good-alone}
+use Rattle.sheet_theorems.proofs.Answers.{line-is-read, counted, good-then-more, good-alone, lines-number}
 
 not-same : (line : List ℕ) → (line ≡ header → ⊥) → same line header ≡ false
 not-same line h = go (same line header) refl
@@ -46,10 +47,6 @@ refused-told {k} {line} table (too-long p q) =
     long-told k table line q ∙ ap (λ b. cond b (refuse 6 0 table) (refuse 7 k table)) (ne-eqb k 0 (λ e. omega (arith, e, p)))
 refused-told {k} {line} table (ill-formed p q r s) = line-is-read k table line p q r ∙ ap (onParsed k table) (parsed-ill line s)
 refused-told {k} {line} table (high-pair p q r s t) = line-is-read k table line p q r ∙ ap (onParsed k table) (parsed-high line s t)
-
-positive : (n : ℕ) → (n ≡ 0 → ⊥) → 0 < n
-positive zero p = absurd (p refl)
-positive (suc n) p = omega arith
 
 -- a line that is read is good or refused
 read-is : (k : ℕ) (line : List ℕ) → 0 < k → k < mostLines → length line ≤ longest → LineIs k line
@@ -75,7 +72,7 @@ pub line-is : (k : ℕ) (line : List ℕ) → LineIs k line
 line-is k line = go (eqb k 0) refl (same line header) refl
   where
     go : (a : Bool) → eqb k 0 ≡ a → (b : Bool) → same line header ≡ b → LineIs k line
-    go false e b f = behind-is k line (positive k (eqb-false k 0 e))
+    go false e b f = behind-is k line (pos-of-ne-zero (eqb-false k 0 e))
     go true e true f = is-header (eqb-true k 0 e) (same-equal line header f)
     go true e false f = is-refused 6 (not-header (eqb-true k 0 e) (λ q. true≢false (sym (ap (λ (l : List ℕ). same l header) q ∙ same-self header) ∙ f)))
 
@@ -93,17 +90,13 @@ read k line q r =
     ap (λ b. cond b 7 (cond (ltb longest (length line)) 7 (cond (wellFormed line) 3 8))) (le-ltb mostLines (k + 1) (omega (arith, q)))
     ∙ ap (λ b. cond b 7 (cond (wellFormed line) 3 8)) (le-ltb longest (length line) r)
 
-either : (b : Bool) → _≡_ {A = ℕ} (cond b 7 7) 7
-either true = refl
-either false = refl
-
 its-number : {k : ℕ} {line : List ℕ} {n : ℕ} → RefusedWith k line n → number k line ≡ n
 unfolding number
 its-number {k} {line} (not-header p q) =
     ap (λ b. cond b 6 (cond (ltb mostLines (k + 1)) 7 (cond (ltb longest (length line)) 7 (cond (wellFormed line) 3 8)))) (eq-eqb k 0 p)
 its-number {k} {line} (too-many p q) =
     behind k line p ∙ ap (λ b. cond b 7 (cond (ltb longest (length line)) 7 (cond (wellFormed line) 3 8))) (lt-ltb mostLines (k + 1) (omega (arith, q)))
-its-number {k} {line} (too-long p q) = behind k line p ∙ ap (λ b. cond (ltb mostLines (k + 1)) 7 (cond b 7 (cond (wellFormed line) 3 8))) (lt-ltb longest (length line) q) ∙ either (ltb mostLines (k + 1))
+its-number {k} {line} (too-long p q) = behind k line p ∙ ap (λ b. cond (ltb mostLines (k + 1)) 7 (cond b 7 (cond (wellFormed line) 3 8))) (lt-ltb longest (length line) q) ∙ either (ltb mostLines (k + 1)) 7
 its-number {k} {line} (ill-formed p q r s) = behind k line p ∙ read k line q r ∙ ap (λ b. cond b 3 8) s
 its-number {k} {line} (high-pair p q r s t) = behind k line p ∙ read k line q r ∙ ap (λ b. cond b 3 8) s
 
@@ -129,10 +122,7 @@ said-answers (all-answered {lines = lines} g) = header-passes lines ∙ good-alo
 said-answers (refused {bad = bad} {number = n} lines more g r) =
     header-passes (lines ++ (bad ∷ more))
     ∙ good-then-more 1 startTable lines (bad ∷ more) g
-    ∙ ap (λ (s : List ℕ). answerLines 0 startTable (eventsOf lines) ++ s) (refused-ends (run startTable (eventsOf lines)) more r ∙ ap (refusedLine n) (counted (length lines)))
-  where
-    counted : (a : ℕ) → 1 + a + 1 ≡ a + 2
-    counted a = omega arith
+    ∙ ap (λ (s : List ℕ). answerLines 0 startTable (eventsOf lines) ++ s) (refused-ends (run startTable (eventsOf lines)) more r ∙ ap (refusedLine n) (lines-number (length lines)))
 
 -- lines behind k others: all good, or good up to one that is refused
 data Split (k : ℕ) : List (List ℕ) → Type 0 where
@@ -153,9 +143,6 @@ split : (k : ℕ) (lines : List (List ℕ)) → 0 < k → k ≤ mostLines → Sp
 split k [] p q = whole (none-good k p q)
 split k (line ∷ lines) p q = go (line-is k line) (λ h. split (k + 1) lines (omega arith) (omega (arith, h)))
   where
-    counted : (a b : ℕ) → a + 1 + b ≡ a + suc b
-    counted a b = omega arith
-
     on : {ls : List (List ℕ)} → k < mostLines → good line ≡ true → Split (k + 1) ls → Split k (line ∷ ls)
     on h g (whole r) = whole (one-more p g r)
     on h g (cut {bad = bad} {n = n} before more r x) =

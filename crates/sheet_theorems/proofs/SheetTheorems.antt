@@ -11,7 +11,8 @@ use native.Mathlib.Omega.{arith}
 use lib.Dec.{leb}
 use lib.ListN.{length, take, drop}
 -- the definitions that the theorems name
-use Rattle.kinds.specs.Tests.{all}
+use Rattle.kinds.specs.Tests.{all, _∈?_}
+use Rattle.kinds.specs.Codes.{states, allStates}
 use Rattle.kinds.specs.Places.{mostPairs, mostEvents, setIn}
 use Rattle.sets.specs.Sets.{setOf, bit}
 use Rattle.rows.specs.Rows.{rows}
@@ -44,7 +45,7 @@ use Rattle.sheet.proofs.Ending.{turns-exist}
 use Rattle.sheet_theorems.proofs.Good.{no-fault, parsed-no-fault}
 use Rattle.sheet_theorems.proofs.Answers.{good-accepted, good-then-more, good-alone, answer-behind}
 use Rattle.sheet_theorems.proofs.Named.{named}
-use Rattle.sheet_theorems.proofs.Reached.{pair-inside, set-exact, shown-exact, verdict-given, gives-verdict, duty-given, duty-none}
+use Rattle.sheet_theorems.proofs.Reached.{seven-states, pair-inside, set-exact, shown-exact, verdict-given, gives-verdict, duty-given, duty-none}
 use Rattle.sheet_theorems.proofs.Refused.{refused-told, line-is, one-number, header-passes, said-answers, some-said}
 use Rattle.sheet_theorems.proofs.AsTrace.{judged-so, spelled-so}
 
@@ -183,6 +184,10 @@ sheet-spells-trace input lines verdicts duties afters e g few v d a =
           ∙ good-alone 1 startTable lines g
           ∙ sym (ap (λ (r : Left). spelled 0 (r .verdicts) (r .duties) (r .afters)) so ∙ spelled-so 0 startTable (eventsOf lines))),
     )
+
+-- EVERY PAIR STARTS FROM ALL SEVEN STATES: the set that the sheet's histories start from holds exactly those.
+pub starts-from-all : (s : ℕ) → bit allStates s ≡ true ↔ s ∈? states ≡ true
+starts-from-all = seven-states
 
 module _ (before : List (List ℕ)) (line : List ℕ) (g : good line ≡ true) where
   -- DEMAND 3 ON THE SHEET: the states that a line's answer shows are exactly those in which some history ends, of the line's pair, from one of

@@ -1,27 +1,17 @@
 -- Histories on a sheet: of one pair, from one of the seven states, through that pair's lines.
 use Prim.Native.Nat.{ℕ}
-use mathlib.Core.Path.{_≡_}
-use mathlib.Core.Logic.{_↔_}
-use mathlib.Core.Bool.{true}
 use mathlib.Core.List.{List, [], _∷_, _++_}
-use Rattle.kinds.specs.Tests.{_∈?_}
-use Rattle.kinds.specs.Codes.{states}
-use Rattle.sets.specs.Sets.{bit}
-use Rattle.steps.specs.Steps.{duty}
-use Rattle.verdicts.specs.Verdicts.{explained, unexplained, notJudged}
-use Rattle.histories.specs.Histories.{own, Through}
+use Rattle.kinds.specs.Codes.{allStates}
+use Rattle.histories.specs.Histories.{own, History, SomeHistory, VerdictIs, DutyIs}
 use Rattle.sheet_theorems.specs.Good.{eventOn, eventsOf}
 
--- a history of pair p through its events among these lines, that ends in s: one of the seven states, and the way from there
-pub record HistoryOn (p : ℕ) (lines : List (List ℕ)) (s : ℕ) : Type 0 where
-  pub from : ℕ
-  pub is-state : from ∈? states ≡ true
-  pub way : Through (own p (eventsOf lines)) from s
+-- a history of pair p through its events among these lines, from one of the seven states, that ends in s
+abbrev pub HistoryOn : ℕ → List (List ℕ) → ℕ → Type 0
+HistoryOn p lines s = History allStates (own p (eventsOf lines)) s
 
 -- there is one
-pub record SomeHistoryOn (p : ℕ) (lines : List (List ℕ)) : Type 0 where
-  pub end : ℕ
-  pub history : HistoryOn p lines end
+abbrev pub SomeHistoryOn : ℕ → List (List ℕ) → Type 0
+SomeHistoryOn p lines = SomeHistory allStates (own p (eventsOf lines))
 
 -- the pair of a line
 abbrev pub pairOn : List ℕ → ℕ
@@ -44,13 +34,9 @@ abbrev pub Passes : List (List ℕ) → List ℕ → Type 0
 Passes before line = SomeHistoryOn (pairOn line) (before ++ (line ∷ []))
 
 -- the verdict of a line, and when it is given
-pub data VerdictOn (before : List (List ℕ)) (line : List ℕ) : ℕ → Type 0 where
-  passed : Passes before line → VerdictOn before line explained
-  stopped : Reaches before line → (Passes before line → ⊥) → VerdictOn before line unexplained
-  not-reached : (Reaches before line → ⊥) → VerdictOn before line notJudged
+abbrev pub VerdictOn : List (List ℕ) → List ℕ → ℕ → Type 0
+VerdictOn before line v = VerdictIs (Reaches before line) (Passes before line) v
 
--- d is the page's duty byte of a line's event, asked of the states in which the histories end that reach it
-pub record DutyOn (before : List (List ℕ)) (line : List ℕ) (d : ℕ) : Type 0 where
-  pub reached : ℕ
-  pub exactly : (s : ℕ) → bit reached s ≡ true ↔ ReachesIn before line s
-  pub says : d ≡ duty (eventOn line .bytes) reached
+-- d is the duty byte of a line's event, asked of the states in which the histories end that reach it
+abbrev pub DutyOn : List (List ℕ) → List ℕ → ℕ → Type 0
+DutyOn before line d = DutyIs (ReachesIn before line) (eventOn line .bytes) d

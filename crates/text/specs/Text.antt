@@ -22,3 +22,8 @@ LF = 10
 
 abbrev pub eol : List ℕ
 eol = CR ∷ LF ∷ []
+
+-- a byte put in front of the first of some texts; alone where there is none
+abbrev pub onFirst : ℕ → List (List ℕ) → List (List ℕ)
+onFirst x [] = (x ∷ []) ∷ []
+onFirst x (t ∷ ts) = (x ∷ t) ∷ ts

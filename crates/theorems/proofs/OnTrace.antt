@@ -5,7 +5,6 @@ use mathlib.Core.Logic.{_↔_, _⊎_, ⊎-elim}
 use mathlib.Core.Bool.{Bool, true, false, cond, not, _&&_}
 use Prim.Native.Nat.{ℕ, suc, _<_}
 use native.Mathlib.Omega.{arith}
-use borrow.Author.Tests.{eq-eqb, ne-eqb}
 use lib.ListN.{length, getD}
 use Rattle.kinds.specs.Codes.{dirty}
 use Rattle.kinds.specs.Places.{setIn}
@@ -21,29 +20,29 @@ use Rattle.trace.specs.Refusals.{outcomeOf}
 use Rattle.trace.specs.Given.{GoodSoFar}
 use Rattle.trace.specs.Judged.{trace, judged, acceptedLeft}
 use Rattle.trace.proofs.Whole.{judged-outcome, judged-accepted, accepted-good}
-use Rattle.histories.specs.Histories.{own, first, HistoryTo, SomeHistory, Passes, VerdictGiven, passed, stopped, not-reached}
-use Rattle.histories.proofs.Walk.{ends, ends-in}
+use Rattle.histories.specs.Histories.{own, first, HistoryTo, SomeHistoryTo, VerdictIs, VerdictGiven, passed, stopped, not-reached}
+use Rattle.histories.proofs.Walk.{ends-exact}
 use Rattle.histories.proofs.Own.{length-run, length-outputs}
-use Rattle.histories.proofs.At.{setBefore, set-lost, set-below, byte-at, after-at, table-at, pair-in, held-history, history-held, verdict-given, gives-verdict}
+use Rattle.histories.proofs.Verdicts.{explained-duty, silent-duty, duty-is}
+use Rattle.histories.proofs.At.{setBefore, set-lost, set-below, byte-at, after-at, table-at, pair-in, reached-held, verdict-given, gives-verdict}
 use Rattle.theorems.specs.Duties.{nonDataError, HomeHolds, RequesterHolds}
 use Rattle.theorems.specs.Traces.{Accepted, verdictAt, dutyAt, afterAt, setAtEnd, pairOf, eventOf, DutySaid, DirtyReaches}
 use Rattle.theorems.proofs.Told.{law, exactly-one, nobody, error-byte, holds-dirty, dirty-held}
 
 -- a state of the set of a pair, and a history of that pair that ends in it
 pub set-history : (l : Lent) (p k s : ℕ) → bit (setBefore l p k) s ≡ true ↔ HistoryTo l p k s
-set-history l p k s = (ends (setIn (l .table) p) (own p (first l k)) s, ends-in (setIn (l .table) p) (own p (first l k)) s)
+set-history l p k = ends-exact (setIn (l .table) p) (own p (first l k))
 
 -- a byte that is a set, read as that set
 pub read-set : (l : Lent) (p k s byte : ℕ) → byte ≡ setBefore l p k → bit byte s ≡ true ↔ HistoryTo l p k s
-read-set l p k s byte h =
-    (λ b. set-history l p k s .0 (ap (λ (m : ℕ). bit m s) (sym h) ∙ b), λ y. ap (λ (m : ℕ). bit m s) h ∙ set-history l p k s .1 y)
+read-set l p k s byte h = subst (λ m. bit m s ≡ true ↔ HistoryTo l p k s) (sym h) (set-history l p k s)
 
 -- a set in which no history ends is empty
-none-ends : (l : Lent) (p k : ℕ) → setBefore l p k < 128 → (SomeHistory l p k → ⊥) → setBefore l p k ≡ 0
-none-ends l p k below none = none-held (setBefore l p k) below (λ h. none (held-history l p k h))
+none-ends : (l : Lent) (p k : ℕ) → setBefore l p k < 128 → (SomeHistoryTo l p k → ⊥) → setBefore l p k ≡ 0
+none-ends l p k below none = none-held (setBefore l p k) below (λ h. none (reached-held l p k .0 h))
 
 -- no history passes an unexplained event
-none-passes : {l : Lent} {k v : ℕ} → VerdictGiven l k v → v ≡ unexplained → Passes l k → ⊥
+none-passes : {Reaches Passes : Type 0} {v : ℕ} → VerdictIs Reaches Passes v → v ≡ unexplained → Passes → ⊥
 none-passes (passed x) h = absurd (omega arith)
 none-passes (stopped x none) h = none
 none-passes (not-reached x) h = absurd (omega arith)
@@ -90,7 +89,7 @@ module _ (l : Lent) (ok : Accepted l) where
 
   -- an event that nothing reaches isn't judged
   pub unreached : (k : ℕ) → k < count l → setBefore l (pairOf l k) k ≡ 0 → verdictAt l k ≡ notJudged
-  unreached k h z = verdicts-left k ∙ gives-verdict issueE l good k h (not-reached (λ s. held-some (history-held s) z))
+  unreached k h z = verdicts-left k ∙ gives-verdict issueE l good k h (not-reached (λ s. held-some (reached-held l (pairOf l k) k .1 s) z))
 
   module _ (k : ℕ) (inside : k < count l) where
     abbrev m : ℕ
@@ -107,15 +106,13 @@ module _ (l : Lent) (ok : Accepted l) where
 
     -- the duty byte of an explained event, and of any other
     explained-byte : verdictAt l k ≡ explained → dutyAt l k ≡ duty (eventOf l k) m
-    unfolding dutyByte
-    explained-byte h = duty-byte ∙ ap (λ (b : Bool). cond b (duty (eventOf l k) m) noDuty) (eq-eqb (verdict (eventOf l k) m) explained (sym verdict-byte ∙ h))
+    explained-byte h = duty-byte ∙ explained-duty (eventOf l k) m (sym verdict-byte ∙ h)
 
     pub silent-byte : (verdictAt l k ≡ explained → ⊥) → dutyAt l k ≡ noDuty
-    unfolding dutyByte
-    silent-byte h = duty-byte ∙ ap (λ (b : Bool). cond b (duty (eventOf l k) m) noDuty) (ne-eqb (verdict (eventOf l k) m) explained (λ z. h (verdict-byte ∙ z)))
+    silent-byte h = duty-byte ∙ silent-duty (eventOf l k) m (λ z. h (verdict-byte ∙ z))
 
     pub said : verdictAt l k ≡ explained → DutySaid l k (dutyAt l k)
-    said h = record { before = m; exactly = set-history l (pairOf l k) k; says = explained-byte h }
+    said h = subst (DutySaid l k) (sym duty-byte) (duty-is (eventOf l k) m (set-history l (pairOf l k) k) (sym verdict-byte ∙ h))
 
     -- an event that a history passes is explained
     pub passes-explained : (s s′ : ℕ) → HistoryTo l (pairOf l k) k s → Step (eventOf l k) s s′ → verdictAt l k ≡ explained

@@ -1,7 +1,6 @@
 -- What the theorems about a whole trace speak of.
 use Prim.Native.Nat.{ℕ}
 use mathlib.Core.Path.{_≡_}
-use mathlib.Core.Logic.{_↔_}
 use mathlib.Core.Bool.{Bool, true, _&&_}
 use mathlib.Core.List.{List, [], _∷_, _++_}
 use lib.Dec.{eqb}
@@ -9,12 +8,10 @@ use lib.ListN.{getD}
 use Rattle.kinds.specs.Codes.{I, allStates, dirty, tagInvalid, opInvalid, OK, SnpShared, SnpClean}
 use Rattle.kinds.specs.Answers.{SnpResp-I, SnpRespData-SC, SnpRespData-SD, SnpRespData-SC-PD}
 use Rattle.kinds.specs.Places.{pairIn, eventIn}
-use Rattle.sets.specs.Sets.{bit}
-use Rattle.steps.specs.Steps.{duty}
 use Rattle.event.specs.Refusals.{issueE}
 use Rattle.trace.specs.Lent.{Lent, lent}
 use Rattle.trace.specs.Judged.{judged}
-use Rattle.histories.specs.Histories.{HistoryTo}
+use Rattle.histories.specs.Histories.{HistoryTo, DutyIs}
 use Rattle.theorems.specs.Notebook.{event, eventTo}
 
 -- the call is accepted: its number is 0
@@ -45,11 +42,9 @@ pairOf l k = pairIn (l .pairs) k
 abbrev pub eventOf : Lent → ℕ → List ℕ
 eventOf l k = eventIn (l .events) k
 
--- d is the page's duty byte of event k, asked of the set before: the states in which the histories end that reach the event
-pub record DutySaid (l : Lent) (k d : ℕ) : Type 0 where
-  pub before : ℕ
-  pub exactly : (s : ℕ) → bit before s ≡ true ↔ HistoryTo l (pairOf l k) k s
-  pub says : d ≡ duty (eventOf l k) before
+-- d is the duty byte of event k, asked of the states in which the histories end that reach it
+abbrev pub DutySaid : Lent → ℕ → ℕ → Type 0
+DutySaid l k d = DutyIs (HistoryTo l (pairOf l k) k) (eventOf l k) d
 
 -- a history that reaches event k with a Dirty line
 pub record DirtyReaches (l : Lent) (k : ℕ) : Type 0 where
