@@ -1,7 +1,7 @@
 -- Laws of the refusals and of the whole answer, over plain variables.
 -- Assumes nothing.
 use mathlib.Core.Path.{_≡_, refl, sym, _∙_, ap, ap₂}
-use mathlib.Core.Bool.{Bool, true, false, cond, _&&_}
+use mathlib.Core.Bool.{Bool, true, false, cond, _&&_, and-assoc, and-true}
 use mathlib.Core.List.{List, [], _∷_, map}
 use Prim.Native.Nat.{ℕ, suc, _+_, _<_, _≤_}
 use native.Mathlib.Numerals.{add-one}
@@ -18,14 +18,6 @@ use Rattle.steps.specs.Steps.{duty, noDuty, setAfter, setsAfter, dutyAlone}
 use Rattle.event.specs.declared.Judgment.{Judgment}
 use Rattle.event.specs.Refusals.{Issue, issueE, below, fault, refusalAlone}
 use Rattle.event.specs.Alone.{sevenZeros, acceptedAlone, refusedAlone, judgedAlone}
-
-and-assoc : (a b c : Bool) → a && b && c ≡ a && (b && c)
-and-assoc true b c = refl
-and-assoc false b c = refl
-
-and-true : (a : Bool) → a && true ≡ a
-and-true true = refl
-and-true false = refl
 
 -- one byte more is tested
 pub below-turn : (e ls : List ℕ) (k : ℕ) (fine : Bool) (b : ℕ) → k < length ls → b ≡ byte e (k + 1) → fine && below e (suc k) (drop k ls) ≡ below e 1 ls

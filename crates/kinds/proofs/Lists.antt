@@ -1,7 +1,7 @@
 -- Laws of tests over lists: what `any` finds, what `all` grants, when two tests or two lists are the same, and the seven states one by one.
 -- Assumes nothing.
 use mathlib.Core.Path.{_≡_, refl, sym, _∙_, ap, ap₂}
-use mathlib.Core.Bool.{Bool, true, false, _&&_, _||_, false≢true}
+use mathlib.Core.Bool.{Bool, true, false, _&&_, _||_, false≢true, or-false, or-assoc}
 use mathlib.Core.List.{List, [], _∷_, _++_, map}
 use Prim.Native.Nat.{ℕ, zero, suc, _<_}
 use native.Mathlib.Omega.{arith}
@@ -92,15 +92,7 @@ module _ {ℓ} {A : Type ℓ} where
   -- one element more
   pub any-snoc : (p : A → Bool) (xs : List A) (x : A) → any p (xs ++ (x ∷ [])) ≡ any p xs || p x
   any-snoc p [] x = or-false (p x)
-    where
-      or-false : (b : Bool) → b || false ≡ b
-      or-false true = refl
-      or-false false = refl
-  any-snoc p (y ∷ ys) x = ap (λ (b : Bool). p y || b) (any-snoc p ys x) ∙ or-assoc (p y) (any p ys) (p x)
-    where
-      or-assoc : (a b c : Bool) → a || (b || c) ≡ a || b || c
-      or-assoc true b c = refl
-      or-assoc false b c = refl
+  any-snoc p (y ∷ ys) x = ap (λ (b : Bool). p y || b) (any-snoc p ys x) ∙ sym (or-assoc (p y) (any p ys) (p x))
 
 -- what each of a list passes, a number that is one of them passes
 pub one-of : (p : ℕ → Bool) (n : ℕ) (ns : List ℕ) → n ∈? ns ≡ true → all p ns ≡ true → p n ≡ true

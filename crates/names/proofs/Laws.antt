@@ -1,7 +1,7 @@
 -- Laws of the names, over plain variables: two lists walked side by side, a column name by name, and digits one by one.
 -- Assumes nothing.
 use mathlib.Core.Path.{_≡_, refl, sym, _∙_, ap, ap₂}
-use mathlib.Core.Bool.{Bool, true, false, cond, not, _&&_, true≢false, false≢true}
+use mathlib.Core.Bool.{Bool, true, false, cond, not, _&&_, true≢false, false≢true, and-assoc, and-true, and-false}
 use mathlib.Core.List.{List, [], _∷_}
 use Prim.Native.Nat.{ℕ, zero, suc, _+_, _-_, _*_, _^_, _<_, _≤_}
 use native.Mathlib.Numerals.{add-one}
@@ -16,24 +16,15 @@ use Rattle.kinds.specs.Answers.{SnpResp-I}
 use Rattle.kinds.proofs.Lists.{and-left, and-right}
 use Rattle.names.specs.Names.{Named, unknown, codeOf, mostDigits, isDigit, leadingZero, isPair, readDecimal, pairOf, answers, answerAt, columns, inColumn}
 
-and-false : (b : Bool) {a : Bool} → a ≡ false → b && a ≡ false
-and-false true h = h
-and-false false h = refl
+and-not : (b : Bool) {a : Bool} → a ≡ false → b && a ≡ false
+and-not b h = ap (λ (a : Bool). b && a) h ∙ and-false b
 
 -- lists of different lengths are not the same
 pub same-other-length : (f n : List ℕ) → (length f ≡ length n → ⊥) → same f n ≡ false
 same-other-length [] [] h = absurd (h refl)
 same-other-length [] (y ∷ ys) h = refl
 same-other-length (x ∷ xs) [] h = refl
-same-other-length (x ∷ xs) (y ∷ ys) h = and-false (eqb x y) (same-other-length xs ys (λ e. h (ap suc e)))
-
-and-true : (a : Bool) → a && true ≡ a
-and-true true = refl
-and-true false = refl
-
-and-assoc : (a b c : Bool) → (a && b) && c ≡ a && (b && c)
-and-assoc true b c = refl
-and-assoc false b c = refl
+same-other-length (x ∷ xs) (y ∷ ys) h = and-not (eqb x y) (same-other-length xs ys (λ e. h (ap suc e)))
 
 -- t says whether two lists of m numbers each are the same up to i
 pub record Alike (f n : List ℕ) (m : ℕ) (t : Bool) (i : ℕ) : Type 0 where
@@ -173,7 +164,7 @@ module _ (f : List ℕ) where
   pub pair-zero : leadingZero f ≡ true → unknown ≡ pairOf f
   unfolding pairOf isPair
   pair-zero h =
-      sym (ap (λ (b : Bool). cond b (readDecimal 0 f) unknown) (and-false (all isDigit f && ltb 0 (length f) && leb (length f) mostDigits) (ap not h)))
+      sym (ap (λ (b : Bool). cond b (readDecimal 0 f) unknown) (and-not (all isDigit f && ltb 0 (length f) && leb (length f) mostDigits) (ap not h)))
 
   pub pair-digits : {x : ℕ} → not (ltb 0 (length f) && leb (length f) mostDigits) ≡ false → leadingZero f ≡ false
       → x ≡ cond (all isDigit f) (readDecimal 0 f) unknown → x ≡ pairOf f

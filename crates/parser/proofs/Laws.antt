@@ -1,7 +1,7 @@
 -- Laws of a line whose fields are taken one after another, and of an event's bytes.
 -- Assumes nothing.
 use mathlib.Core.Path.{_≡_, refl, sym, _∙_, ap, ap₂, subst}
-use mathlib.Core.Bool.{Bool, true, false, cond, _&&_, false≢true}
+use mathlib.Core.Bool.{Bool, true, false, cond, _&&_, false≢true, and-assoc, and-true}
 use mathlib.Core.List.{List, [], _∷_, _++_, map}
 use Prim.Native.Nat.{ℕ, suc, _+_, _-_, _≤_, _<_}
 use native.Mathlib.Numerals.{add-one}
@@ -200,14 +200,6 @@ pub record KnownSoFar (codes : List ℕ) (n : ℕ) (t : Bool) (i : ℕ) : Type 0
 
 pub known-start : (codes : List ℕ) (n : ℕ) → length codes ≡ n → KnownSoFar codes n true 0
 known-start codes n l = record { within = omega arith; long = l; rest = refl }
-
-and-assoc : (a b c : Bool) → (a && b) && c ≡ a && (b && c)
-and-assoc true b c = refl
-and-assoc false b c = refl
-
-and-true : (a : Bool) → a && true ≡ a
-and-true true = refl
-and-true false = refl
 
 pub known-next : {codes : List ℕ} {n : ℕ} {t : Bool} {i : ℕ} → KnownSoFar codes n t i → i < n → KnownSoFar codes n (t && known (getD codes i 0)) (i + 1)
 known-next {codes} {n} {t} {i} k h = record {

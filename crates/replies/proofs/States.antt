@@ -1,7 +1,7 @@
 -- The parts in which the text of a set is put make the text: the names of its states with one space between each two.
 -- Assumes nothing.
 use mathlib.Core.Path.{_≡_, refl, sym, _∙_, ap}
-use mathlib.Core.Bool.{Bool, true, false, cond, _&&_, not}
+use mathlib.Core.Bool.{Bool, true, false, cond, _&&_, not, and-true, and-false}
 use mathlib.Core.List.{List, [], _∷_, _++_, append-nil}
 use Prim.Native.Nat.{ℕ, zero, suc, _+_, _*_, _/_, _%_, _^_, _<_}
 use native.Mathlib.Nat.{mod-lt, mod-one, zero-lt-suc}
@@ -26,15 +26,7 @@ spaced-led name (next ∷ names) = ap (λ (s : List ℕ). name ++ space ∷ s) (
 -- no state before n + 1 is in the set: none before n, and not n
 below : (t r p s : ℕ) → t ≡ s * p + r → 0 < p → s < 2 → eqb t 0 ≡ (eqb r 0 && not (eqb s 1))
 below t r p zero e h k = ap (λ (x : ℕ). eqb x 0) (let f : t ≡ r = omega arith in f) ∙ sym (and-true (eqb r 0))
-  where
-    and-true : (b : Bool) → (b && true) ≡ b
-    and-true true = refl
-    and-true false = refl
 below t r p (suc zero) e h k = ne-eqb t 0 (λ z. omega arith) ∙ sym (and-false (eqb r 0))
-  where
-    and-false : (b : Bool) → (b && false) ≡ false
-    and-false true = refl
-    and-false false = refl
 below t r p (suc (suc s)) e h k = absurd (omega arith)
 
 none-below : (m n : ℕ) → eqb (m % 2 ^ suc n) 0 ≡ (eqb (m % 2 ^ n) 0 && not (bit m n))
