@@ -1,4 +1,4 @@
--- Laws about sets as bytes: a set is a test on states, and or, and, union on bytes are those on tests.
+-- Laws about sets as bytes: a set is the same as a test on states, and operations on bytes are operations on tests.
 -- Assumes nothing.
 use mathlib.Core.Path.{_≡_, refl, sym, _∙_, ap, ap₂, fun-ext}
 use mathlib.Core.Bool.{Bool, true, false, cond, _&&_, _||_, true≢false}
