@@ -57,7 +57,7 @@ each-state P i uc uce ud udp sc sd (suc (suc (suc (suc (suc (suc (suc n))))))) h
 pub state-in : (n : ℕ) → n < 7 → In n states
 state-in = each-state (λ n. In n states) here (there here) (there (there here)) (there (there (there here))) (there (there (there (there here)))) (there (there (there (there (there here))))) (there (there (there (there (there (there here))))))
 
--- entry n of a list with one value per state
+-- element n of a list with one value per state
 pub at-state : (f : ℕ → ℕ) (n : ℕ) → n < 7 → getD (map f states) n 0 ≡ f n
 at-state f = each-state (λ n. getD (map f states) n 0 ≡ f n) refl refl refl refl refl refl refl
 

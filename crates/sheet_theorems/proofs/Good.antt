@@ -44,7 +44,7 @@ field-requested (f ∷ g ∷ fs) h =
     let others = all known (codesOf (drop 2 columns) fs) in
     code-requested g (and-left (known (codeOf requestNames g)) others (and-right (known (pairOf f)) (known (codeOf requestNames g) && others) h))
 
--- NUMBERS BELOW LIMITS: two lists joined, equal lengths, and entry by entry
+-- NUMBERS BELOW LIMITS: two lists joined, equal lengths, and element by element
 under-append : (xs ls ys ms : List ℕ) → under xs ls ≡ true → under ys ms ≡ true → under (xs ++ ys) (ls ++ ms) ≡ true
 under-append [] [] ys ms h k = k
 under-append [] (l ∷ ls) ys ms h k = absurd (false≢true h)
@@ -77,7 +77,7 @@ behindAnswer = drop 4 behindTag
 abbrev behindError : List ℕ
 behindError = drop 2 behindAnswer
 
--- if all entries and the default pass a test, every entry that is looked up passes it
+-- if all elements and the default pass a test, every element that is looked up passes it
 getD-all {ℓ} : {A : Type ℓ} (p : A → Bool) (l : List A) (d : A) → all p l ≡ true → p d ≡ true → (i : ℕ) → p (getD l i d) ≡ true
 getD-all p [] d h k i = k
 getD-all p (x ∷ xs) d h k zero = and-left (p x) (all p xs) h

@@ -32,7 +32,7 @@ use Rattle.kinds.specs.Answers.{forwardAt}
 abbrev weights : List ℕ
 weights = 1 ∷ 2 ∷ 4 ∷ 8 ∷ 16 ∷ 32 ∷ 64 ∷ allStates ∷ []
 
--- entry n of that list is the set of the states after that the event may have
+-- element n of that list is the set of the states after that the event may have
 pub seen-at : (n : ℕ) → n < 8 → getD weights n 0 ≡ setOf (seen stateNotSeen n)
 unfolding setOf
 seen-at n h = go (ltb n 7) refl

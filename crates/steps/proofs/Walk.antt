@@ -173,7 +173,7 @@ pub walk-none : (e : List ℕ) → 0 ∷ 0 ∷ 0 ∷ 0 ∷ 0 ∷ 0 ∷ 0 ∷ [] 
 unfolding walked reach setOf
 walk-none e = refl
 
--- entry i of a list is in the list
+-- element i of a list is in the list
 getD-In : {A : Type 0} (d : A) (xs : List A) (i : ℕ) → i < length xs → In (getD xs i d) xs
 getD-In d [] i h = absurd (not-suc-le-zero h)
 getD-In d (x ∷ xs) zero h = here

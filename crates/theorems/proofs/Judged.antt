@@ -36,7 +36,7 @@ number-alone e = go (eqb (refusalAlone issueE e) 0) refl
     go true h = ap (λ (j : Judgment). j .refusal .0) (answer-alone e true h) ∙ sym (eqb-true (refusalAlone issueE e) 0 h)
     go false h = ap (λ (j : Judgment). j .refusal .0) (answer-alone e false h)
 
--- what holds for 0 and for every f x holds for each entry of a list of them, and past its end
+-- what holds for 0 and for every f x holds for each element of a list of them, and past its end
 pub each-at : (P : ℕ → Type 0) (f : ℕ → ℕ) (xs : List ℕ) → P 0 → ((x : ℕ) → P (f x)) → (s : ℕ) → P (getD (map f xs) s 0)
 each-at P f [] z each s = z
 each-at P f (x ∷ xs) z each zero = each x
