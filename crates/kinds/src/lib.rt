@@ -25,14 +25,14 @@ pub const HIGHEST_PAIR: u32 = 4095;
 // The set of all seven states, one bit each (definition 2.2). It is the highest set.
 pub const ALL_STATES: u8 = 127;
 
-// The first of two bytes where the test holds, else the second.
+// The first byte if the test is true, else the second.
 pub fn choose_byte(test: bool, first: u8, second: u8) -> u8
     ensures { λ r. ⌜ r ≡ cond test first second ⌝ }
 {
     if test { first } else { second }
 }
 
-// The first of two truth values where the test holds, else the second.
+// The first truth value if the test is true, else the second.
 pub fn choose_bool(test: bool, first: bool, second: bool) -> bool
     ensures { λ r. ⌜ r ≡ cond test first second ⌝ }
 {

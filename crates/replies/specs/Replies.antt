@@ -67,7 +67,7 @@ abbrev pub namesIn : ℕ → ℕ → List (List ℕ) → List (List ℕ)
 namesIn m n [] = []
 namesIn m n (name ∷ names) = cond (bit m n) (name ∷ namesIn m (suc n) names) (namesIn m (suc n) names)
 
--- names with one space between each two
+-- the names, with one space between them
 abbrev pub spaced : List (List ℕ) → List ℕ
 spaced [] = []
 spaced (name ∷ []) = name

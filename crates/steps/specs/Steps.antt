@@ -10,7 +10,7 @@ use Rattle.sets.specs.Sets.{setOf, holdsDirty}
 use Rattle.rows.specs.Event.{seen, tagOf, respOf, fwdStateOf, respErrOf, stateAfterOf}
 use Rattle.rows.specs.Permitted.{permitted}
 
--- A step of the event from s to s′ (definition 6.1): a row permits it, with a tag state and a state after that were seen or are free.
+-- A step of the event from s to s′ (definition 6.1): some row permits it with some tag state; tag state and s′ are as seen, or any.
 pub record Step (e : List ℕ) (s s′ : ℕ) : Type 0 where
   pub tag : ℕ
   pub is-tag : tag ∈? tags ≡ true
