@@ -1,13 +1,13 @@
-// Answers events one by one, each alone: records from standard input, answers to standard output.
-// A record is 41 bytes: how many of the forty that follow are the event (more than 40 counts as 40), and the forty.
-// An answer is 16 bytes: refusal number, place, the seven sets, the seven duties. A last record that is cut has no answer.
+// A filter for tests: judges events one by one, each alone. Records come from standard input, and answers go to standard output.
+// A record is 41 bytes: the length of the event (above 40 counts as 40), and 40 bytes of which the first so many are the event.
+// An answer is 16 bytes: refusal number, place, seven sets, seven duties. A last record that is cut off gets no answer.
 use event::Judgment;
 use libc::STDIN_FILENO;
 use libc::STDOUT_FILENO;
 ghost use Prim.Native.Nat.{_≤_};
 ghost use lib.ListN.{length};
 
-// A block is this many records, and takes this many bytes; so many bytes its answers take.
+// The records of a block, their bytes, and the bytes of their answers.
 const BLOCK: usize = 1024;
 
 const BLOCK_BYTES: usize = 41984;
@@ -21,7 +21,7 @@ fn least(a: usize, b: usize) -> usize
     if a < b { a } else { b }
 }
 
-// The sixteen bytes of an answer.
+// The 16 bytes of an answer.
 fn sixteen(j: Judgment) -> [u8; 16] {
     let s = j.sets;
     let d = j.duties;
@@ -46,7 +46,7 @@ fn sixteen(j: Judgment) -> [u8; 16] {
     ]
 }
 
-// The event of a record.
+// The event in a record.
 fn event_of(record: &[u8]) -> &[u8] {
     if record.len() < 41 {
         return &record[..0];
@@ -59,7 +59,7 @@ fn event_of(record: &[u8]) -> &[u8] {
     }
 }
 
-// Puts an answer at the start of the room for it.
+// Copies an answer to the start of the buffer.
 fn put(answer: [u8; 16], room: &mut [u8])
     requires { ⌜ 16 ≤ length (now room) ⌝ }
 {
@@ -70,7 +70,7 @@ fn put(answer: [u8; 16], room: &mut [u8])
     }
 }
 
-// Answers the whole records of a block, and says how many bytes of the room that took.
+// Judges the whole records of a block, and returns the number of bytes written to the buffer.
 fn answer_block(block: &[u8], room: &mut [u8]) -> usize {
     let mut k: usize = 0;
     while k < BLOCK {
@@ -90,14 +90,14 @@ fn answer_block(block: &[u8], room: &mut [u8]) -> usize {
     k * 16
 }
 
-// Reads a block, and gives what came.
+// Reads a block, and returns the bytes that came.
 fn read_block(block: &mut [u8]) -> &mut [u8] {
     let came = io::read_full(STDIN_FILENO, block);
     let got = least(came, block.len());
     &mut block[..got]
 }
 
-// Reads a block, answers it, and says whether there may be more.
+// Reads a block, answers it, and returns whether there may be more.
 fn next_block() -> bool {
     let mut block = [0u8; BLOCK_BYTES];
     let mut room = [0u8; ROOM_BYTES];
@@ -108,7 +108,7 @@ fn next_block() -> bool {
     written & (came.len() == BLOCK_BYTES)
 }
 
-// A proved loop has to end, and nothing says that an input does: the turns count down from a number that no run uses up.
+// Answers block by block. A proved loop must end, so this one counts down from a number that no run uses up.
 fn main() {
     let mut turns = u64::MAX;
     while turns > 0 && next_block() {

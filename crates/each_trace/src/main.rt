@@ -1,13 +1,13 @@
-// Judges whole traces one after another: cases from standard input, answers to standard output. Numbers are low byte first.
-// A case is six numbers of 32 bits: the length of the events in bytes, how many pair numbers, and the lengths of the table, the verdicts,
-// the duties and the after-sets; then those, a pair number in two bytes. An answer is the refusal's number in a byte, its place in 32 bits,
-// and the last four as they are afterwards. A case that is cut or has no room here ends the run.
+// A filter for tests: judges whole traces one after another. Cases come from standard input, and answers go to standard output.
+// Numbers are little-endian. A case is six 32-bit numbers, and then the six buffers. The numbers are the length of the events in bytes,
+// the count of pair numbers, and the lengths of table, verdicts, duties and after-sets. A pair number is two bytes. An answer is the
+// refusal number in one byte, the place in 32 bits, and the last four buffers as left. A case that is cut off or too long ends the run.
 use libc::STDIN_FILENO;
 use libc::STDOUT_FILENO;
 use trace::Outcome;
 ghost use Prim.Native.Nat.{_<_, _≤_};
 
-// Room for the bytes of the events, for those of the pair numbers, for a table, and for what there is one of for each event.
+// The room for a case: bytes of events, bytes of pair numbers, sets in the table, and events.
 const EVENTS_ROOM: usize = 65536;
 
 const PAIR_BYTES_ROOM: usize = 16384;
@@ -16,7 +16,7 @@ const TABLE_ROOM: usize = 8192;
 
 const EACH_ROOM: usize = 8192;
 
-// How long each part of a case is, and whether all that was said.
+// The lengths in the head of a case; `said` is whether the head was complete.
 struct Lengths {
     said: bool,
     events: usize,
@@ -39,7 +39,7 @@ fn pair_of(low: u8, high: u8) -> u16 {
     ((wide(low) + wide(high) * 256) % 65536) as u16
 }
 
-// The number of 32 bits at a place, 0 where there is no room for one.
+// The 32-bit number at an offset; 0 if the bytes end before.
 fn number_at(bytes: &[u8], at: usize) -> usize {
     if bytes.len() < 4 {
         return 0;
@@ -61,7 +61,7 @@ fn least(a: usize, b: usize) -> usize
     if a < b { a } else { b }
 }
 
-// Reads a part into the front of its room, and gives what came: less where there is no room for it.
+// Reads a buffer of a case, and returns the bytes that came: fewer if there is no room for all.
 fn read_part(room: &mut [u8], len: usize) -> &mut [u8] {
     let n = least(len, room.len());
     let came = io::read_full(STDIN_FILENO, &mut room[..n]);
@@ -69,7 +69,7 @@ fn read_part(room: &mut [u8], len: usize) -> &mut [u8] {
     &mut room[..got]
 }
 
-// The lengths from the start of a case.
+// The lengths in the head of a case.
 fn lengths_of(header: &[u8]) -> Lengths {
     Lengths {
         said: header.len() == 24,
@@ -82,14 +82,14 @@ fn lengths_of(header: &[u8]) -> Lengths {
     }
 }
 
-// Reads the lengths at the start of a case.
+// Reads the head of a case.
 fn read_lengths() -> Lengths {
     let mut header = [0u8; 24];
     let came = read_part(&mut header, 24);
     lengths_of(came)
 }
 
-// The pair numbers from their bytes.
+// Decodes pair numbers from their bytes.
 fn set_pairs(bytes: &[u8], pairs: &mut [u16]) {
     let mut i: usize = 0;
     while i < pairs.len() {
@@ -102,7 +102,7 @@ fn set_pairs(bytes: &[u8], pairs: &mut [u16]) {
     }
 }
 
-// Reads pair numbers into the front of their room, and gives what came: fewer where there is no room for them.
+// Reads the pair numbers of a case, and returns those that came: fewer if there is no room for all.
 fn read_pairs(pairs: &mut [u16], count: usize) -> &mut [u16] {
     let mut bytes = [0u8; PAIR_BYTES_ROOM];
     let n = least(count, pairs.len());
@@ -112,7 +112,7 @@ fn read_pairs(pairs: &mut [u16], count: usize) -> &mut [u16] {
     &mut pairs[..got]
 }
 
-// The number and the place of an outcome.
+// Writes the refusal number and the place.
 fn write_outcome(outcome: Outcome) -> bool {
     let place = outcome.place;
     let bytes = [
@@ -125,7 +125,7 @@ fn write_outcome(outcome: Outcome) -> bool {
     io::write_all(STDOUT_FILENO, &bytes)
 }
 
-// Writes an answer, and says whether it went.
+// Writes an answer, and returns whether that worked.
 fn write_answer(
     outcome: Outcome,
     table: &[u8],
@@ -141,7 +141,7 @@ fn write_answer(
     o & t & v & d & a
 }
 
-// Judges a case and writes the answer, and says whether the case came whole and the answer went.
+// Judges a case and writes the answer, and returns whether the case was complete and the writing worked.
 fn answer(
     l: Lengths,
     events: &[u8],
@@ -161,7 +161,7 @@ fn answer(
     write_answer(outcome, table, verdicts, duties, afters)
 }
 
-// Reads a case, judges it, writes the answer, and says whether there may be more.
+// Reads a case, judges it, writes the answer, and returns whether there may be more.
 fn next_case() -> bool {
     let mut events = [0u8; EVENTS_ROOM];
     let mut pairs = [0u16; EACH_ROOM];
@@ -179,7 +179,7 @@ fn next_case() -> bool {
     answer(l, e, p, t, v, d, a)
 }
 
-// A proved loop has to end, and nothing says that an input does: the turns count down from a number that no run uses up.
+// Answers case by case. A proved loop must end, so this one counts down from a number that no run uses up.
 fn main() {
     let mut turns = u64::MAX;
     while turns > 0 && next_case() {

@@ -1,4 +1,4 @@
--- Laws of the refusals and of the whole answer, over plain variables.
+-- Laws about the refusals and the whole answer, over plain variables.
 -- Assumes nothing.
 use mathlib.Core.Path.{_≡_, refl, sym, _∙_, ap, ap₂}
 use mathlib.Core.Bool.{Bool, true, false, cond, _&&_, and-assoc, and-true}
@@ -19,7 +19,7 @@ use Rattle.event.specs.declared.Judgment.{Judgment}
 use Rattle.event.specs.Refusals.{Issue, issueE, below, fault, refusalAlone}
 use Rattle.event.specs.Alone.{sevenZeros, acceptedAlone, refusedAlone, judgedAlone}
 
--- one byte more is tested
+-- one iteration of `in_range`
 pub below-turn : (e ls : List ℕ) (k : ℕ) (fine : Bool) (b : ℕ) → k < length ls → b ≡ byte e (k + 1) → fine && below e (suc k) (drop k ls) ≡ below e 1 ls
     → fine && ltb b (getD ls k 0) && below e (suc (k + 1)) (drop (k + 1) ls) ≡ below e 1 ls
 below-turn e ls k fine b h p q =
@@ -28,29 +28,29 @@ below-turn e ls k fine b h p q =
     ∙ ap (λ (l : List ℕ). fine && below e (suc k) l) (sym (drop-cons ls k 0 h))
     ∙ q
 
--- every byte is tested
+-- after all limits, every byte is tested
 pub below-end : (e ls : List ℕ) (k : ℕ) (fine : Bool) → length ls ≤ k → fine && below e (suc k) (drop k ls) ≡ below e 1 ls → fine ≡ below e 1 ls
 below-end e ls k fine h q = sym (and-true fine) ∙ ap (λ (l : List ℕ). fine && below e (suc k) l) (sym (drop-of-length-le ls h)) ∙ q
 
--- every byte of an event has its limit, but for the request
+-- every byte but the request has its limit
 pub limits-whole : suc (length (issueE .limits)) ≡ eventLength
 limits-whole = refl
 
--- the refusal for the bytes, each choice from the one before
+-- the choices of `fault`, each from the one before
 pub fault-by : (e : List ℕ) (b : ℕ) (fine known : Bool) (q r : ℕ) → fine ≡ below e 1 (issueE .limits) → b ≡ requestOf e → known ≡ b ∈? issueE .requests
     → q ≡ cond known 0 5 → r ≡ cond fine q 4 → r ≡ fault issueE e
 unfolding fault
 fault-by e b fine known q r hf hb hk hq hr =
     hr ∙ ap₂ (λ (x : Bool) (n : ℕ). cond x n 4) hf (hq ∙ ap (λ (x : Bool). cond x 0 5) (hk ∙ ap (λ (n : ℕ). n ∈? issueE .requests) hb))
 
--- seven numbers, one a state
+-- a list of seven numbers, one per state
 pub seven : (f : ℕ → ℕ) (x₀ x₁ x₂ x₃ x₄ x₅ x₆ : ℕ)
     → x₀ ≡ f 0 → x₁ ≡ f 1 → x₂ ≡ f 2 → x₃ ≡ f 3 → x₄ ≡ f 4 → x₅ ≡ f 5 → x₆ ≡ f 6
     → x₀ ∷ x₁ ∷ x₂ ∷ x₃ ∷ x₄ ∷ x₅ ∷ x₆ ∷ [] ≡ map f states
 seven f x₀ x₁ x₂ x₃ x₄ x₅ x₆ h₀ h₁ h₂ h₃ h₄ h₅ h₆ =
     ap₂ _∷_ h₀ (ap₂ _∷_ h₁ (ap₂ _∷_ h₂ (ap₂ _∷_ h₃ (ap₂ _∷_ h₄ (ap₂ _∷_ h₅ (ap₂ _∷_ h₆ refl))))))
 
--- the duty from the set after of one state
+-- the duty from one state, with its set taken from the list of seven
 pub duty-at : (e sets : List ℕ) (s m x : ℕ) → sets ≡ setsAfter e → getD (setsAfter e) s 0 ≡ setAfter e s
     → x ≡ cond (eqb (getD sets s 0) 0) noDuty (duty e m) → x ≡ cond (eqb (setAfter e s) 0) noDuty (duty e m)
 duty-at e sets s m x h k p = p ∙ ap (λ (n : ℕ). cond (eqb n 0) noDuty (duty e m)) (ap (λ (l : List ℕ). getD l s 0) h ∙ k)

@@ -1,4 +1,4 @@
--- When an event is refused, and with which number.
+-- When an event is refused, and with which number (definition 4.1, 4.3).
 use Prim.Native.Nat.{ℕ, suc}
 use mathlib.Core.Bool.{Bool, true, cond, _&&_}
 use mathlib.Core.List.{List, [], _∷_}
@@ -9,11 +9,12 @@ use Rattle.kinds.specs.Codes.{requests}
 use Rattle.kinds.specs.Places.{eventLength}
 use Rattle.rows.specs.Event.{byte, requestOf}
 
--- What an issue of CHI lets an event hold: below which number each byte from byte 1 on is, and the requests.
+-- What an issue of CHI permits in an event: the limit of each byte from byte 1 on, and the requests.
 pub record Issue : Type 0 where
   pub limits : List ℕ
   pub requests : List ℕ
 
+-- each byte is below its limit (definition 2.3)
 abbrev limitsE : List ℕ
 limitsE =
     -- RetToSrc
@@ -22,7 +23,7 @@ limitsE =
     2 ∷
     -- excl
     2 ∷
-    -- tag state, or 3 for not seen
+    -- tag state, with 3 for not seen
     4 ∷
     -- channel
     2 ∷
@@ -38,24 +39,25 @@ limitsE =
     4 ∷
     -- forwarded data present
     2 ∷
-    -- its Resp
+    -- Resp of the forwarded data
     8 ∷
-    -- state after, or 7 for not seen
+    -- state after, with 7 for not seen
     8 ∷
     []
 
+-- the issue of CHI that the definition is about
 abbrev pub issueE : Issue
 issueE = record { limits = limitsE; requests = requests }
 
--- each byte from place i on is below its limit
+-- each byte from offset i on is below its limit
 abbrev pub below : List ℕ → ℕ → List ℕ → Bool
 below e i [] = true
 below e i (l ∷ ls) = ltb (byte e i) l && below e (suc i) ls
 
--- 4 for a byte from 1 to 13 outside its range, then 5 for a request that isn't judged, else 0
+-- 4 for a byte from 1 to 13 outside its range, then 5 for a request that is not judged, else 0
 unfoldable pub fault : Issue → List ℕ → ℕ
 fault issue e = cond (below e 1 (issue .limits)) (cond (requestOf e ∈? issue .requests) 0 5) 4
 
--- 1 for an event alone that isn't 14 bytes long, then its fault
+-- one event alone: 1 if it is not 14 bytes long, then its fault (definition 4.3)
 unfoldable pub refusalAlone : Issue → List ℕ → ℕ
 refusalAlone issue e = cond (eqb (length e) eventLength) (fault issue e) 1

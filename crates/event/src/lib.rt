@@ -1,4 +1,4 @@
-// One event judged alone: whatever bytes are handed in, its refusal, or its seven sets and duties.
+// One event judged alone, whatever bytes are handed in (definition 3.1, 3.2).
 use kinds::Duty;
 use kinds::EVENT_BYTES;
 use kinds::Refusal;
@@ -13,7 +13,7 @@ ghost use Rattle.kinds.specs.Codes.{states};
 ghost use Rattle.event.specs.Refusals.{issueE, below, fault, refusalAlone};
 ghost use Rattle.event.specs.Alone.{judgedAlone};
 
-// Below which number each byte of an event is, from byte 1 on.
+// The limit of each byte of an event from byte 1 on: the byte must be below it (definition 2.3).
 const LIMITS: [u8; EVENT_BYTES - 1] = [
     // RetToSrc, DoNotGoToSD, excl
     2,
@@ -45,7 +45,7 @@ pub struct Judgment {
     pub duties: [u8; 7],
 }
 
-// Whether each byte of an event, from byte 1 on, is below its limit.
+// Whether each byte of the event, from byte 1 on, is below its limit.
 fn in_range(event: &[u8], limits: &[u8]) -> bool
     ensures { λ r. ⌜ r ≡ below (now (event .entry)) 1 (now (limits .entry)) ⌝ }
 {
@@ -58,7 +58,7 @@ fn in_range(event: &[u8], limits: &[u8]) -> bool
     fine
 }
 
-// The refusal of an event for its bytes: 4, then 5.
+// The refusal number for an event's bytes: 4, then 5 (definition 4.1).
 pub fn fault(event: &[u8]) -> Refusal
     ensures { λ r. ⌜ r .0 ≡ fault issueE (now (event .entry)) ⌝ }
 {
@@ -69,7 +69,7 @@ pub fn fault(event: &[u8]) -> Refusal
     Refusal(kinds::choose_byte(fine, request, Refusal::RANGE.0))
 }
 
-// The refusal of an event alone: 1, then its fault.
+// The refusal number of one event alone: 1, then 4, then 5 (definition 4.3).
 fn refusal_alone(event: &[u8]) -> Refusal
     ensures { λ r. ⌜ r .0 ≡ refusalAlone issueE (now (event .entry)) ⌝ }
 {
@@ -78,7 +78,7 @@ fn refusal_alone(event: &[u8]) -> Refusal
     Refusal(kinds::choose_byte(whole, refusal.0, Refusal::LENGTHS.0))
 }
 
-// The duty from one state, given as its set, and the set of states after from it.
+// The duty from one state, given as a set: 0 if the set of states after is empty.
 fn duty_from(event: &[u8], before: u8, after: u8) -> u8
     ensures { λ r. ⌜ r ≡ cond (eqb after 0) noDuty (duty (now (event .entry)) before) ⌝ }
 {
@@ -86,7 +86,7 @@ fn duty_from(event: &[u8], before: u8, after: u8) -> u8
     kinds::choose_byte(after == 0, Duty::NONE.0, duty.0)
 }
 
-// The seven duties, each judged from its state alone.
+// The seven duties, each judged from its own state (definition 6.5).
 fn duties_alone(event: &[u8], sets: [u8; 7]) -> [u8; 7]
     requires { ⌜ sets ≡ setsAfter (now event) ⌝ }
     ensures { λ r. ⌜ r ≡ map (dutyAlone (now (event .entry))) states ⌝ }
@@ -102,7 +102,7 @@ fn duties_alone(event: &[u8], sets: [u8; 7]) -> [u8; 7]
     ]
 }
 
-// One event judged alone.
+// Judges one event alone.
 pub fn judge_event(event: &[u8]) -> Judgment
     ensures { λ r. ⌜ r ≡ judgedAlone issueE (now (event .entry)) ⌝ }
 {

@@ -1,4 +1,4 @@
--- Laws of the fields of a line, over plain variables: where a field ends, and the fields one after another.
+-- Laws about the fields of a line, over plain variables: where a field ends, and the fields one after another.
 -- Assumes nothing.
 use mathlib.Core.Path.{_≡_, refl, sym, _∙_, ap, ap₂}
 use mathlib.Core.Bool.{Bool, true, false, cond}
@@ -13,12 +13,12 @@ use lib.Seq.{drop-cons, drop-drop}
 use Rattle.text.specs.Text.{comma, onFirst}
 use Rattle.fields.specs.Fields.{field, fieldsOf, fieldsFrom, fieldEnd}
 
--- where nothing is left, the field ends at once
+-- at the end of the line, the field ends at once
 pub end-at-end : (line : List ℕ) (at : ℕ) → length line ≤ at → fieldEnd line at ≡ at
 unfolding fieldEnd
 end-at-end line at h = ap (λ (s : List ℕ). at + length (field s)) (drop-of-length-le line h) ∙ omega arith
 
--- what is left begins with the byte at its place
+-- the rest of the line begins with the byte at this offset
 ahead : (line : List ℕ) (at : ℕ) → at < length line → field (drop at line) ≡ cond (eqb (getD line at 0) comma) [] (getD line at 0 ∷ field (drop (suc at) line))
 ahead line at h = ap field (drop-cons line at 0 h)
 
@@ -29,7 +29,7 @@ end-at-comma line at h e =
     ap (λ (s : List ℕ). at + length s) (ahead line at h ∙ ap (λ (b : Bool). cond b [] (getD line at 0 ∷ field (drop (suc at) line))) (eq-eqb (getD line at 0) comma e))
     ∙ omega arith
 
--- another byte belongs to the field
+-- any other byte belongs to the field
 pub end-further : (line : List ℕ) (at : ℕ) → at < length line → (getD line at 0 ≡ comma → ⊥) → fieldEnd line (at + 1) ≡ fieldEnd line at
 unfolding fieldEnd
 end-further line at h n =
@@ -42,7 +42,7 @@ pub end-from : (line : List ℕ) (at : ℕ) → at ≤ fieldEnd line at
 unfolding fieldEnd
 end-from line at = omega arith
 
--- a field is the bytes at the front, as many as it has
+-- a field is a prefix of the bytes
 field-front : (s : List ℕ) → field s ≡ take (length (field s)) s
 field-front [] = refl
 field-front (x ∷ s) = by-first (eqb x comma) x (field s) s (field-front s)
@@ -51,7 +51,7 @@ field-front (x ∷ s) = by-first (eqb x comma) x (field s) s (field-front s)
     by-first true x f s h = refl
     by-first false x f s h = ap (λ (l : List ℕ). x ∷ l) h
 
--- a field is no longer than what is left
+-- a field is not longer than the bytes
 field-length : (s : List ℕ) → length (field s) ≤ length s
 field-length [] = omega arith
 field-length (x ∷ s) = by-first (eqb x comma) x (field s) s (field-length s)
@@ -65,7 +65,7 @@ pub end-within : (line : List ℕ) (at : ℕ) → at ≤ length line → fieldEn
 unfolding fieldEnd
 end-within line at h = omega (arith, field-length (drop at line), length-drop at line)
 
--- the fields of a line are those from its start on
+-- the fields from offset 0 on are all fields
 pub fields-start : (line : List ℕ) → fieldsFrom line 0 ≡ fieldsOf line
 unfolding fieldsFrom
 fields-start line = ap (λ (b : Bool). cond b (fieldsOf line) []) (leb·zero (length line))
@@ -75,17 +75,17 @@ pub fields-none : (line : List ℕ) (at : ℕ) → length line < at → fieldsFr
 unfolding fieldsFrom
 fields-none line at h = ap (λ (b : Bool). cond b (fieldsOf (drop at line)) []) (lt-leb at (length line) h)
 
--- within the line they are those of what is left
+-- within the line, the fields from an offset on are those of the rest
 fields-left : (line : List ℕ) (at : ℕ) → at ≤ length line → fieldsFrom line at ≡ fieldsOf (drop at line)
 unfolding fieldsFrom
 fields-left line at h = ap (λ (b : Bool). cond b (fieldsOf (drop at line)) []) (le-leb at (length line) h)
 
--- a byte in front shifts the place by one
+-- a byte more in front moves the offset by one
 fields-behind : (x : ℕ) (s : List ℕ) (k : ℕ) → fieldsFrom (x ∷ s) (suc k) ≡ fieldsFrom s k
 unfolding fieldsFrom
 fields-behind x s k = ap (λ (b : Bool). cond b (fieldsOf (drop k s)) []) (leb·suc-suc k (length s))
 
--- the fields are the first, and those behind its comma
+-- the fields are the first one, and those behind its comma
 first-then : (s : List ℕ) → fieldsOf s ≡ field s ∷ fieldsFrom s (suc (length (field s)))
 first-then [] = ap (λ (fs : List (List ℕ)). [] ∷ fs) (sym (fields-none [] 1 (omega arith)))
 first-then (x ∷ s) = by-first (eqb x comma) x s (first-then s)
@@ -96,7 +96,7 @@ first-then (x ∷ s) = by-first (eqb x comma) x s (first-then s)
     by-first true x s h = ap (λ (fs : List (List ℕ)). [] ∷ fs) (sym (fields-behind x s 0 ∙ fields-start s))
     by-first false x s h = ap (onFirst x) h ∙ ap (λ (fs : List (List ℕ)). (x ∷ field s) ∷ fs) (sym (fields-behind x s (suc (length (field s)))))
 
--- what is left of what is left
+-- the fields of a rest, from an offset on, are fields of the line
 fields-further : (line : List ℕ) (at k : ℕ) → at ≤ length line → fieldsFrom (drop at line) k ≡ fieldsFrom line (at + k)
 unfolding fieldsFrom
 fields-further line at k h = ap₂ (λ (b : Bool) (s : List ℕ). cond b (fieldsOf s) []) (test (leb (at + k) (length line)) refl) (drop-drop k at line)
@@ -105,7 +105,7 @@ fields-further line at k h = ap₂ (λ (b : Bool) (s : List ℕ). cond b (fields
     test true e = le-leb k (length (drop at line)) (omega (arith, length-drop at line, leb-true (at + k) (length line) e))
     test false e = lt-leb k (length (drop at line)) (omega (arith, length-drop at line, leb-false (at + k) (length line) e))
 
--- the fields from a place on: the field there, and those behind its end
+-- the fields from an offset on: the field there, and those behind its end
 pub fields-step : (line : List ℕ) (at : ℕ) → at ≤ length line
     → fieldsFrom line at ≡ take (fieldEnd line at - at) (drop at line) ∷ fieldsFrom line (fieldEnd line at + 1)
 unfolding fieldEnd

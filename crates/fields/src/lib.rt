@@ -1,11 +1,11 @@
-// The fields of a line: where a field that starts at a place ends.
+// Finds where the fields of a line end (definition 8.3).
 ghost use mathlib.Core.Path.{_≡_};
 ghost use Rattle.fields.specs.Fields.{fieldEnd};
 
-// What parts two fields.
+// Separates two fields.
 const COMMA: u8 = 44;
 
-// Where the field that starts at a place of a line ends: at the next comma, or at the end of the line.
+// The offset at which a field ends: at the next comma, or at the end of the line.
 pub fn end_of(line: &[u8], at: usize) -> usize
     ensures { λ r. ⌜ r ≡ fieldEnd (now (line .entry)) at ⌝ }
 {

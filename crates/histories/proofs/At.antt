@@ -1,4 +1,4 @@
--- Event k of an accepted trace: the set of its pair before it and after it, its byte in each output, and its verdict, over histories.
+-- Event k of an accepted trace: its pair's set before and after it, its byte in each output, and its verdict, in terms of histories.
 -- Assumes nothing.
 use mathlib.Core.Path.{_≡_, refl, sym, _∙_, ap, subst}
 use mathlib.Core.Logic.{_↔_}
@@ -34,21 +34,21 @@ first-suc l k =
 own-suc : (l : Lent) (p k : ℕ) → own p (first l (suc k)) ≡ own p (first l k) ++ own p (eventAt (l .events) (l .pairs) k ∷ [])
 own-suc l p k = ap (own p) (first-suc l k) ∙ own-append p (first l k) (eventAt (l .events) (l .pairs) k ∷ [])
 
--- another pair's event is no part of it
+-- another pair's event adds nothing to the pair's own events
 pub own-kept : (l : Lent) (p k : ℕ) → (pairIn (l .pairs) k ≡ p → ⊥) → own p (first l (suc k)) ≡ own p (first l k)
 own-kept l p k h =
     own-suc l p k
     ∙ ap (λ (es : List (List ℕ)). own p (first l k) ++ es) (own-other p (eventAt (l .events) (l .pairs) k) [] h)
     ∙ append-nil (own p (first l k))
 
--- its own event moves its set
+-- the event changes its own pair's set to the set after
 pub set-next : (l : Lent) (k : ℕ) → setBefore l (pairIn (l .pairs) k) (suc k) ≡ afterSet (eventIn (l .events) k) (setBefore l (pairIn (l .pairs) k) k)
 set-next l k =
     let p = pairIn (l .pairs) k in
     ap (walk (setIn (l .table) p)) (own-suc l p k ∙ ap (λ (es : List (List ℕ)). own p (first l k) ++ es) (own-same p (eventAt (l .events) (l .pairs) k) [] refl))
     ∙ walk-append (setIn (l .table) p) (own p (first l k)) (eventIn (l .events) k ∷ [])
 
--- an empty set stays empty
+-- an empty set stays empty (definition 7.4)
 pub set-lost : (l : Lent) (p k j : ℕ) → k ≤ j → setBefore l p k ≡ 0 → setBefore l p j ≡ 0
 set-lost l p k j h z =
     ap (λ (i : ℕ). setBefore l p i) (split k j h)
@@ -70,7 +70,7 @@ reached-held l p k = some-ends (setIn (l .table) p) (own p (first l k))
 passed-held : (l : Lent) (k : ℕ) → Held (afterSet (eventIn (l .events) k) (setBefore l (pairIn (l .pairs) k) k)) ↔ Passes l k
 passed-held l k = subst (λ m. Held m ↔ Passes l k) (set-next l k) (reached-held l (pairIn (l .pairs) k) (suc k))
 
--- EVENT k OF A TRACE THAT IS ACCEPTED.
+-- EVENT k OF AN ACCEPTED TRACE.
 module _ (issue : Issue) (l : Lent) (good : GoodSoFar issue l (count l)) where
   pub set-below : (p k : ℕ) → p < length (l .table) → setBefore l p k < 128
   set-below p k h = walk-below (setIn (l .table) p) (own p (first l k)) (omega (arith, good .sets-good p h))
@@ -79,11 +79,11 @@ module _ (issue : Issue) (l : Lent) (good : GoodSoFar issue l (count l)) where
   pub table-at : (p : ℕ) → p < length (l .table) → setIn (run (l .table) (trace l)) p ≡ setBefore l p (count l)
   table-at p h = run-own (l .table) (trace l) p h
 
-  -- the pair of an event is in the table
+  -- the table has the event's pair
   pub pair-in : (k : ℕ) → k < count l → pairIn (l .pairs) k < length (l .table)
   pair-in k h = good .events-good k h .pair-good
 
-  -- the byte of an event, by the set before it
+  -- an output byte of event k is computed from its pair's set before it
   pub byte-at : (f : List ℕ → ℕ → ℕ) (k : ℕ) → k < count l
       → getD (outputs f (l .table) (trace l)) k 0 ≡ f (eventIn (l .events) k) (setBefore l (pairIn (l .pairs) k) k)
   byte-at f k h =
@@ -91,11 +91,11 @@ module _ (issue : Issue) (l : Lent) (good : GoodSoFar issue l (count l)) where
       ∙ ap (λ (i : ℕ). f (eventIn (l .events) i) (setIn (run (l .table) (first l k)) (pairIn (l .pairs) i))) (zero-add k)
       ∙ ap (f (eventIn (l .events) k)) (run-own (l .table) (first l k) (pairIn (l .pairs) k) (pair-in k h))
 
-  -- the after-set of an event
+  -- the after-set of event k is its pair's set right after it (definition 7.5)
   pub after-at : (k : ℕ) → k < count l → getD (outputs afterSet (l .table) (trace l)) k 0 ≡ setBefore l (pairIn (l .pairs) k) (suc k)
   after-at k h = byte-at afterSet k h ∙ sym (set-next l k)
 
-  -- the verdict of an event, both ways
+  -- the verdict of event k is given, and only that one (definition 7.3)
   pub verdict-given : (k : ℕ) → k < count l → VerdictGiven l k (getD (outputs verdict (l .table) (trace l)) k 0)
   verdict-given k h =
       let p = pairIn (l .pairs) k in

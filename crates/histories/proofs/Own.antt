@@ -1,4 +1,4 @@
--- What judging a trace leaves of each pair: what its own events leave of its starting set.
+-- A trace changes each pair's set only by that pair's own events.
 -- Assumes nothing.
 use mathlib.Core.Path.{_≡_, refl, sym, _∙_, ap, ap₂, subst}
 use mathlib.Core.Bool.{Bool, true, false, cond}
@@ -16,14 +16,14 @@ use Rattle.trace.specs.Events.{TraceEvent, eventAt, eventsFrom, moved, run, out
 use Rattle.histories.specs.Histories.{own}
 use Rattle.histories.proofs.Walk.{walk}
 
--- one event more
+-- one more event: the pair's own, or another pair's
 pub own-same : (p : ℕ) (x : TraceEvent) (xs : List TraceEvent) → x .pair ≡ p → own p (x ∷ xs) ≡ x .bytes ∷ own p xs
 own-same p x xs h = ap (λ (b : Bool). cond b (x .bytes ∷ own p xs) (own p xs)) (eq-eqb (x .pair) p h)
 
 pub own-other : (p : ℕ) (x : TraceEvent) (xs : List TraceEvent) → (x .pair ≡ p → ⊥) → own p (x ∷ xs) ≡ own p xs
 own-other p x xs h = ap (λ (b : Bool). cond b (x .bytes ∷ own p xs) (own p xs)) (ne-eqb (x .pair) p h)
 
--- events of a trace that is cut, one part after the other
+-- the own events of two parts of a trace, one after the other
 pub own-append : (p : ℕ) (xs ys : List TraceEvent) → own p (xs ++ ys) ≡ own p xs ++ own p ys
 own-append p [] ys = refl
 own-append p (x ∷ xs) ys = go (eqb (x .pair) p) (own-append p xs ys)
@@ -58,7 +58,7 @@ pub length-run : (t : List ℕ) (xs : List TraceEvent) → length (run t xs) ≡
 length-run t [] = refl
 length-run t (x ∷ xs) = length-run (moved t x) xs ∙ length-set t (x .pair) (afterSet (x .bytes) (setIn t (x .pair)))
 
--- the pair's own event moves its set, and another pair's leaves it
+-- the pair's own event changes its set, and another pair's event does not
 moved-same : (t : List ℕ) (x : TraceEvent) (p : ℕ) → p < length t → x .pair ≡ p → setIn (moved t x) p ≡ afterSet (x .bytes) (setIn t p)
 moved-same t x p h e =
     ap (λ (i : ℕ). getD (moved t x) i 0) (sym e)
@@ -68,7 +68,7 @@ moved-same t x p h e =
 moved-other : (t : List ℕ) (x : TraceEvent) (p : ℕ) → (x .pair ≡ p → ⊥) → setIn (moved t x) p ≡ setIn t p
 moved-other t x p h = getD-set-other t (x .pair) p (afterSet (x .bytes) (setIn t (x .pair))) 0 (λ e. h (sym e))
 
--- THE LAW: the set of a pair after a trace is what its own events leave of it
+-- THE LAW: the set of a pair after a trace is what its own events make of its starting set
 pub run-own : (t : List ℕ) (xs : List TraceEvent) (p : ℕ) → p < length t → setIn (run t xs) p ≡ walk (setIn t p) (own p xs)
 run-own t [] p h = refl
 run-own t (x ∷ xs) p h =
@@ -85,7 +85,7 @@ run-own t (x ∷ xs) p h =
         ∙ ap (λ (m : ℕ). walk m (own p xs)) (moved-other t x p (eqb-false (x .pair) p q))
         ∙ ap (walk (setIn t p)) (sym (own-other p x xs (eqb-false (x .pair) p q)))
 
--- the byte of event k, from the set that the events before it leave
+-- output byte k is computed from the set that the events before k leave
 pub output-at : (f : List ℕ → ℕ → ℕ) (t events pairs : List ℕ) (i n k : ℕ) → k < n
     → getD (outputs f t (eventsFrom events pairs i n)) k 0 ≡ f (eventIn events (i + k)) (setIn (run t (eventsFrom events pairs i k)) (pairIn pairs (i + k)))
 output-at f t events pairs i zero k h = absurd (omega arith)

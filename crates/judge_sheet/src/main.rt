@@ -1,5 +1,5 @@
-// The bench sheet: a sheet from standard input, its answers to standard output, read and written in pieces of at most 65,536 bytes. What is
-// done with what is read, and what is to be written, `sheet` says.
+// The program that `./judge` runs: a sheet from standard input, its answers to standard output (definition 8).
+// It only reads and writes, at most 65,536 bytes at a time. The crate `sheet` does the judging.
 use kinds::MOST_PAIRS;
 use libc::STDERR_FILENO;
 use libc::STDIN_FILENO;
@@ -8,21 +8,21 @@ use sheet::Turned;
 ghost use Prim.Native.Nat.{_≤_};
 ghost use lib.ListN.{length};
 
-// At most this many bytes are held, or written at once.
+// The size of the input buffer and of the output buffer.
 const SIZE: usize = 65536;
 
-// What a read brought: how many bytes, and whether it failed.
+// What a read brought: the number of bytes, and whether it failed.
 struct Got {
     count: usize,
     failed: bool,
 }
 
-// Says on standard error why the run ends early.
+// Reports on standard error why the run ends early.
 fn complain(why: &[u8]) -> bool {
     io::write_all(STDERR_FILENO, why)
 }
 
-// One read behind the bytes that are held. A failure is told; it is not taken for the end of the input.
+// Reads once, behind the bytes that are still held. A read error is reported, and is not taken for the end of the input (definition 8.10).
 fn read_more(held: usize, piece: &mut [u8]) -> Got
     requires { ⌜ held ≤ length (now piece) ⌝ }
 {
@@ -40,7 +40,7 @@ fn read_more(held: usize, piece: &mut [u8]) -> Got
     }
 }
 
-// A read where one is wanted.
+// Reads if the run wants more input.
 fn read_wanted(run: Turned, piece: &mut [u8]) -> Got
     requires { ⌜ run .carried .held ≤ length (now piece) ⌝ }
 {
@@ -53,7 +53,7 @@ fn read_wanted(run: Turned, piece: &mut [u8]) -> Got
     }
 }
 
-// Writes the front of the buffer. A failure is told.
+// Writes the first `put` bytes of the buffer. A failed write is reported (definition 8.10).
 fn write_out(out: &[u8], put: usize) -> bool
     requires { ⌜ put ≤ length (now out) ⌝ }
 {
@@ -64,7 +64,7 @@ fn write_out(out: &[u8], put: usize) -> bool
     false
 }
 
-// Reads, judges and writes until the run is over, or an error.
+// Reads, judges and writes until the run is over or fails.
 fn main() {
     let mut piece = [0u8; SIZE];
     let mut table = [0u8; MOST_PAIRS];

@@ -1,4 +1,4 @@
--- Laws of the tests that compute, of the lists that a chain of `|` or `&` stands for, and of the places in what is lent.
+-- Laws about chains of `|` and `&`, and about the bytes of one event in the buffer of events.
 -- Assumes nothing.
 use mathlib.Core.Path.{_≡_, refl, sym, _∙_, ap}
 use mathlib.Core.Bool.{Bool, true, false, _&&_, _||_}
@@ -12,7 +12,7 @@ use lib.Dec.{eqb}
 use Rattle.kinds.specs.Tests.{_∈?_}
 use Rattle.kinds.specs.Places.{eventLength, eventIn}
 
--- a chain of `|` is the test of a list
+-- a chain of `|` is a test of membership in a list
 or-1 : (a : Bool) → a ≡ a || false
 or-1 true = refl
 or-1 false = refl
@@ -57,7 +57,7 @@ pub one-of-7 : (n a b c d e f g : ℕ)
     → eqb n a || eqb n b || eqb n c || eqb n d || eqb n e || eqb n f || eqb n g ≡ n ∈? (a ∷ b ∷ c ∷ d ∷ e ∷ f ∷ g ∷ [])
 one-of-7 n a b c d e f g = or-7 (eqb n a) (eqb n b) (eqb n c) (eqb n d) (eqb n e) (eqb n f) (eqb n g)
 
--- a chain of `&` likewise
+-- a chain of `&` likewise: all of a list hold
 pub and-1 : (a : Bool) → a ≡ a && true
 and-1 true = refl
 and-1 false = refl
@@ -82,7 +82,7 @@ pub and-6 : (a b c d e f : Bool) → a && b && c && d && e && f ≡ a && (b && (
 and-6 true b c d e f = and-5 b c d e f
 and-6 false b c d e f = refl
 
--- an event past the end is empty, one that the end cuts is what is left, any other is whole
+-- an event past the end is empty, an event cut by the end is what is left, any other event is 14 bytes long
 pub event-past : (s : List ℕ) (k : ℕ) → length s ≤ k * eventLength → [] ≡ eventIn s k
 event-past s k h = sym (ap (take eventLength) (drop-of-length-le s h) ∙ take-nil eventLength)
 

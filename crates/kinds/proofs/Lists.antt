@@ -1,4 +1,4 @@
--- Laws of tests over lists: what `any` finds, what `all` grants, when two tests or two lists are the same, and the seven states one by one.
+-- Laws about tests on lists: `any`, `all`, the equality of lists, and the seven states one by one.
 -- Assumes nothing.
 use mathlib.Core.Path.{_≡_, refl, sym, _∙_, ap, ap₂}
 use mathlib.Core.Bool.{Bool, true, false, _&&_, _||_, false≢true, or-false, or-assoc}
@@ -11,19 +11,19 @@ use lib.ListN.{getD}
 use Rattle.kinds.specs.Tests.{any, all, same, _∈?_}
 use Rattle.kinds.specs.Codes.{I, UC, UCE, UD, UDP, SC, SD, states}
 
--- the element stands in the list
+-- the element is in the list
 pub data In {ℓ} {A : Type ℓ} : A → List A → Type ℓ where
   here : {x : A} {xs : List A} → In x (x ∷ xs)
   there : {x y : A} {xs : List A} → In x xs → In x (y ∷ xs)
 
--- two tests that hold together are one
+-- two tests that imply each other are equal
 pub same-truth : (a b : Bool) → (a ≡ true → b ≡ true) → (b ≡ true → a ≡ true) → a ≡ b
 same-truth true true f g = refl
 same-truth true false f g = sym (f refl)
 same-truth false true f g = g refl
 same-truth false false f g = refl
 
--- the parts of a chain of `&`
+-- `&&` and `||` from their two sides, and back
 pub and-left : (a b : Bool) → a && b ≡ true → a ≡ true
 and-left true b h = refl
 and-left false b h = h
@@ -42,7 +42,7 @@ or-right false b h = h
 pub or-left : {a : Bool} (b : Bool) → a ≡ true → a || b ≡ true
 or-left b h = ap (λ (x : Bool). x || b) h
 
--- what holds of each of the seven states holds of every number below seven
+-- what holds for each of the seven states holds for every number below seven
 pub each-state {ℓ} : (P : ℕ → Type ℓ) → P I → P UC → P UCE → P UD → P UDP → P SC → P SD → (n : ℕ) → n < 7 → P n
 each-state P i uc uce ud udp sc sd zero h = i
 each-state P i uc uce ud udp sc sd (suc zero) h = uc
@@ -53,7 +53,7 @@ each-state P i uc uce ud udp sc sd (suc (suc (suc (suc (suc zero))))) h = sc
 each-state P i uc uce ud udp sc sd (suc (suc (suc (suc (suc (suc zero)))))) h = sd
 each-state P i uc uce ud udp sc sd (suc (suc (suc (suc (suc (suc (suc n))))))) h = absurd (omega arith)
 
--- every number below seven is one of the states
+-- every number below seven is a state
 pub state-in : (n : ℕ) → n < 7 → In n states
 state-in =
     each-state (λ n. In n states)
@@ -61,12 +61,12 @@ state-in =
     (there (there (there (there here)))) (there (there (there (there (there here)))))
     (there (there (there (there (there (there here))))))
 
--- one of seven values, one a state
+-- element n of a list with one value per state
 pub at-state : (f : ℕ → ℕ) (n : ℕ) → n < 7 → getD (map f states) n 0 ≡ f n
 at-state f = each-state (λ n. getD (map f states) n 0 ≡ f n) refl refl refl refl refl refl refl
 
 module _ {ℓ} {A : Type ℓ} where
-  -- what `any` found
+  -- an element that passes the test
   pub record Found (p : A → Bool) (xs : List A) : Type ℓ where
     pub one : A
     pub inside : In one xs
@@ -84,17 +84,17 @@ module _ {ℓ} {A : Type ℓ} where
   found-any p (here {xs = xs}) h = or-left (any p xs) h
   found-any p (there {y = y} {xs = xs} i) h = or-right (p y) (any p xs) (found-any p i h)
 
-  -- what `all` grants
+  -- what holds for all elements holds for each
   pub all-at : (p : A → Bool) {x : A} {xs : List A} → all p xs ≡ true → In x xs → p x ≡ true
   all-at p {xs = xs} h (here {x = x} {xs = ys}) = and-left (p x) (all p ys) h
   all-at p {xs = xs} h (there {y = y} {xs = ys} i) = all-at p (and-right (p y) (all p ys) h) i
 
-  -- one element more
+  -- `any` on a list with one more element at the end
   pub any-snoc : (p : A → Bool) (xs : List A) (x : A) → any p (xs ++ (x ∷ [])) ≡ any p xs || p x
   any-snoc p [] x = or-false (p x)
   any-snoc p (y ∷ ys) x = ap (λ (b : Bool). p y || b) (any-snoc p ys x) ∙ sym (or-assoc (p y) (any p ys) (p x))
 
--- what each of a list passes, a number that is one of them passes
+-- a test that all numbers of a list pass is passed by every number in the list
 pub one-of : (p : ℕ → Bool) (n : ℕ) (ns : List ℕ) → n ∈? ns ≡ true → all p ns ≡ true → p n ≡ true
 one-of p n ns h k =
     let f = any-found (eqb n) ns h in

@@ -1,4 +1,4 @@
--- The answers to Home, each with the forwarded data inside it, and the page's values for each case.
+-- The answers to Home, each with its forward, and the definition's codes for each (definition 2.5 to 2.8).
 use Prim.Native.Nat.{ℕ}
 use mathlib.Core.Bool.{Bool, true, false, cond}
 use mathlib.Core.List.{List, [], _∷_}
@@ -11,16 +11,16 @@ use Rattle.kinds.specs.declared.Forward.the-variants.{NoForward, CompDat
 use Rattle.kinds.specs.declared.Answer.{Answer}
 use Rattle.kinds.specs.declared.Answer.the-variants.{SnpResp, SnpRespData, SnpRespDataPtl}
 
--- what a FwdState says is forwarded: nothing at 0
+-- the forward that a FwdState stands for; 0 is none
 abbrev pub forwardAt : ℕ → Forward
 forwardAt state = cond (eqb state 0) NoForward (CompData (record { 0 = state }))
 
--- forwarded data present, its Resp: event bytes 11 and 12
+-- whether data is forwarded, and its Resp: event bytes 11 and 12
 abbrev pub forwardWire : Forward → List ℕ
 forwardWire NoForward = 0 ∷ 0 ∷ []
 forwardWire (CompData f) = 1 ∷ f .0 ∷ []
 
--- channel, opcode, Resp, FwdState, and what is forwarded: event bytes 5, 6, 7, 8, 11 and 12
+-- channel, opcode, Resp, FwdState and the forward: event bytes 5 to 8, 11 and 12
 abbrev pub wire : Answer → List ℕ
 wire (SnpResp r NoForward) = RSP ∷ op-SnpResp ∷ r .0 ∷ 0 ∷ forwardWire NoForward
 wire (SnpResp r (CompData f)) = RSP ∷ op-SnpRespFwded ∷ r .0 ∷ f .0 ∷ forwardWire (CompData f)
@@ -28,19 +28,19 @@ wire (SnpRespData r NoForward) = DAT ∷ op-SnpRespData ∷ r .0 ∷ 0 ∷ forwa
 wire (SnpRespData r (CompData f)) = DAT ∷ op-SnpRespDataFwded ∷ r .0 ∷ f .0 ∷ forwardWire (CompData f)
 wire (SnpRespDataPtl r) = DAT ∷ op-SnpRespDataPtl ∷ r .0 ∷ 0 ∷ forwardWire NoForward
 
--- the answer brings data to Home: it goes on DAT
+-- whether the answer brings data to Home, on DAT
 abbrev pub hasData : Answer → Bool
 hasData (SnpResp r f) = false
 hasData (SnpRespData r f) = true
 hasData (SnpRespDataPtl r) = true
 
--- its Resp
+-- the Resp of an answer
 abbrev pub answerResp : Answer → ℕ
 answerResp (SnpResp r f) = r .0
 answerResp (SnpRespData r f) = r .0
 answerResp (SnpRespDataPtl r) = r .0
 
--- its FwdState, 0 without a forward
+-- the FwdState of an answer; 0 without a forward
 abbrev pub answerFwd : Answer → ℕ
 answerFwd (SnpResp r NoForward) = 0
 answerFwd (SnpResp r (CompData f)) = f .0
@@ -48,7 +48,7 @@ answerFwd (SnpRespData r NoForward) = 0
 answerFwd (SnpRespData r (CompData f)) = f .0
 answerFwd (SnpRespDataPtl r) = 0
 
--- the Resp of an answer
+-- the five values of Resp
 abbrev r-I : Resp
 r-I = record { 0 = Resp-I }
 
@@ -64,7 +64,7 @@ r-I-PD = record { 0 = Resp-I-PD }
 abbrev r-SC-PD : Resp
 r-SC-PD = record { 0 = Resp-SC-PD }
 
--- what is forwarded
+-- the four forwards
 abbrev CompData-SC : Forward
 CompData-SC = CompData (record { 0 = Fwd-SC })
 
@@ -77,7 +77,7 @@ CompData-UD-PD = CompData (record { 0 = Fwd-UD-PD })
 abbrev CompData-SD-PD : Forward
 CompData-SD-PD = CompData (record { 0 = Fwd-SD-PD })
 
--- The 22 answers by their names in the tables, with - where those have _.
+-- The 22 answers under their names in the tables, with - in place of _ (definition 2.8).
 abbrev pub SnpResp-I : Answer
 SnpResp-I = SnpResp r-I NoForward
 

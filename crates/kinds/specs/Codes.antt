@@ -1,10 +1,10 @@
--- The published codes, each under its own name, and the page's tests on them.
+-- The codes, each under its own name, and what some of them mean (definition 2.1 to 2.6).
 use Prim.Native.Nat.{ℕ}
 use mathlib.Core.Bool.{Bool}
 use mathlib.Core.List.{List, [], _∷_}
 use Rattle.kinds.specs.Tests.{_∈?_}
 
--- Line states, in table order.
+-- Line states (definition 2.1).
 abbrev pub I : ℕ
 I = 0
 
@@ -29,19 +29,19 @@ SD = 6
 abbrev pub states : List ℕ
 states = I ∷ UC ∷ UCE ∷ UD ∷ UDP ∷ SC ∷ SD ∷ []
 
--- the set of all seven: no set is above it
+-- the set of all seven states, which is the highest set (definition 2.2)
 abbrev pub allStates : ℕ
 allStates = 127
 
--- a line in one of these has to be written back by somebody
+-- whether a line in this state has to be written back by somebody
 abbrev pub dirty : ℕ → Bool
 dirty s = s ∈? (UD ∷ UDP ∷ SD ∷ [])
 
--- in place of a state after: it was not seen
+-- the code for a state after that was not seen
 abbrev pub stateNotSeen : ℕ
 stateNotSeen = 7
 
--- Tag states.
+-- Tag states (definition 2.3, byte 4).
 abbrev pub tagInvalid : ℕ
 tagInvalid = 0
 
@@ -54,11 +54,11 @@ tagDirty = 2
 abbrev pub tags : List ℕ
 tags = tagInvalid ∷ tagClean ∷ tagDirty ∷ []
 
--- in place of a tag state: it was not seen
+-- the code for a tag state that was not seen
 abbrev pub tagNotSeen : ℕ
 tagNotSeen = 3
 
--- TagOp.
+-- TagOp (definition 2.3, byte 9).
 abbrev pub opInvalid : ℕ
 opInvalid = 0
 
@@ -71,7 +71,7 @@ opUpdate = 2
 abbrev pub opMatch : ℕ
 opMatch = 3
 
--- RespErr.
+-- RespErr (definition 2.3, byte 10).
 abbrev pub OK : ℕ
 OK = 0
 
@@ -84,7 +84,7 @@ DERR = 2
 abbrev pub NDERR : ℕ
 NDERR = 3
 
--- Requests.
+-- Requests (definition 2.4).
 abbrev pub SnpShared : ℕ
 SnpShared = 1
 
@@ -106,7 +106,7 @@ SnpPreferUnique = 21
 abbrev pub SnpPreferUniqueFwd : ℕ
 SnpPreferUniqueFwd = 22
 
--- the requests that are judged
+-- the seven requests that are judged
 abbrev pub requests : List ℕ
 requests =
     SnpShared ∷
@@ -118,14 +118,14 @@ requests =
     SnpPreferUniqueFwd ∷
     []
 
--- Channels.
+-- Channels (definition 2.3, byte 5).
 abbrev pub RSP : ℕ
 RSP = 0
 
 abbrev pub DAT : ℕ
 DAT = 1
 
--- Opcodes: the first two of RSP, the others of DAT.
+-- Opcodes: the first two are on RSP, the others on DAT (definition 2.5).
 abbrev pub op-SnpResp : ℕ
 op-SnpResp = 1
 
@@ -141,7 +141,7 @@ op-SnpRespDataPtl = 5
 abbrev pub op-SnpRespDataFwded : ℕ
 op-SnpRespDataFwded = 6
 
--- Resp.
+-- Resp (definition 2.6).
 abbrev pub Resp-I : ℕ
 Resp-I = 0
 
@@ -157,11 +157,11 @@ Resp-I-PD = 4
 abbrev pub Resp-SC-PD : ℕ
 Resp-SC-PD = 5
 
--- it carries PD, Pass Dirty
+-- whether it carries PD (Pass Dirty)
 abbrev pub respPD : ℕ → Bool
 respPD r = r ∈? (Resp-I-PD ∷ Resp-SC-PD ∷ [])
 
--- FwdState, and the Resp of CompData.
+-- FwdState, and the Resp of CompData (definition 2.6).
 abbrev pub Fwd-SC : ℕ
 Fwd-SC = 1
 
@@ -174,6 +174,6 @@ Fwd-UD-PD = 6
 abbrev pub Fwd-SD-PD : ℕ
 Fwd-SD-PD = 7
 
--- it carries PD
+-- whether it carries PD (Pass Dirty)
 abbrev pub fwdPD : ℕ → Bool
 fwdPD f = f ∈? (Fwd-UD-PD ∷ Fwd-SD-PD ∷ [])

@@ -1,25 +1,25 @@
--- The sizes of what is lent, and where a pair's set, an event's pair and an event's bytes stand in what is lent.
+-- The sizes of the lent buffers, and where a pair's set, an event's pair and an event's bytes stand in them (definition 3.3).
 use Prim.Native.Nat.{ℕ, _*_}
 use mathlib.Core.List.{List}
 use lib.ListN.{getD, take, drop}
 
--- an event is this many bytes
+-- the length of an event in bytes
 abbrev pub eventLength : ℕ
 eventLength = 14
 
--- a trace has at most this many events
+-- the most events of a trace
 abbrev pub mostEvents : ℕ
 mostEvents = 4096
 
--- a table of sets has at most this many pairs; a sheet has just as many
+-- the most pairs of a table of sets; a sheet has exactly as many (definition 8.5)
 abbrev pub mostPairs : ℕ
 mostPairs = 4096
 
--- the highest number of a pair on a sheet
+-- the highest pair number on a sheet
 abbrev pub highestPair : ℕ
 highestPair = 4095
 
--- the set of a pair in the table of sets; empty for a pair that the table doesn't have
+-- the set of a pair in the table of sets; the empty set if the table does not have the pair
 abbrev pub setIn : List ℕ → ℕ → ℕ
 setIn table pair = getD table pair 0
 
@@ -27,6 +27,6 @@ setIn table pair = getD table pair 0
 abbrev pub pairIn : List ℕ → ℕ → ℕ
 pairIn pairs k = getD pairs k 0
 
--- the bytes of event k, which start at k times an event's length
+-- the 14 bytes of event k, from offset 14k
 abbrev pub eventIn : List ℕ → ℕ → List ℕ
 eventIn events k = take eventLength (drop (k * eventLength) events)

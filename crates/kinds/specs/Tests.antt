@@ -1,7 +1,7 @@
--- Tests on numbers and lists that compute: what the page says in words such as "one of" and "the same".
--- How these files read: `f x y` is f of x and y; a definition is a line with its type and one with its value, and the words before the name
--- (abbrev, unfoldable, pub) concern the checker alone; `a ∷ b ∷ []` is the list of a and b; `cond t a b` is a where the test t holds, else b;
--- `λ x. ..` is the function of x; `&&`, `||` and `not` are and, or and not; `r .field` is a field of r.
+-- Tests on numbers and lists: what the definition says with words such as "one of" and "the same".
+-- How to read these files: `f x y` is f of x and y. A definition is a line with its type and a line with its value. The words before the
+-- name (abbrev, unfoldable, pub) concern the checker only. `a ∷ b ∷ []` is the list of a and b. `cond t a b` is a if t is true, else b.
+-- `λ x. ..` is the function of x. `&&`, `||` and `not` are and, or and not. `r .field` is a field of r.
 use Prim.Native.Nat.{ℕ}
 use mathlib.Core.Bool.{Bool, true, false, _&&_, _||_}
 use mathlib.Core.List.{List, [], _∷_}
@@ -18,7 +18,7 @@ all p [] = true
 all p (x ∷ xs) = p x && all p xs
 
 infix 40 _∈?_
--- the number is one of the list
+-- the number is in the list
 abbrev pub _∈?_ : ℕ → List ℕ → Bool
 n ∈? ns = any (eqb n) ns
 

@@ -1,4 +1,4 @@
-// The kinds that the judge speaks of: states, codes, answers and numbers. Each carries its published codes.
+// The types that the judge speaks of: states, codes, answers and numbers, each with its codes (definition 2).
 ghost use mathlib.Core.Path.{_≡_};
 ghost use mathlib.Core.Bool.{cond};
 ghost use Rattle.kinds.specs.Codes.{dirty, requests, respPD, fwdPD};
@@ -10,19 +10,19 @@ ghost use lib.ListN.{length, set};
 
 pub mod place;
 
-// An event is this many bytes.
+// The length of an event in bytes (definition 2.3).
 pub const EVENT_BYTES: usize = 14;
 
-// A trace has at most this many events.
+// The most events that a trace may have (definition 3.3).
 pub const MOST_EVENTS: usize = 4096;
 
-// A table of sets has at most this many pairs; a sheet has just as many.
+// The most pairs that a table of sets may have (definition 3.3). A sheet has exactly as many (definition 8.5).
 pub const MOST_PAIRS: usize = 4096;
 
-// The highest number of a pair on a sheet.
+// The highest pair number on a sheet.
 pub const HIGHEST_PAIR: u32 = 4095;
 
-// The set of all seven states: no set is above it.
+// The set of all seven states, one bit each (definition 2.2). It is the highest set.
 pub const ALL_STATES: u8 = 127;
 
 // One byte where the test holds, else the other.
@@ -39,7 +39,7 @@ pub fn choose_bool(test: bool, this: bool, that: bool) -> bool
     if test { this } else { that }
 }
 
-// The state of a line in a cache.
+// The state of a cache line (definition 2.1).
 pub struct LineState(pub u8);
 
 impl LineState {
@@ -59,7 +59,7 @@ impl LineState {
 
     pub const NOT_SEEN: LineState = LineState(7);
 
-    // Whether somebody has to write the line back.
+    // Whether the line is Dirty, so that somebody has to write it back.
     pub fn dirty(self) -> bool
         ensures { λ r. ⌜ r ≡ dirty (self .0) ⌝ }
     {
@@ -68,7 +68,7 @@ impl LineState {
     }
 }
 
-// The state of a line's memory tags.
+// The state of the line's memory tags (definition 2.3, byte 4).
 pub struct TagState(pub u8);
 
 impl TagState {
@@ -81,7 +81,7 @@ impl TagState {
     pub const NOT_SEEN: TagState = TagState(3);
 }
 
-// What an answer says of the tags it carries.
+// What an answer says about the tags it carries (definition 2.3, byte 9).
 pub struct TagOp(pub u8);
 
 impl TagOp {
@@ -94,7 +94,7 @@ impl TagOp {
     pub const MATCH: TagOp = TagOp(3);
 }
 
-// The error field of an answer.
+// The error field of an answer (definition 2.3, byte 10).
 pub struct RespErr(pub u8);
 
 impl RespErr {
@@ -107,7 +107,7 @@ impl RespErr {
     pub const NDERR: RespErr = RespErr(3);
 }
 
-// The snoop that is asked.
+// The snoop that Home sends (definition 2.4).
 pub struct Request(pub u8);
 
 impl Request {
@@ -125,7 +125,7 @@ impl Request {
 
     pub const SNP_PREFER_UNIQUE_FWD: Request = Request(22);
 
-    // Whether it is one of those that are judged.
+    // Whether it is one of the seven that are judged.
     pub fn known(self) -> bool
         ensures { λ r. ⌜ r ≡ self .0 ∈? requests ⌝ }
     {
@@ -140,7 +140,7 @@ impl Request {
     }
 }
 
-// The channel that an answer goes on.
+// The channel that carries an answer.
 pub struct Channel(pub u8);
 
 impl Channel {
@@ -149,7 +149,7 @@ impl Channel {
     pub const DAT: Channel = Channel(1);
 }
 
-// The message that an answer is, among those of its channel.
+// The message, among those of its channel (definition 2.5).
 pub struct Opcode(pub u8);
 
 impl Opcode {
@@ -164,7 +164,7 @@ impl Opcode {
     pub const SNP_RESP_DATA_FWDED: Opcode = Opcode(6);
 }
 
-// The state that an answer names, and whether it passes to Home the duty to write back.
+// The state that an answer names, and whether it passes the duty to write back to Home (definition 2.6).
 pub struct Resp(pub u8);
 
 impl Resp {
@@ -178,7 +178,7 @@ impl Resp {
 
     pub const SC_PD: Resp = Resp(5);
 
-    // Whether it carries PD, Pass Dirty.
+    // Whether it carries PD (Pass Dirty).
     pub fn passes_dirty(self) -> bool
         ensures { λ r. ⌜ r ≡ respPD (self .0) ⌝ }
     {
@@ -187,7 +187,7 @@ impl Resp {
     }
 }
 
-// The state that forwarded data names, and whether it passes to the Requester the duty to write back.
+// The state that forwarded data names, and whether it passes the duty to write back to the Requester (definition 2.6).
 pub struct FwdState(pub u8);
 
 impl FwdState {
@@ -201,7 +201,7 @@ impl FwdState {
 
     pub const SD_PD: FwdState = FwdState(7);
 
-    // Whether it carries PD, Pass Dirty.
+    // Whether it carries PD (Pass Dirty).
     pub fn passes_dirty(self) -> bool
         ensures { λ r. ⌜ r ≡ fwdPD (self .0) ⌝ }
     {
@@ -210,14 +210,14 @@ impl FwdState {
     }
 }
 
-// What the snoopee forwards to the Requester.
+// What the snoopee forwards to the Requester (definition 2.7).
 pub enum Forward {
     NoForward,
     CompData(FwdState),
 }
 
 impl Forward {
-    // What a FwdState says is forwarded.
+    // The forward that a FwdState stands for.
     pub fn from_state(state: FwdState) -> Forward
         ensures { λ r. ⌜ r ≡ forwardAt (state .0) ⌝ }
     {
@@ -229,7 +229,7 @@ impl Forward {
         }
     }
 
-    // What the bus shows of it: whether data is forwarded, and its Resp.
+    // Bytes 11 and 12 of the event: whether data is forwarded, and its Resp.
     pub fn wire(self) -> [u8; 2]
         ensures { λ r. ⌜ r ≡ forwardWire self ⌝ }
     {
@@ -240,18 +240,18 @@ impl Forward {
     }
 }
 
-// The snoopee's answer to Home, with what it forwarded inside it.
+// The snoopee's answer to Home, together with what it forwarded to the Requester (definition 2.7).
 pub enum Answer {
-    // Without data: SnpResp, or SnpRespFwded where something is forwarded.
+    // Without data: SnpResp, or SnpRespFwded with a forward.
     SnpResp(Resp, Forward),
-    // With data: SnpRespData, or SnpRespDataFwded.
+    // With data: SnpRespData, or SnpRespDataFwded with a forward.
     SnpRespData(Resp, Forward),
-    // With part of the data; nothing is forwarded.
+    // With part of the data, and never with a forward.
     SnpRespDataPtl(Resp),
 }
 
 impl Answer {
-    // What the bus shows of it: channel, opcode, Resp, FwdState, forwarded data present, its Resp.
+    // Bytes 5 to 8, 11 and 12 of the event: channel, opcode, Resp, FwdState, forwarded data present, its Resp.
     pub fn wire(self) -> [u8; 6]
         ensures { λ r. ⌜ r ≡ wire self ⌝ }
     {
@@ -286,7 +286,7 @@ impl Answer {
         }
     }
 
-    // Its FwdState.
+    // Its FwdState; 0 without a forward.
     pub fn fwd_state(self) -> FwdState
         ensures { λ r. ⌜ r .0 ≡ answerFwd self ⌝ }
     {
@@ -304,7 +304,7 @@ impl Answer {
     }
 }
 
-// SnpResp on the bus, or SnpRespFwded.
+// The event bytes of SnpResp or SnpRespFwded.
 fn without_data(r: Resp, forward: Forward) -> [u8; 6]
     ensures { λ w. ⌜ w ≡ wire (Answer.SnpResp r forward) ⌝ }
 {
@@ -314,7 +314,7 @@ fn without_data(r: Resp, forward: Forward) -> [u8; 6]
     }
 }
 
-// SnpRespData on the bus, or SnpRespDataFwded.
+// The event bytes of SnpRespData or SnpRespDataFwded.
 fn with_data(r: Resp, forward: Forward) -> [u8; 6]
     ensures { λ w. ⌜ w ≡ wire (Answer.SnpRespData r forward) ⌝ }
 {
@@ -331,7 +331,7 @@ fn with_data(r: Resp, forward: Forward) -> [u8; 6]
     }
 }
 
-// What the judge says of an event, from the set of its pair.
+// What the judge says about an event (definition 2.9, 7.3).
 pub struct Verdict(pub u8);
 
 impl Verdict {
@@ -342,7 +342,7 @@ impl Verdict {
     pub const NOT_JUDGED: Verdict = Verdict(2);
 }
 
-// Who holds the duty to write back after an explained event.
+// Who has to write the line back after an explained event (definition 2.9, 6.3).
 pub struct Duty(pub u8);
 
 impl Duty {
@@ -355,7 +355,7 @@ impl Duty {
     pub const LOST: Duty = Duty(3);
 }
 
-// Why a call is refused, or that it is accepted.
+// Why a call is refused, or that it is accepted (definition 4.1, 8.7).
 pub struct Refusal(pub u8);
 
 impl Refusal {
@@ -378,11 +378,11 @@ impl Refusal {
     pub const FIELDS: Refusal = Refusal(8);
 }
 
-// The number of a pair, one line in one cache: the only number that the table of sets is read by.
+// The number of a pair, which is one line in one cache. Only this number looks up the table of sets (definition 1.3).
 pub struct PairNumber(pub u16);
 
 impl PairNumber {
-    // The pair's set in the table of sets; empty for a pair that the table doesn't have.
+    // The pair's set in the table of sets; the empty set if the table does not have the pair.
     pub fn set_in(self, table: &[u8]) -> u8
         ensures { λ r. ⌜ r ≡ setIn (now (table .entry)) (self .0) ⌝ }
     {
@@ -399,7 +399,7 @@ impl PairNumber {
         (pair as usize) < table.len()
     }
 
-    // Puts the pair's set into the table; a table that doesn't have the pair stays as it is.
+    // Writes the pair's set into the table, if the table has the pair.
     pub fn put_in(self, table: &mut [u8], states: u8)
         ensures { λ _. ⌜ now (table .exit) ≡ set (now (table .entry)) (self .0) states ⌝ }
     {
@@ -411,11 +411,11 @@ impl PairNumber {
     }
 }
 
-// The number of an event in a trace.
+// The number of an event in its trace, counted from 0.
 pub struct EventNumber(pub u32);
 
 impl EventNumber {
-    // The event's bytes, in place: a part of the trace that starts at the number times an event's length.
+    // The bytes of the event, as a part of the buffer: those from offset 14 times its number (definition 3.3).
     pub fn event_in(self, events: &[u8]) -> &[u8]
         ensures { λ r. ⌜ now r ≡ eventIn (now (events .entry)) (self .0) ⌝ }
     {
@@ -431,7 +431,7 @@ impl EventNumber {
         &events[start..start + EVENT_BYTES]
     }
 
-    // The pair that the event is of; pair 0 past the end.
+    // The pair of the event; pair 0 past the end.
     pub fn pair_in(self, pairs: &[u16]) -> PairNumber
         ensures { λ r. ⌜ r .0 ≡ pairIn (now (pairs .entry)) (self .0) ⌝ }
     {
@@ -444,7 +444,7 @@ impl EventNumber {
         }
     }
 
-    // Puts a byte at the event's place; bytes that don't have the place stay as they are.
+    // Writes a byte at the event's index, if the buffer is that long.
     pub fn put_in(self, bytes: &mut [u8], byte: u8)
         ensures { λ _. ⌜ now (bytes .exit) ≡ set (now (bytes .entry)) (self .0) byte ⌝ }
     {

@@ -1,4 +1,4 @@
-// Where each field of an event stands among its bytes.
+// The offset of each field in an event (definition 2.3).
 pub const REQUEST: usize = 0;
 
 pub const RET_TO_SRC: usize = 1;

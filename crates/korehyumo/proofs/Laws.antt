@@ -1,4 +1,4 @@
--- Laws of the number that a call gives back: the places and numbers that it holds, and how each is read out of it.
+-- Laws about the packed result of a call: its parts are small, and each can be read back.
 -- Assumes nothing.
 use mathlib.Core.Path.{_≡_, sym, _∙_, ap, ap₂, subst}
 use mathlib.Core.Bool.{Bool, true, false, cond}
@@ -23,7 +23,7 @@ use Rattle.trace.proofs.Given.{given}
 use Rattle.trace.proofs.Whole.{judged-outcome}
 use Rattle.korehyumo.specs.Calls.{placesEnd, inOne, eventCall, eventTold, traceCall, traceTold}
 
--- the number and the place are read back out of the two in one
+-- the refusal number and the place, read back from the packed number
 pub number-in : (number place : ℕ) → number < 256 → inOne number place % 256 ≡ number
 unfolding inOne
 number-in number place h = digits-mod place h
@@ -32,7 +32,7 @@ pub place-in : (number place : ℕ) → number < 256 → inOne number place / 25
 unfolding inOne
 place-in number place h = digits-div place h
 
--- so two that are the same in one are the same
+-- two outcomes with the same packed number are equal
 pub same-outcome : (o : Outcome) (number place : ℕ) → o .refusal .0 < 256 → number < 256 → inOne (o .refusal .0) (o .place) ≡ inOne number place
     → o ≡ outcome number place
 same-outcome o number place small small′ h =
@@ -40,12 +40,12 @@ same-outcome o number place small small′ h =
     (sym (number-in (o .refusal .0) (o .place) small) ∙ ap (λ (n : ℕ). n % 256) h ∙ number-in number place small′)
     (sym (place-in (o .refusal .0) (o .place) small) ∙ ap (λ (n : ℕ). n / 256) h ∙ place-in number place small′)
 
--- the two in one fit 32 bits
+-- the packed number fits in 32 bits
 pub one-below : (number place : ℕ) → number < 256 → place < placesEnd → inOne number place < 2 ^ 32
 unfolding inOne
 one-below number place h k = omega arith
 
--- one event alone: its place and its number are small
+-- one event alone: its place and its refusal number are small
 pub place-alone : (issue : Issue) (e : List ℕ) → judgedAlone issue e .place < placesEnd
 unfolding judgedAlone
 place-alone issue e = go (eqb (refusalAlone issue e) 0)
@@ -79,7 +79,7 @@ number-alone issue e = go (eqb (refusalAlone issue e) 0) (alone-below issue e)
     go true h = omega arith
     go false h = h
 
--- a whole trace: of every row of the refusal table the place and the number are small
+-- a whole trace: in every row of the refusal table, place and number are small
 place-of-row : {issue : Issue} {l : Lent} {number place : ℕ} → Given issue l number place → place < placesEnd
 place-of-row (accepted g) = omega (arith, g .fits .few-events)
 place-of-row (bad-lengths n) = omega arith
@@ -102,7 +102,7 @@ place-of-trace issue l = subst (λ (o : Outcome). o .place < placesEnd) (sym (ju
 pub number-of-trace : (issue : Issue) (l : Lent) → judged issue l .outcome .refusal .0 < 256
 number-of-trace issue l = subst (λ (o : Outcome). o .refusal .0 < 256) (sym (judged-outcome issue l)) (number-of-row (given issue l))
 
--- what each call leaves is what it has of the judge, told
+-- each call leaves what the judge leaves, with the result packed
 pub event-told : (j j′ : Judgment) (r : ℕ) → r ≡ inOne (j .refusal .0) (j .place) → j ≡ j′ → eventCall r (j .sets) (j .duties) ≡ eventTold j′
 event-told j j′ r h k = ap (λ (n : ℕ). eventCall n (j .sets) (j .duties)) h ∙ ap eventTold k
 

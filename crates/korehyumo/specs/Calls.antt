@@ -1,14 +1,14 @@
--- What a call from another language leaves: its one number, and every byte that it may write.
+-- What a C function leaves: its result, and every byte that it may write (definition 10).
 use Prim.Native.Nat.{ℕ, _+_, _*_}
 use mathlib.Core.List.{List}
 use Rattle.event.specs.declared.Judgment.{Judgment}
 use Rattle.trace.specs.Lent.{Left}
 
--- every place is below this, so that place and number in one are below 2 to the 32
+-- every place is below this, so a packed number and place are below 2 to the 32
 abbrev pub placesEnd : ℕ
 placesEnd = 16777216
 
--- a refusal's number and its place in one: the place times 256, plus the number
+-- a refusal number and its place packed into one number: the place times 256 plus the refusal number (definition 10.1)
 unfoldable pub inOne : ℕ → ℕ → ℕ
 inOne number place = place * 256 + number
 
@@ -18,11 +18,11 @@ pub record EventCall : Type 0 where
   pub sets : List ℕ
   pub duties : List ℕ
 
--- its result, then its two buffers in the order of the call
+-- the result, then the two buffers in the order of the call's arguments
 abbrev pub eventCall : ℕ → List ℕ → List ℕ → EventCall
 eventCall result sets duties = record { result = result; sets = sets; duties = duties }
 
--- a judgment as that call leaves it: the refusal and its place in one, and all sets and duties, of a refused event too
+-- a judgment as that call leaves it; the sets and duties of a refused event too (definition 10.2)
 abbrev pub eventTold : Judgment → EventCall
 eventTold j = eventCall (inOne (j .refusal .0) (j .place)) (j .sets) (j .duties)
 
@@ -34,11 +34,11 @@ pub record TraceCall : Type 0 where
   pub duties : List ℕ
   pub afters : List ℕ
 
--- its result, then its four buffers in the order of the call
+-- the result, then the four buffers in the order of the call's arguments
 abbrev pub traceCall : ℕ → List ℕ → List ℕ → List ℕ → List ℕ → TraceCall
 traceCall result table verdicts duties afters =
     record { result = result; table = table; verdicts = verdicts; duties = duties; afters = afters }
 
--- what is left of a trace as that call leaves it: the refusal and its place in one, and the four buffers
+-- what the judge of a trace leaves, as that call leaves it
 abbrev pub traceTold : Left → TraceCall
 traceTold l = traceCall (inOne (l .outcome .refusal .0) (l .outcome .place)) (l .table) (l .verdicts) (l .duties) (l .afters)

@@ -1,5 +1,5 @@
-// The judge for other languages: one event alone and a whole trace, as functions that a C program links. What include/korehyumo.h says in
-// words is what the claims here say.
+// The judge for other languages: one event alone and a whole trace, as functions for a C program to link (definition 10).
+// include/korehyumo.h says in words what these claims say.
 ghost use Prim.Native.Nat.{_<_};
 ghost use mathlib.Core.Path.{_≡_};
 ghost use Rattle.event.specs.Refusals.{issueE};
@@ -8,7 +8,7 @@ ghost use Rattle.trace.specs.Lent.{lent};
 ghost use Rattle.trace.specs.Judged.{judged};
 ghost use Rattle.korehyumo.specs.Calls.{placesEnd, inOne, eventCall, eventTold, traceCall, traceTold};
 
-// A refusal's number and its place in one.
+// A refusal number and its place packed into one number.
 fn in_one(number: u8, place: usize) -> u64
     requires { ⌜ place < placesEnd ⌝ }
     ensures { λ r. ⌜ r ≡ inOne number place ⌝ }
@@ -16,8 +16,8 @@ fn in_one(number: u8, place: usize) -> u64
     (place as u64) * 256 + (number as u64)
 }
 
-// One event judged alone: the refusal and its place in one, and for each of the seven states before, the set of states after and the
-// duty. A refused event gives seven empty sets and duties 0.
+// Judges one event alone: for each of the seven states before, the set of states after and the duty. The result packs number and place.
+// A refused event leaves seven empty sets and seven duties 0.
 #[no_mangle]
 pub extern "C" fn korehyumo_event(event: &[u8], sets: &mut [u8; 7], duties: &mut [u8; 7]) -> u64
     ensures { λ r. ⌜ eventCall r (now (sets .exit)) (now (duties .exit)) ≡ eventTold (judgedAlone issueE (now (event .entry))) ⌝ }
@@ -30,7 +30,7 @@ pub extern "C" fn korehyumo_event(event: &[u8], sets: &mut [u8; 7], duties: &mut
     in_one(judgment.refusal.0, judgment.place)
 }
 
-// A whole trace judged: the refusal and its place in one. A refused one leaves every buffer as it came.
+// Judges a whole trace. The result packs number and place. A refused trace leaves all buffers as they were.
 #[no_mangle]
 pub extern "C" fn korehyumo_trace(
     events: &[u8],

@@ -1,4 +1,4 @@
--- Laws of the end of a line: where CR LF stands, and how far a line reaches.
+-- Laws about the end of a line: where CR LF stands, and where the search for it stops.
 -- Assumes nothing.
 use mathlib.Core.Path.{_≡_, refl, sym, _∙_, ap, subst}
 use mathlib.Core.Bool.{true, false, cond, _&&_}
@@ -15,7 +15,7 @@ use Rattle.text.specs.Text.{CR, LF}
 use Rattle.lines.specs.Lines.{crlf}
 use Rattle.lines.specs.Seen.{tooLong, reach, lineEnd}
 
--- fewer than two bytes are no CR LF
+-- fewer than two bytes do not begin with CR LF
 short-none : (s : List ℕ) → length s < 2 → crlf s ≡ false
 short-none [] h = refl
 short-none (x ∷ []) h = refl
@@ -32,7 +32,7 @@ crlf-at s i h =
     sym (ap crlf (drop-cons s i 0 (omega (arith, h)) ∙ ap (λ r. getD s i 0 ∷ r) (drop-cons s (suc i) 0 (omega (arith, h))))
     ∙ ap (λ n. eqb (getD s i 0) CR && eqb (getD s n 0) LF) (sym (add-one i)))
 
--- where no CR stands, no CR LF does
+-- bytes that do not begin with CR do not begin with CR LF
 first-CR : (x : ℕ) (s : List ℕ) → eqb x CR ≡ false → crlf (x ∷ s) ≡ false
 first-CR x [] h = refl
 first-CR x (y ∷ s) h = ap (λ b. b && eqb y LF) h
@@ -40,13 +40,13 @@ first-CR x (y ∷ s) h = ap (λ b. b && eqb y LF) h
 pub none-here : (s : List ℕ) (i : ℕ) → i < length s → (getD s i 0 ≡ CR → ⊥) → crlf (drop i s) ≡ false
 none-here s i h f = ap crlf (drop-cons s i 0 h) ∙ first-CR (getD s i 0) (drop (suc i) s) (ne-eqb (getD s i 0) CR f)
 
--- looking no further than the end is no loss
+-- searching no further than the end finds the same
 reach-min : (n : ℕ) (s : List ℕ) → reach n s ≡ reach (min (length s) n) s
 reach-min zero s = sym (ap (λ k. reach k s) (min-zero (length s)))
 reach-min (suc n) [] = sym (ap (λ k. reach k []) (zero-min (suc n)))
 reach-min (suc n) (x ∷ s) = ap (λ k. cond (crlf (x ∷ s)) 0 (suc k)) (reach-min n s) ∙ sym (ap (λ k. reach k (x ∷ s)) (suc-min-suc (length s) n))
 
--- the line has been looked at up to a place
+-- the line has been searched up to `at`, and no CR LF was found
 pub record Looked (s : List ℕ) (start last at : ℕ) : Type 0 where
   pub so : lineEnd s start ≡ at + reach (last - at) (drop at s)
   pub below : at ≤ last

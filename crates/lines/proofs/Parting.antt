@@ -12,7 +12,7 @@ use Rattle.text.specs.Text.{onFirst}
 use Rattle.lines.specs.Lines.{crlf, linesOf}
 use Rattle.lines.specs.Seen.{reach}
 
--- where CR LF stands at the end of what is reached, that is the first line, and the text goes on behind it
+-- if the search stops at a CR LF, the bytes before it are the first line, and the other lines follow after it
 pub whole-line : (n : ℕ) (s more : List ℕ) → crlf (drop (reach n s) s) ≡ true
     → linesOf (s ++ more) ≡ take (reach n s) s ∷ linesOf (drop (reach n s + 2) s ++ more)
 whole-line zero [] more h = absurd (false≢true h)
@@ -35,7 +35,7 @@ whole-line (suc n) (x ∷ y ∷ s) more h = go (crlf (x ∷ y ∷ s)) refl h (wh
         two-more : (m : ℕ) → suc (m + 2) ≡ suc m + 2
         two-more m = omega arith
 
--- lines that begin with one of at least n bytes
+-- the first line has at least n bytes
 pub record Long (n : ℕ) (ls : List (List ℕ)) : Type 0 where
   pub line : List ℕ
   pub others : List (List ℕ)
@@ -57,7 +57,7 @@ some-line x (y ∷ s) = go (crlf (x ∷ y ∷ s))
     go true = record { line = []; others = linesOf s; are = refl; long = omega arith }
     go false = first (linesOf (y ∷ s))
 
--- where n bytes are reached and one more stands there, the first line has at least n
+-- if the search stops after n bytes and more follow, the first line has at least n bytes
 pub long-line : (n : ℕ) (s more : List ℕ) → reach n s ≡ n → n < length s → Long n (linesOf (s ++ more))
 long-line n [] more e h = absurd (omega arith)
 long-line zero (x ∷ s) more e h = some-line x (s ++ more)
@@ -69,7 +69,7 @@ long-line (suc n) (x ∷ y ∷ s) more e h = go (crlf (x ∷ y ∷ s)) e (λ k. 
     go true k f = absurd (omega (arith, k))
     go false k f = longer n x (linesOf (y ∷ s ++ more)) (f (omega (arith, k)))
 
--- where all bytes are reached, they are the only line
+-- if the search stops at the end, all bytes are one line
 pub last-line : (n : ℕ) (s : List ℕ) → 0 < length s → reach n s ≡ length s → linesOf s ≡ s ∷ []
 last-line n [] h e = absurd (omega arith)
 last-line n (x ∷ []) h e = refl
@@ -81,7 +81,7 @@ last-line (suc n) (x ∷ y ∷ s) h e = go (crlf (x ∷ y ∷ s)) e (λ k. last-
     go true k f = absurd (omega (arith, k))
     go false k f = ap (onFirst x) (f (omega (arith, k)))
 
--- where no CR LF stands at the end of what is reached, it is all that may be looked at
+-- if the search does not stop at a CR LF, it stops after n bytes or at the end
 pub reach-all : (n : ℕ) (s : List ℕ) → crlf (drop (reach n s) s) ≡ false → reach n s ≡ min n (length s)
 reach-all zero s h = sym (zero-min (length s))
 reach-all (suc n) [] h = sym (min-zero (suc n))
@@ -92,7 +92,7 @@ reach-all (suc n) (x ∷ s) h = go (crlf (x ∷ s)) refl h (reach-all n s)
     go true e k f = absurd (false≢true (sym k ∙ e))
     go false e k f = ap suc (f k) ∙ sym (suc-min-suc n (length s))
 
--- no more is reached than there is
+-- the search does not go past the end
 pub reach-within : (n : ℕ) (s : List ℕ) → reach n s ≤ length s
 reach-within zero s = omega arith
 reach-within (suc n) [] = omega arith

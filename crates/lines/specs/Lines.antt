@@ -1,4 +1,4 @@
--- The lines of a text: CR LF ends a line, and either alone is an ordinary byte. The last line's CR LF may be absent.
+-- The lines of a text (definition 8.1): CR LF ends a line, either one alone is an ordinary byte, and the last CR LF may be absent.
 use Prim.Native.Nat.{ℕ}
 use mathlib.Core.Bool.{Bool, false, cond, _&&_}
 use mathlib.Core.List.{List, [], _∷_}
@@ -11,7 +11,7 @@ crlf [] = false
 crlf (x ∷ []) = false
 crlf (x ∷ y ∷ s) = eqb x CR && eqb y LF
 
--- the lines, without their CR LF; nothing behind the last CR LF is no line
+-- the lines, without their CR LF; a final CR LF starts no further line
 abbrev pub linesOf : List ℕ → List (List ℕ)
 linesOf [] = []
 linesOf (x ∷ []) = (x ∷ []) ∷ []

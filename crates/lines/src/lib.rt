@@ -1,22 +1,22 @@
-// Where the lines of a text end.
+// Finds where the lines of a text end (definition 8.1).
 ghost use mathlib.Core.Path.{_≡_};
 ghost use Prim.Native.Nat.{_+_, _≤_, min};
 ghost use lib.ListN.{length, drop};
 ghost use Rattle.lines.specs.Lines.{crlf};
 ghost use Rattle.lines.specs.Seen.{lineEnd, tooLong};
 
-// A line has at most this many bytes before its CR LF.
+// The most bytes that a line may have before its CR LF (definition 8.7).
 pub const LONGEST: usize = 160;
 
-// A line that has this many is too long, whatever follows.
+// A line with this many bytes is too long, whatever follows.
 pub const TOO_LONG: usize = LONGEST + 1;
 
-// Carriage return and line feed: the two together end a line.
+// CR and LF together end a line.
 const CR: u8 = 13;
 
 const LF: u8 = 10;
 
-// The place up to which a line that starts at a place is looked at.
+// The offset up to which a line has to be searched for its CR LF.
 fn last_seen(text: &[u8], start: usize) -> usize
     requires { ⌜ start ≤ length (now text) ⌝ }
     ensures { λ r. ⌜ r ≡ start + min (length (drop start (now (text .entry)))) tooLong ⌝ }
@@ -28,7 +28,7 @@ fn last_seen(text: &[u8], start: usize) -> usize
     start + TOO_LONG
 }
 
-// Whether CR LF stands at a place.
+// Whether CR LF stands at an offset.
 pub fn ends_line(text: &[u8], at: usize) -> bool
     ensures { λ r. ⌜ r ≡ crlf (drop at (now (text .entry))) ⌝ }
 {
@@ -42,7 +42,7 @@ pub fn ends_line(text: &[u8], at: usize) -> bool
     (text[at] == CR) & (text[at + 1] == LF)
 }
 
-// The place where the line that starts at a place ends: at its CR LF, where it is known to be too long, or at the end of the text.
+// The offset at which a line ends: at its CR LF, where it is certainly too long, or at the end of the text.
 pub fn line_end(text: &[u8], start: usize) -> usize
     ensures { λ r. ⌜ r ≡ lineEnd (now (text .entry)) start ⌝ }
 {

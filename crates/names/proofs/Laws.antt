@@ -1,4 +1,4 @@
--- Laws of the names, over plain variables: two lists walked side by side, a column name by name, and digits one by one.
+-- Laws about the names, over plain variables: two lists compared side by side, a column name by name, and digits one by one.
 -- Assumes nothing.
 use mathlib.Core.Path.{_≡_, refl, sym, _∙_, ap, ap₂}
 use mathlib.Core.Bool.{Bool, true, false, cond, not, _&&_, true≢false, false≢true, and-assoc, and-true, and-false}
@@ -26,7 +26,7 @@ same-other-length [] (y ∷ ys) h = refl
 same-other-length (x ∷ xs) [] h = refl
 same-other-length (x ∷ xs) (y ∷ ys) h = and-not (eqb x y) (same-other-length xs ys (λ e. h (ap suc e)))
 
--- t says whether two lists of m numbers each are the same up to i
+-- t says whether the first i numbers of two lists of length m are the same
 pub record Alike (f n : List ℕ) (m : ℕ) (t : Bool) (i : ℕ) : Type 0 where
   pub within : i ≤ m
   pub first-length : length f ≡ m
@@ -36,7 +36,7 @@ pub record Alike (f n : List ℕ) (m : ℕ) (t : Bool) (i : ℕ) : Type 0 where
 pub alike-start : (f n : List ℕ) (m : ℕ) → length f ≡ m → length n ≡ m → Alike f n m true 0
 alike-start f n m p q = record { within = omega arith; first-length = p; second-length = q; rest = refl }
 
--- what is left begins with the numbers at i
+-- the rests of the two lists begin with their numbers at i
 ahead : {f n : List ℕ} {m i : ℕ} {t : Bool} → Alike f n m t i → i < m
     → same (drop i f) (drop i n) ≡ eqb (getD f i 0) (getD n i 0) && same (drop (suc i) f) (drop (suc i) n)
 ahead {f} {n} {m} {i} {t} a h =
@@ -61,23 +61,23 @@ alike-end {f} {n} {m} {i} {t} a h =
     ∙ ap (λ (b : Bool). t && b) (sym (ap₂ same (drop-of-length-le f {i = i} (omega (arith, a .first-length))) (drop-of-length-le n {i = i} (omega (arith, a .second-length)))))
     ∙ a .rest
 
--- one name of a column: the field is it, or what the names after it say
+-- one name of a column: the field is this name, or the later names decide
 pub by-name : (n : Named) (ns : List Named) (f : List ℕ) {x y : ℕ} → x ≡ cond (same f (n .name)) (n .code) y → y ≡ codeOf ns f → x ≡ codeOf (n ∷ ns) f
 unfolding codeOf
 by-name n ns f h k = h ∙ ap (cond (same f (n .name)) (n .code)) k
 
--- a name and the two ways past it
+-- the two outcomes of comparing with one name
 pub met : {t : Bool} (s : Bool) (code other : ℕ) → t ≡ s → t ≡ true → code ≡ cond s code other
 met s code other h k = sym (ap (λ (b : Bool). cond b code other) (sym h ∙ k))
 
 pub missed : {t : Bool} (s : Bool) (code other : ℕ) → t ≡ s → t ≡ false → other ≡ cond s code other
 missed s code other h k = sym (ap (λ (b : Bool). cond b code other) (sym h ∙ k))
 
--- the number that digits are, or unknown
+-- the number that digits stand for, or unknown
 number : ℕ → List ℕ → ℕ
 number v f = cond (all isDigit f) (readDecimal v f) unknown
 
--- the first i of at most four digits are v
+-- the first i of at most four digits stand for v
 pub record Read (f : List ℕ) (m v i : ℕ) : Type 0 where
   pub within : i ≤ m
   pub long : length f ≡ m
@@ -106,7 +106,7 @@ digit-low d h = leb-true 48 d (and-left (leb 48 d) (leb d 57) (not-false (isDigi
 pub digit-high : (d : ℕ) → not (isDigit d) ≡ false → d ≤ 57
 digit-high d h = leb-true d 57 (and-right (leb 48 d) (leb d 57) (not-false (isDigit d) h))
 
--- before the last digit, the number is below the highest power of 10 that has as many
+-- before the last digit, the number is below 1,000
 pub few-digits : (i m v : ℕ) → i < m → m ≤ mostDigits → v < 10 ^ i → v < 10 ^ (mostDigits - 1)
 few-digits i m v h k l =
     let le : 10 ^ i ≤ 10 ^ (mostDigits - 1) = pow-le-pow-right (omega arith) before-last in
@@ -139,7 +139,7 @@ pub read-end : {f : List ℕ} {m v i : ℕ} → Read f m v i → m ≤ i → v �
 unfolding number readDecimal
 read-end {f} {m} {v} {i} a h = sym (ap (number v) (drop-of-length-le f {i = i} (omega (arith, a .long)))) ∙ a .rest
 
--- the four tests of a pair's field: a of them all are the digits, b and c its length, z a leading zero
+-- the four tests of a pair's field: only digits (a), at least one (b), at most four (c), a leading zero (z)
 no-length : (a b c z : Bool) → not (b && c) ≡ true → a && b && c && not z ≡ false
 no-length false b c z h = refl
 no-length true false c z h = refl
@@ -179,17 +179,17 @@ module _ (f : List ℕ) where
   pub few-bytes : not (ltb 0 (length f) && leb (length f) mostDigits) ≡ false → length f ≤ mostDigits
   few-bytes h = leb-true (length f) mostDigits (and-right (ltb 0 (length f)) (leb (length f) mostDigits) (not-false (ltb 0 (length f) && leb (length f) mostDigits) h))
 
--- the column by its number
+-- the column with a known number
 module _ (n : ℕ) (f : List ℕ) {x : ℕ} where
   pub in-column : (k : ℕ) → n ≡ k → x ≡ inColumn k f → x ≡ inColumn n f
   in-column k h p = p ∙ ap (λ (i : ℕ). inColumn i f) (sym h)
 
--- the number is none of the first so many: what the last arm of a match knows
+-- n is not among the first k numbers: what the last arm of a match knows
 abbrev pub none : ℕ → ℕ → Type 0
 none n zero = Unit
 none n (suc k) = none n k × (n ≡ k → ⊥)
 
--- so it is past them
+-- so n is at least k
 none-past : (k n : ℕ) → none n k → k ≤ n
 none-past zero n h = omega arith
 none-past (suc k) n h = omega (arith, none-past k n (h .0), h .1)

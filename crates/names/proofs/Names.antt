@@ -1,5 +1,5 @@
--- Names both ways: in every column a field has a name's code exactly when it is that name, and is unknown exactly when it is none of the names;
--- and below which number each column's codes lie.
+-- Names in both directions: in each column, a field has a name's code exactly when it is that name, and is unknown exactly when it is no
+-- name of the column. Also the limits of each column's codes.
 -- Assumes nothing.
 use mathlib.Core.Path.{_≡_, refl, sym, _∙_, ap, subst}
 use mathlib.Core.Bool.{Bool, true, false, cond, not, _&&_, true≢false, false≢true}
@@ -17,7 +17,7 @@ use Rattle.kinds.proofs.Lists.{In, here, there, and-left, and-right, and-both, 
 use Rattle.names.specs.Names.{Named, unknown, codeOf, requestNames, flagNames, tagNames, responses, responseNames, tagOpNames, respErrNames}
 use Rattle.names.specs.Names.{forwardNames, finalNames, mostDigits, isDigit, leadingZero, isPair, readDecimal, pairOf, columns}
 
--- the test on two lists is their equality: `same-equal` of kinds, and the other way round
+-- `same` is the equality of lists; the other direction is `same-equal` of kinds
 pub same-self : (f : List ℕ) → same f f ≡ true
 same-self [] = refl
 same-self (x ∷ xs) = and-both (eq-eqb x x refl) (same-self xs)
@@ -25,7 +25,7 @@ same-self (x ∷ xs) = and-both (eq-eqb x x refl) (same-self xs)
 pub equal-same : (f n : List ℕ) → f ≡ n → same f n ≡ true
 equal-same f n h = ap (same f) (sym h) ∙ same-self f
 
--- what a search through the names comes to
+-- the two results of searching a field among names
 pub data Sought (ns : List Named) (f : List ℕ) : Type 0 where
   none : codeOf ns f ≡ unknown → ((n : Named) → In n ns → f ≡ n .name → ⊥) → Sought ns f
   found : (n : Named) → In n ns → f ≡ n .name → codeOf ns f ≡ n .code → Sought ns f
@@ -48,15 +48,15 @@ seek (m ∷ ms) f = go (same f (m .name)) refl (seek ms f)
     go false h (none p q) = none (ap (λ (b : Bool). cond b (m .code) (codeOf ms f)) h ∙ p) (not-this m ms f h q)
     go false h (found n i p q) = found n (there i) p (ap (λ (b : Bool). cond b (m .code) (codeOf ms f)) h ∙ q)
 
--- two tests say the same
+-- two tests agree
 agree : Bool → Bool → Bool
 agree a b = cond a b (not b)
 
--- no code is unknown's, and two entries have one code exactly when they have one name
+-- no code is the sentinel, and two names are equal exactly when their codes are
 tidy : List Named → Bool
 tidy ns = all (λ (m : Named). not (eqb (m .code) unknown) && all (λ (n : Named). agree (same (m .name) (n .name)) (eqb (m .code) (n .code))) ns) ns
 
--- a column's names and codes are one to one
+-- the names and the codes of a column are one to one
 pub record OneToOne (ns : List Named) : Type 0 where
   pub known-exactly : (n : Named) → In n ns → (f : List ℕ) → (codeOf ns f ≡ n .code) ↔ (f ≡ n .name)
   pub unknown-exactly : (f : List ℕ) → (codeOf ns f ≡ unknown) ↔ ((n : Named) → In n ns → f ≡ n .name → ⊥)
@@ -121,7 +121,7 @@ module _ (ns : List Named) (t : tidy ns ≡ true) where
         unknown-exactly = λ f. (from-unknown f (seek ns f), from-none f (seek ns f));
       }
 
--- so for every column of names
+-- each column of names is one to one
 pub requests-both-ways : OneToOne requestNames
 unfolding tidy agree requestNames
 requests-both-ways = one-to-one requestNames refl
@@ -154,7 +154,7 @@ pub finals-both-ways : OneToOne finalNames
 unfolding tidy agree finalNames
 finals-both-ways = one-to-one finalNames refl
 
--- a column's codes lie below a limit that every one of its names keeps
+-- if all codes of a column are below a limit, every known field's code is
 pub codes-below : (ns : List Named) (limit : ℕ) → all (λ (n : Named). ltb (n .code) limit) ns ≡ true → (f : List ℕ)
     → (codeOf ns f ≡ unknown) ⊎ (codeOf ns f < limit)
 codes-below ns limit t f = go (seek ns f)
@@ -163,13 +163,13 @@ codes-below ns limit t f = go (seek ns f)
     go (none p q) = inl p
     go (found n i p q) = inr (omega (arith, q, ltb-true (n .code) limit (all-at (λ (m : Named). ltb (m .code) limit) t i)))
 
--- a digit more
+-- one more digit
 digit-more : (v d p q : ℕ) → d ≤ 57 → q < (v * 10 + (d - 48) + 1) * p → q < (v + 1) * (p * 10)
 digit-more v d p q h k =
     let le : v * 10 + (d - 48) + 1 ≤ (v + 1) * 10 = omega arith in
     subst (λ (n : ℕ). q < n) (mul-assoc (v + 1) 10 p ∙ ap (λ (n : ℕ). (v + 1) * n) (mul-comm 10 p)) (lt-of-lt-of-le k (mul-le-mul-right p le))
 
--- n digits are below 10 to the n
+-- a number of n digits is below 10 to the n
 decimal-below : (v : ℕ) (f : List ℕ) → all isDigit f ≡ true → readDecimal v f < (v + 1) * 10 ^ length f
 unfolding readDecimal
 decimal-below v [] h = omega arith
@@ -179,7 +179,7 @@ decimal-below v (d ∷ ds) h =
     (leb-true d 57 (and-right (leb 48 d) (leb d 57) (and-left (isDigit d) (all isDigit ds) h)))
     (decimal-below (v * 10 + (d - 48)) ds (and-right (isDigit d) (all isDigit ds) h)))
 
--- what the test of a pair's field says of it
+-- what the test of a pair's field means, part by part
 all-digits : (f : List ℕ) → isPair f ≡ true → all isDigit f ≡ true
 unfolding isPair
 all-digits f h =
@@ -211,7 +211,7 @@ not-zero d ds h l e =
     (sym (and-both (eq-eqb d 48 e) (lt-ltb 1 (length (d ∷ ds)) l))
     ∙ not-true (leadingZero (d ∷ ds)) (and-right c (not (leadingZero (d ∷ ds))) h))
 
--- a pair's number is below this, for it has at most so many digits
+-- every pair number is below this
 abbrev pub pairLimit : ℕ
 pairLimit = 10 ^ mostDigits
 
@@ -228,14 +228,14 @@ pair-below f = go (isPair f) refl
     go false h = inl refl
     go true h = inr (few-digits f h)
 
--- a digit's bounds
+-- the bounds of a digit
 low : (d : ℕ) → isDigit d ≡ true → 48 ≤ d
 low d h = leb-true 48 d (and-left (leb 48 d) (leb d 57) h)
 
 high : (d : ℕ) → isDigit d ≡ true → d ≤ 57
 high d h = leb-true d 57 (and-right (leb 48 d) (leb d 57) h)
 
--- equally many digits that are one number are the same digits
+-- equally many digits with the same value are the same digits
 same-digits : (v w : ℕ) (f g : List ℕ) → length f ≡ length g → all isDigit f ≡ true → all isDigit g ≡ true → readDecimal v f ≡ readDecimal w g → (v ≡ w) × (f ≡ g)
 unfolding readDecimal
 same-digits v w [] [] l p q h = (h, refl)
@@ -249,7 +249,7 @@ same-digits v w (d ∷ ds) (e ∷ es) l p q h =
     let rest : ds ≡ es = r .1 in
     (omega (arith, r .0, low d dp, high d dp, low e ep, high e ep), cc)
 
--- digits read on from v make v times as much at least
+-- reading n digits on from v gives at least v times 10 to the n
 decimal-above : (v : ℕ) (f : List ℕ) → v * 10 ^ length f ≤ readDecimal v f
 unfolding readDecimal
 decimal-above v [] = omega arith
@@ -261,7 +261,7 @@ decimal-above v (d ∷ ds) =
     (mul-le-mul-right (10 ^ length ds) (omega arith)))
     (decimal-above (v * 10 + (d - 48)) ds))
 
--- no digits are fewer and the same number
+-- a shorter pair field never has the same value
 shorter : (f g : List ℕ) → isPair f ≡ true → isPair g ≡ true → length f < length g → readDecimal 0 f ≡ readDecimal 0 g → ⊥
 unfolding readDecimal
 shorter f [] p q l h = omega arith
@@ -274,7 +274,7 @@ shorter f (e ∷ es) p q l h =
     let wide : 10 ^ length f ≤ 10 ^ length es = pow-le-pow-right (omega arith) (omega (arith, l)) in
     omega (arith, more, above, below, wide, h)
 
--- good fields of one number are the same field
+-- pair fields with the same value are the same field
 one-field : (f g : List ℕ) → isPair f ≡ true → isPair g ≡ true → readDecimal 0 f ≡ readDecimal 0 g → f ≡ g
 one-field f g p q h = go (ltb (length f) (length g)) refl (ltb (length g) (length f)) refl
   where
@@ -284,7 +284,7 @@ one-field f g p q h = go (ltb (length f) (length g)) refl (ltb (length g) (lengt
     go false k false l =
         same-digits 0 0 f g (omega (arith, ltb-false (length f) (length g) k, ltb-false (length g) (length f) l)) (all-digits f p) (all-digits g q) h .1
 
--- a pair has one field: no two that are known are of one number
+-- each pair has only one field: two known fields with the same number are equal
 pub pair-one-field : (f g : List ℕ) → pairOf f ≡ pairOf g → (pairOf f ≡ unknown → ⊥) → f ≡ g
 unfolding pairOf
 pair-one-field f g h k = go (isPair f) refl (isPair g) refl h k
@@ -295,7 +295,7 @@ pair-one-field f g h k = go (isPair f) refl (isPair g) refl h k
     go true p false q l m = absurd (m l)
     go false p b q l m = absurd (m refl)
 
--- the field is unknown exactly when it isn't 1 to 4 digits without a leading zero
+-- the field is unknown exactly when it is not 1 to 4 digits without a leading zero
 pub pair-unknown : (f : List ℕ) → (pairOf f ≡ unknown) ↔ (isPair f ≡ false)
 unfolding pairOf
 pair-unknown f = (to (isPair f) refl, λ h. ap (λ (b : Bool). cond b (readDecimal 0 f) unknown) h)
@@ -304,11 +304,11 @@ pair-unknown f = (to (isPair f) refl, λ h. ap (λ (b : Bool). cond b (readDecim
     to false p h = refl
     to true p h = absurd (omega (arith, h, few-digits f p))
 
--- below which number the codes of each column lie
+-- the limit of each column's codes
 abbrev pub limits : List ℕ
 limits = pairLimit ∷ 256 ∷ 2 ∷ 2 ∷ 2 ∷ 4 ∷ 22 ∷ 4 ∷ 4 ∷ 8 ∷ 8 ∷ []
 
--- a field's code in a column is unknown, or below a limit
+-- every code of the column is unknown or below the limit
 abbrev pub Limited : (List ℕ → ℕ) → ℕ → Type 0
 Limited column limit = (f : List ℕ) → (column f ≡ unknown) ⊎ (column f < limit)
 
@@ -334,7 +334,7 @@ columns-limited =
     (one-more (codes-below finalNames 8 refl)
     none-more))))))))))
 
--- pairs that are good, and some that are not: the limits of the field one by one
+-- examples of pair fields, good ones and bad ones, at each limit
 pub some-pairs :
     map pairOf (bytes "0" ∷ bytes "9" ∷ bytes "10" ∷ bytes "4095" ∷ bytes "9999" ∷ bytes "10000" ∷ bytes "" ∷ bytes "00" ∷ bytes "01" ∷ bytes "1:" ∷ bytes "/1" ∷ bytes "-1" ∷ bytes " 1" ∷ [])
     ≡ 0 ∷ 9 ∷ 10 ∷ 4095 ∷ 9999 ∷ unknown ∷ unknown ∷ unknown ∷ unknown ∷ unknown ∷ unknown ∷ unknown ∷ unknown ∷ []

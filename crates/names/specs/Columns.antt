@@ -1,4 +1,4 @@
--- The codes of a line's fields by their columns, in the order of the header.
+-- The code of each column, from the codes of a line's fields in the order of the header (definition 8.2).
 use Prim.Native.Nat.{ℕ}
 use mathlib.Core.List.{List}
 use lib.ListN.{getD}

@@ -1,4 +1,4 @@
--- The fields of the bench sheet by their names: for each column what may stand there, with the code it stands for.
+-- The names that may stand in each column, with the code of each (definition 8.4).
 use Prim.Native.Nat.{ℕ, suc, _+_, _*_, _-_}
 use Prim.Native.String.{String}
 use mathlib.Core.Bool.{Bool, cond, not, _&&_}
@@ -15,26 +15,26 @@ use Rattle.kinds.specs.Answers.{SnpResp-I, SnpResp-SC, SnpRespData-I, SnpRespDa
 use Rattle.kinds.specs.Answers.{SnpResp-I-Fwded-SC, SnpResp-SC-Fwded-SC, SnpResp-SD-Fwded-SC, SnpResp-I-Fwded-SD-PD, SnpResp-SC-Fwded-SD-PD, SnpResp-I-Fwded-UC, SnpResp-I-Fwded-UD-PD}
 use Rattle.kinds.specs.Answers.{SnpRespData-I-Fwded-SC, SnpRespData-SC-Fwded-SC, SnpRespData-SD-Fwded-SC, SnpRespData-I-Fwded-SD-PD, SnpRespData-SC-Fwded-SD-PD, SnpRespData-I-PD-Fwded-SC, SnpRespData-SC-PD-Fwded-SC}
 
--- a name, and the code it stands for
+-- a name and its code
 pub record Named : Type 0 where
   pub name : List ℕ
   pub code : ℕ
 
--- a name as it is written, with its code
+-- a name, written as text, with its code
 abbrev pub named : String → ℕ → Named
 named text code = record { name = bytes text; code = code }
 
--- in place of a code: the column doesn't know the field; no code is as high
+-- sentinel for a field that its column does not know; no code is as high
 abbrev pub unknown : ℕ
 unknown = 4294967295
 
--- the code of the name that the field is, or unknown
+-- the code of the name that equals the field, or unknown
 unfoldable pub codeOf : List Named → List ℕ → ℕ
 codeOf [] field = unknown
 codeOf (n ∷ ns) field = cond (same field (n .name)) (n .code) (codeOf ns field)
 
--- The columns' names, in the order of the sheet's header.
--- the requests that are judged
+-- The names of each column, in the order of the header.
+-- the seven requests
 unfoldable pub requestNames : List Named
 requestNames =
     named "SnpShared" SnpShared ∷
@@ -46,24 +46,24 @@ requestNames =
     named "SnpPreferUniqueFwd" SnpPreferUniqueFwd ∷
     []
 
--- of RetToSrc, DoNotGoToSD and excl alike
+-- the two values of RetToSrc, DoNotGoToSD and excl
 unfoldable pub flagNames : List Named
 flagNames = named "0" 0 ∷ named "1" 1 ∷ []
 
--- the tag states, and ? for one that was not seen
+-- the tag states; ? is not seen
 unfoldable pub tagNames : List Named
 tagNames = named "Invalid" tagInvalid ∷ named "Clean" tagClean ∷ named "Dirty" tagDirty ∷ named "?" tagNotSeen ∷ []
 
--- a response by its name, and the answer it is
+-- a response: its name, and the answer that it means
 pub record Response : Type 0 where
   pub name : List ℕ
   pub answer : Answer
 
--- a response as its name is written, with its answer
+-- a response, written as text, with its answer
 abbrev pub response : String → Answer → Response
 response text answer = record { name = bytes text; answer = answer }
 
--- the responses, without a forward first
+-- the 22 responses, those without a forward first (definition 2.8)
 unfoldable pub responses : List Response
 responses =
     response "SnpResp_I" SnpResp-I ∷
@@ -90,7 +90,7 @@ responses =
     response "SnpRespData_SC_PD_Fwded_SC" SnpRespData-SC-PD-Fwded-SC ∷
     []
 
--- a response's code is its place in the list, counted on from k
+-- a response's code is its index in the list, counted from k
 abbrev pub numbered : ℕ → List Response → List Named
 numbered k [] = []
 numbered k (r ∷ rs) = record { name = r .name; code = k } ∷ numbered (suc k) rs
@@ -99,11 +99,11 @@ numbered k (r ∷ rs) = record { name = r .name; code = k } ∷ numbered (suc k)
 unfoldable pub responseNames : List Named
 responseNames = numbered 0 responses
 
--- the answers, each at the place that is its response's code
+-- the answers of the responses, in the same order
 unfoldable pub answers : List Answer
 answers = map (λ (r : Response). r .answer) responses
 
--- the answer that a response is, by its code; past the last, the first
+-- the answer of the response with this code; past the last, the first
 abbrev pub answerAt : ℕ → Answer
 answerAt place = getD answers place SnpResp-I
 
@@ -115,7 +115,7 @@ tagOpNames = named "Invalid" opInvalid ∷ named "Transfer" opTransfer ∷ named
 unfoldable pub respErrNames : List Named
 respErrNames = named "OK" OK ∷ named "EXOK" EXOK ∷ named "DERR" DERR ∷ named "NDERR" NDERR ∷ []
 
--- the forwarded data by its FwdState, and - for no forward
+-- the forwards by their FwdState; - is none
 unfoldable pub forwardNames : List Named
 forwardNames =
     named "-" 0 ∷
@@ -125,7 +125,7 @@ forwardNames =
     named "CompData_SD_PD" Fwd-SD-PD ∷
     []
 
--- the states after, and ? for one that was not seen
+-- the states after; ? is not seen
 unfoldable pub finalNames : List Named
 finalNames =
     named "I" I ∷
@@ -139,11 +139,11 @@ finalNames =
     []
 
 -- The pair's field is a number, not a name.
--- the first of the bytes that are digits
+-- the byte of the digit 0
 abbrev pub zeroDigit : ℕ
 zeroDigit = 48
 
--- the last of them
+-- the byte of the digit 9
 abbrev pub nineDigit : ℕ
 nineDigit = 57
 
@@ -151,11 +151,11 @@ nineDigit = 57
 abbrev pub isDigit : ℕ → Bool
 isDigit b = leb zeroDigit b && leb b nineDigit
 
--- it starts with a zero and goes on
+-- the first byte is 0, and more bytes follow
 abbrev pub leadingZero : List ℕ → Bool
 leadingZero field = eqb (getD field 0 0) zeroDigit && ltb 1 (length field)
 
--- it has at most this many digits
+-- the most digits of a pair number
 abbrev pub mostDigits : ℕ
 mostDigits = 4
 
@@ -163,16 +163,16 @@ mostDigits = 4
 unfoldable pub isPair : List ℕ → Bool
 isPair field = all isDigit field && ltb 0 (length field) && leb (length field) mostDigits && not (leadingZero field)
 
--- the number that digits are, read on from v
+-- the number that digits stand for, read on from v
 unfoldable pub readDecimal : ℕ → List ℕ → ℕ
 readDecimal v [] = v
 readDecimal v (d ∷ ds) = readDecimal (v * 10 + (d - zeroDigit)) ds
 
--- the pair's number, or unknown
+-- the pair number, or unknown
 unfoldable pub pairOf : List ℕ → ℕ
 pairOf field = cond (isPair field) (readDecimal 0 field) unknown
 
--- what a field is in each column of the header: pair, request, RetToSrc, DoNotGoToSD, excl, tag, response, TagOp, RespErr, forward, final
+-- how each column of the header reads a field: pair, request, RetToSrc, DoNotGoToSD, excl, tag, response, TagOp, RespErr, forward, final
 unfoldable pub columns : List (List ℕ → ℕ)
 columns =
     pairOf ∷
@@ -188,6 +188,6 @@ columns =
     codeOf finalNames ∷
     []
 
--- the field's code in a column, by the column's number from 0; unknown past the last
+-- the code of a field in the column with this number, counted from 0; unknown past the last
 unfoldable pub inColumn : ℕ → List ℕ → ℕ
 inColumn number = getD columns number (λ (field : List ℕ). unknown)

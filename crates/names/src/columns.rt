@@ -1,4 +1,4 @@
-// The columns of the sheet by their numbers, in the order of its header.
+// The columns of the sheet, numbered in the order of its header (definition 8.2).
 pub const PAIR: usize = 0;
 
 pub const REQUEST: usize = 1;
@@ -21,5 +21,5 @@ pub const FORWARD: usize = 9;
 
 pub const FINAL: usize = 10;
 
-// A line has a field for each.
+// The number of columns: a line has one field for each.
 pub const COLUMNS: usize = 11;

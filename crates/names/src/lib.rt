@@ -1,4 +1,4 @@
-// The fields of the bench sheet by their names: from the bytes of one field to its code, exactly.
+// Finds the code of a field by its name (definition 8.4).
 use kinds::Answer;
 use kinds::Forward;
 use kinds::FwdState;
@@ -19,20 +19,19 @@ ghost use Rattle.names.specs.Names.{answerAt};
 
 pub mod columns;
 
-// In place of a code: the column doesn't know the field. No code is as high.
+// Sentinel for a field that its column does not know. No code is as high.
 pub const UNKNOWN: u32 = 4294967295;
 
-// A pair's number has at most this many digits.
+// The most digits of a pair number.
 const MOST_DIGITS: usize = 4;
 
-// The digits are the bytes from this one
+// The first digit.
 const ZERO: u8 = 48;
 
-// to this one.
+// The last digit.
 const NINE: u8 = 57;
 
-// Whether a text is another, as a field a name. Every byte is compared, with no way out before the last: such a loop compiles to a few
-// wide compares.
+// Whether a field is exactly this name. All bytes are compared, without an early exit, so that the loop compiles to a few wide compares.
 pub fn is(field: &[u8], name: &[u8]) -> bool
     ensures { λ r. ⌜ r ≡ same (now (field .entry)) (now (name .entry)) ⌝ }
 {
@@ -49,14 +48,14 @@ pub fn is(field: &[u8], name: &[u8]) -> bool
     alike
 }
 
-// The name's code if the field is the name, else the other: what the names after it in the column made of the field.
+// The name's code if the field is this name, else `other`: the code found among the names after it.
 fn known(field: &[u8], name: &[u8], code: u8, other: u32) -> u32
     ensures { λ r. ⌜ r ≡ cond (same (now (field .entry)) (now (name .entry))) code other ⌝ }
 {
     if is(field, name) { code as u32 } else { other }
 }
 
-// The request's code.
+// The code of a request.
 pub fn request(field: &[u8]) -> u32
     ensures { λ r. ⌜ r ≡ codeOf requestNames (now (field .entry)) ⌝ }
 {
@@ -97,7 +96,7 @@ pub fn flag(field: &[u8]) -> u32
     known(field, b"0", 0, code)
 }
 
-// The tag state's code.
+// The code of a tag state.
 pub fn tag(field: &[u8]) -> u32
     ensures { λ r. ⌜ r ≡ codeOf tagNames (now (field .entry)) ⌝ }
 {
@@ -107,7 +106,7 @@ pub fn tag(field: &[u8]) -> u32
     known(field, b"Invalid", TagState::INVALID.0, code)
 }
 
-// The response's place among the 22.
+// The index of a response among the 22.
 pub fn response(field: &[u8]) -> u32
     ensures { λ r. ⌜ r ≡ codeOf responseNames (now (field .entry)) ⌝ }
 {
@@ -135,7 +134,7 @@ pub fn response(field: &[u8]) -> u32
     known(field, b"SnpResp_I", 0, code)
 }
 
-// The code of TagOp.
+// The code of a TagOp.
 pub fn tag_op(field: &[u8]) -> u32
     ensures { λ r. ⌜ r ≡ codeOf tagOpNames (now (field .entry)) ⌝ }
 {
@@ -145,7 +144,7 @@ pub fn tag_op(field: &[u8]) -> u32
     known(field, b"Invalid", TagOp::INVALID.0, code)
 }
 
-// The code of RespErr.
+// The code of a RespErr.
 pub fn resp_err(field: &[u8]) -> u32
     ensures { λ r. ⌜ r ≡ codeOf respErrNames (now (field .entry)) ⌝ }
 {
@@ -155,7 +154,7 @@ pub fn resp_err(field: &[u8]) -> u32
     known(field, b"OK", RespErr::OK.0, code)
 }
 
-// The FwdState of what is forwarded.
+// The FwdState of a forward; 0 for none.
 pub fn forward(field: &[u8]) -> u32
     ensures { λ r. ⌜ r ≡ codeOf forwardNames (now (field .entry)) ⌝ }
 {
@@ -166,7 +165,7 @@ pub fn forward(field: &[u8]) -> u32
     known(field, b"-", FwdState::NONE.0, code)
 }
 
-// The code of the state after.
+// The code of a state after.
 pub fn state_after(field: &[u8]) -> u32
     ensures { λ r. ⌜ r ≡ codeOf finalNames (now (field .entry)) ⌝ }
 {
@@ -180,7 +179,7 @@ pub fn state_after(field: &[u8]) -> u32
     known(field, b"I", LineState::I.0, code)
 }
 
-// The number that as many digits are as a pair may have; unknown if some byte is no digit.
+// The number that at most four digits stand for; UNKNOWN if some byte is not a digit.
 fn digits(field: &[u8]) -> u32
     requires { ⌜ length (now field) ≤ mostDigits ⌝ }
     ensures { λ r. ⌜ r ≡ cond (all isDigit (now (field .entry))) (readDecimal 0 (now (field .entry))) unknown ⌝ }
@@ -199,7 +198,7 @@ fn digits(field: &[u8]) -> u32
     v
 }
 
-// The pair's number.
+// The pair number.
 pub fn pair(field: &[u8]) -> u32
     ensures { λ r. ⌜ r ≡ pairOf (now (field .entry)) ⌝ }
 {
@@ -213,7 +212,7 @@ pub fn pair(field: &[u8]) -> u32
     digits(field)
 }
 
-// The answer that a response is, by its place among the 22; past the last, the first.
+// The answer with this index among the 22 responses; past the last, the first.
 pub fn answer(place: u8) -> Answer
     ensures { λ r. ⌜ r ≡ answerAt place ⌝ }
 {
@@ -244,7 +243,7 @@ pub fn answer(place: u8) -> Answer
     }
 }
 
-// The field's code in a column, by the column's number in the header, from 0.
+// The code of a field in the column with this number.
 pub fn column(number: usize, field: &[u8]) -> u32
     ensures { λ r. ⌜ r ≡ inColumn number (now (field .entry)) ⌝ }
 {

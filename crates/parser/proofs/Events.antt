@@ -1,4 +1,4 @@
--- Laws of the event that a line names: every code of a well formed line is below the limit of its column, so none is cut.
+-- Laws about the event of a line: every code of a well-formed line is below its column's limit, so none is truncated.
 -- Assumes nothing.
 use mathlib.Core.Path.{_≡_, refl, sym, _∙_, ap, ap₂, subst}
 use mathlib.Core.Bool.{Bool, true, false, cond, not, _&&_, false≢true}
@@ -22,7 +22,7 @@ use Rattle.parser.specs.declared.Found.{Found}
 use Rattle.parser.specs.Parsed.{codesOf, lineCodes, known, wellFormed, eventOf, parsedAs, refusedParse, parsed}
 use Rattle.parser.specs.Code.{codesIn, asByte}
 
--- equally many numbers as limits, each below its own
+-- as many numbers as limits, each below its own
 abbrev pub under : List ℕ → List ℕ → Bool
 under [] [] = true
 under [] (l ∷ ls) = false
@@ -42,7 +42,7 @@ codes-below (one-more p ps) [] k = absurd (false≢true k)
 codes-below (one-more {column = c} {others = cs} p ps) (f ∷ fs) k =
     and-both (known-below p f (and-left (known (c f)) (all known (codesOf cs fs)) k)) (codes-below ps fs (and-right (known (c f)) (all known (codesOf cs fs)) k))
 
--- every code of a well formed line is known, and below the limit of its column
+-- every code of a well-formed line is known, and below its column's limit
 pub codes-known : (line : List ℕ) → wellFormed line ≡ true → all known (lineCodes line) ≡ true
 unfolding wellFormed
 codes-known line w = and-right (eqb (length (fieldsOf line)) (length columns)) (all known (lineCodes line)) w
@@ -50,7 +50,7 @@ codes-known line w = and-right (eqb (length (fieldsOf line)) (length columns)) (
 pub codes-under : (line : List ℕ) → wellFormed line ≡ true → under (lineCodes line) limits ≡ true
 codes-under line w = codes-below columns-limited (fieldsOf line) (codes-known line w)
 
--- what is below limits that a byte keeps is a byte
+-- numbers below limits of at most 256 are bytes already
 byte-kept : (xs ls : List ℕ) → under xs ls ≡ true → all (λ (l : ℕ). leb l 256) ls ≡ true → map asByte xs ≡ xs
 byte-kept [] ls h k = refl
 byte-kept (x ∷ xs) [] h k = absurd (false≢true h)
@@ -59,14 +59,14 @@ byte-kept (x ∷ xs) (l ∷ ls) h k =
     (mod-eq-of-lt (omega (arith, ltb-true x l (and-left (ltb x l) (under xs ls) h), leb-true l 256 (and-left (leb l 256) (all (λ (m : ℕ). leb m 256) ls) k))))
     (byte-kept xs ls (and-right (ltb x l) (under xs ls) h) (and-right (leb l 256) (all (λ (m : ℕ). leb m 256) ls) k))
 
--- only the pair's code may be above a byte, and the event doesn't have it
+-- only the pair's code may exceed a byte, and the event does not use it
 event-kept : (codes : List ℕ) → under codes limits ≡ true → eventOf (map asByte codes) ≡ eventOf codes
 unfolding eventOf
 event-kept [] h = absurd (false≢true h)
 event-kept (pair ∷ codes) h =
     ap (λ (cs : List ℕ). eventOf (pair ∷ cs)) (byte-kept codes (drop 1 limits) (and-right (ltb pair pairLimit) (under codes (drop 1 limits)) h) refl)
 
--- WHAT A LINE SAYS, by its cases
+-- A PARSED LINE, case by case
 module _ (line : List ℕ) where
   saying : Bool → Bool → ParsedLine
   saying good high = cond good (cond high (refusedParse 3) (parsedAs (pairCode (lineCodes line)) (eventOf (lineCodes line)))) (refusedParse 8)
@@ -83,7 +83,7 @@ module _ (line : List ℕ) where
   unfolding parsed saying
   parsed-fine w h = ap₂ saying w (le-ltb highestPair (pairCode (lineCodes line)) h)
 
--- the same by what the code finds
+-- the same from what `codes_of` finds
 module _ (line : List ℕ) (f : Found) (e : f ≡ codesIn line) where
   good-so : {b : Bool} → f .good ≡ b → wellFormed line ≡ b
   good-so g = sym (ap (λ (x : Found). x .good) e) ∙ g

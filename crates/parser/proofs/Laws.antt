@@ -1,4 +1,4 @@
--- Laws of a line whose fields are taken one after another, and of an event's bytes.
+-- Laws about the fields of a line read one after another, and about an event's bytes.
 -- Assumes nothing.
 use mathlib.Core.Path.{_≡_, refl, sym, _∙_, ap, ap₂, subst}
 use mathlib.Core.Bool.{Bool, true, false, cond, _&&_, false≢true, and-assoc, and-true}
@@ -27,7 +27,7 @@ use Rattle.parser.specs.declared.Found.{Found}
 use Rattle.parser.specs.Parsed.{codesOf, lineCodes, known, wellFormed, eventOf}
 use Rattle.parser.specs.Code.{takenBy, takenAt, gatheredOf, allTaken, codesIn, asByte}
 
--- A FIELD: at a place of the line, and past its end.
+-- ONE FIELD: within the line, and past its end.
 taken : ℕ → ℕ → Taken
 taken code next = record { code = code; next = next }
 
@@ -55,11 +55,11 @@ field-here number line at end code h e f =
 pub end-next : (line : List ℕ) (at end : ℕ) → at ≤ length line → end ≡ fieldEnd line at → (at ≤ end) × (end ≤ length line)
 end-next line at end h e = (subst (λ n. at ≤ n) (sym e) (end-from line at), subst (λ n. n ≤ length line) (sym e) (end-within line at h))
 
--- where two fields are the same, so are those taken behind them
+-- equal fields have equal fields behind them
 behind : (number : ℕ) (line : List ℕ) {f g : Taken} → f ≡ g → takenAt number line (f .next) ≡ takenAt number line (g .next)
 behind number line e = ap (λ (f : Taken). takenAt number line (f .next)) e
 
--- fields each of which is the one taken behind the one before, gathered, are all that is taken of the line
+-- eleven fields, each read behind the one before, are all fields of the line
 pub all-taken : (line : List ℕ) {f₀ f₁ f₂ f₃ f₄ f₅ f₆ f₇ f₈ f₉ f₁₀ : Taken} {r : Codes}
     → f₀ ≡ takenAt 0 line 0
     → f₁ ≡ takenAt 1 line (f₀ .next)
@@ -87,7 +87,7 @@ all-taken line e₀ e₁ e₂ e₃ e₄ e₅ e₆ e₇ e₈ e₉ e₁₀ e =
     let p₁₀ = e₁₀ ∙ behind 10 line p₉ in
     e ∙ (λ i. gatheredOf (e₀ i) (p₁ i) (p₂ i) (p₃ i) (p₄ i) (p₅ i) (p₆ i) (p₇ i) (p₈ i) (p₉ i) (p₁₀ i))
 
--- ALL FIELDS, one after another for any columns
+-- ALL FIELDS, one after another, for any list of columns
 takenFrom : List (List ℕ → ℕ) → List ℕ → ℕ → Codes
 takenFrom [] line at = record { codes = []; end = at }
 takenFrom (c ∷ cs) line at = record {
@@ -99,7 +99,7 @@ one-by-one : (line : List ℕ) → allTaken line ≡ takenFrom columns line 0
 unfolding allTaken takenAt inColumn columns takenFrom
 one-by-one line = refl
 
--- they are the codes of the fields from there on, and the end is past the line's exactly when there are no more fields than columns
+-- they are the fields from there on; the end is past the line's exactly when there are no more fields than columns
 record Follows (cs : List (List ℕ → ℕ)) (line : List ℕ) (at : ℕ) : Type 0 where
   codes-so : takenFrom cs line at .codes ≡ codesOf cs (fieldsFrom line at)
   end-so : ltb (length line) (takenFrom cs line at .end) ≡ leb (length (fieldsFrom line at)) (length cs)
@@ -150,13 +150,13 @@ follows (c ∷ cs) line at = go (leb at (length line)) refl (λ p. follows cs li
     go true e f = follows-here line at c cs (leb-true at (length line) e) (f (fieldEnd line at + 1))
     go false e f = follows-past line at c cs (leb-false at (length line) e) (f at)
 
--- where every code is known, no field is missing
+-- if every code is known, no field is missing
 none-missing : (cs : List (List ℕ → ℕ)) (fs : List (List ℕ)) → all known (codesOf cs fs) ≡ true → length cs ≤ length fs
 none-missing [] fs h = omega arith
 none-missing (c ∷ cs) [] h = absurd (false≢true h)
 none-missing (c ∷ cs) (f ∷ fs) h = omega (arith, none-missing cs fs (and-right (known (c f)) (all known (codesOf cs fs)) h))
 
--- as many as there have to be: no fewer, and no more
+-- exactly as many: not fewer, and not more
 as-many : (a : Bool) (m n : ℕ) → (a ≡ true → n ≤ m) → a && leb m n ≡ eqb m n && a
 as-many true m n h = go (eqb m n) refl
   where
@@ -172,7 +172,7 @@ as-many false m n h = go (eqb m n)
 found : List ℕ → Bool → Found
 found codes good = record { codes = codes; good = good }
 
--- THE LINE'S CODES, and that it is well formed exactly when every code is known and the last field ends the line
+-- THE CODES OF A LINE: it is well formed exactly when every code is known and the last field ends the line
 pub codes-found : (line : List ℕ) (t : Codes) (k : Bool) → t ≡ allTaken line → k ≡ all known (t .codes)
     → record { codes = t .codes; good = k && ltb (length line) (t .end) } ≡ codesIn line
 unfolding found wellFormed
@@ -192,7 +192,7 @@ codes-found line t k e h =
         ap (λ (x : Codes). ltb (length line) (x .end)) t-so ∙ follows columns line 0 .end-so
         ∙ ap (λ (fs : List (List ℕ)). leb (length fs) (length columns)) (fields-start line)
 
--- EVERY CODE KNOWN: t says so of the first i
+-- EVERY CODE KNOWN: t says whether the first i are
 pub record KnownSoFar (codes : List ℕ) (n : ℕ) (t : Bool) (i : ℕ) : Type 0 where
   pub within : i ≤ n
   pub long : length codes ≡ n
@@ -215,7 +215,7 @@ pub known-end : {codes : List ℕ} {n : ℕ} {t : Bool} {i : ℕ} → KnownSoFar
 known-end {codes} {n} {t} {i} k h =
     sym (and-true t) ∙ ap (λ (s : List ℕ). t && all known s) (sym (drop-of-length-le codes {i = i} (omega (arith, k .long, h)))) ∙ k .rest
 
--- CODES AS BYTES: the first i are cut
+-- CODES AS BYTES: the first i are converted
 pub record CutSoFar (codes bytes : List ℕ) (n i : ℕ) : Type 0 where
   pub within : i ≤ n
   pub long : length codes ≡ n
@@ -243,7 +243,7 @@ pub cut-end : {codes bytes : List ℕ} {n i : ℕ} → CutSoFar codes bytes n i 
 cut-end {codes} {bytes} {n} {i} k h =
     sym (take-all i bytes (omega (arith, k .as-long, h))) ∙ k .so ∙ ap (map asByte) (take-all i codes (omega (arith, k .long, h)))
 
--- THE EVENT'S BYTES, by what makes them
+-- THE EVENT'S BYTES, from their parts
 abbrev pub four : List ℕ → List ℕ → List ℕ
 four w s = getD w 0 0 ∷ getD w 1 0 ∷ getD w 2 0 ∷ getD w 3 0 ∷ s
 

@@ -1,4 +1,4 @@
--- What the code's own parts answer. Nobody has to believe this file: the claims above it don't name it.
+-- What private functions compute. No public claim names this file.
 use Prim.Native.Nat.{ℕ, _+_, _-_, _%_}
 use mathlib.Core.Bool.{cond}
 use mathlib.Core.List.{List, [], _∷_}
@@ -11,25 +11,25 @@ use Rattle.parser.specs.declared.Codes.{Codes}
 use Rattle.parser.specs.declared.Found.{Found}
 use Rattle.parser.specs.Parsed.{lineCodes, wellFormed}
 
--- the field that starts at a place, as a column reads it, and the place behind its comma; past the end of the line, unknown and the same place
+-- the field at an offset, read by a column, and the offset behind its comma; past the end of the line unknown, and the same offset
 unfoldable pub takenBy : (List ℕ → ℕ) → List ℕ → ℕ → Taken
 takenBy column line at =
     cond (leb at (length line))
     (record { code = column (take (fieldEnd line at - at) (drop at line)); next = fieldEnd line at + 1 })
     (record { code = unknown; next = at })
 
--- the same by the column's number
+-- the same for the column with this number
 unfoldable pub takenAt : ℕ → List ℕ → ℕ → Taken
 takenAt number line at = takenBy (inColumn number) line at
 
--- eleven fields' codes, and the place behind the last
+-- the codes of eleven fields, and the offset behind the last one
 abbrev pub gatheredOf : Taken → Taken → Taken → Taken → Taken → Taken → Taken → Taken → Taken → Taken → Taken → Codes
 gatheredOf a b c d e f g h i j k = record {
   codes = a .code ∷ b .code ∷ c .code ∷ d .code ∷ e .code ∷ f .code ∷ g .code ∷ h .code ∷ i .code ∷ j .code ∷ k .code ∷ [];
   end = k .next;
 }
 
--- one after another, each where the one before it ended
+-- eleven fields one after another, each behind the comma of the one before
 unfoldable pub allTaken : List ℕ → Codes
 allTaken line =
     let a = takenAt 0 line 0 in
@@ -49,6 +49,6 @@ allTaken line =
 abbrev pub codesIn : List ℕ → Found
 codesIn line = record { codes = lineCodes line; good = wellFormed line }
 
--- a code cut to a byte
+-- a code modulo 256
 abbrev pub asByte : ℕ → ℕ
 asByte code = code % 256

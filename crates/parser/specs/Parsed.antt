@@ -1,4 +1,4 @@
--- A line of the bench sheet as a pair and an event, or the number of its refusal.
+-- A line of the bench sheet as a pair and an event, or the number of its refusal (definition 8.4, 8.7).
 use Prim.Native.Nat.{ℕ}
 use mathlib.Core.Bool.{Bool, cond, not, _&&_}
 use mathlib.Core.List.{List, [], _∷_, _++_}
@@ -12,7 +12,7 @@ use Rattle.names.specs.Names.{unknown, answerAt, columns}
 use Rattle.names.specs.Columns.{pairCode, requestCode, retToSrcCode, doNotGoToSDCode, exclCode, tagCode, responseCode, tagOpCode, respErrCode, forwardCode, finalCode}
 use Rattle.parser.specs.declared.ParsedLine.{ParsedLine}
 
--- each field's code in its column; a field that is missing is unknown
+-- the code of each field in its column; a missing field is unknown
 abbrev pub codesOf : List (List ℕ → ℕ) → List (List ℕ) → List ℕ
 codesOf [] fields = []
 codesOf (column ∷ others) [] = unknown ∷ codesOf others []
@@ -26,11 +26,11 @@ lineCodes line = codesOf columns (fieldsOf line)
 abbrev pub known : ℕ → Bool
 known code = not (eqb code unknown)
 
--- a field for each column, and each known there
+-- eleven fields, each known in its column
 unfoldable pub wellFormed : List ℕ → Bool
 wellFormed line = eqb (length (fieldsOf line)) (length columns) && all known (lineCodes line)
 
--- the event's bytes, from the codes of a line's fields: what the bus shows of the answer stands in bytes 5 to 8, of the forward in 11 and 12
+-- the event's bytes, from the codes of the fields: bytes 5 to 8 come from the response, bytes 11 and 12 from the forward (definition 8.4)
 unfoldable pub eventOf : List ℕ → List ℕ
 eventOf codes =
     requestCode codes ∷
@@ -41,15 +41,15 @@ eventOf codes =
     (take 4 (wire (answerAt (responseCode codes)))
     ++ (tagOpCode codes ∷ respErrCode codes ∷ (forwardWire (forwardAt (forwardCode codes)) ++ (finalCode codes ∷ []))))
 
--- a line with nothing amiss: its pair and its event
+-- an accepted line: its pair and its event
 abbrev pub parsedAs : ℕ → List ℕ → ParsedLine
 parsedAs pair event = record { refusal = record { 0 = 0 }; pair = record { 0 = pair }; event = event }
 
--- a refused one: the number, pair 0 and an event of zeros
+-- a refused line: its number, pair 0 and an event of zeros
 abbrev pub refusedParse : ℕ → ParsedLine
 refusedParse number = record { refusal = record { 0 = number }; pair = record { 0 = 0 }; event = replicate eventLength 0 }
 
--- what a line says: 8 where it is not well formed, then 3 for a pair above 4,095, else its pair and its event
+-- a line parsed: 8 if it is not well formed, then 3 for a pair above 4,095, else its pair and its event (definition 8.7, 8.8)
 unfoldable pub parsed : List ℕ → ParsedLine
 parsed line =
     cond (wellFormed line)

@@ -1,4 +1,4 @@
-// A line of the bench sheet read: the pair and the event that it names, or why it is refused.
+// Parses a line of the bench sheet: its pair and its event, or why it is refused (definition 8.3, 8.4, 8.7).
 use kinds::EVENT_BYTES;
 use kinds::Forward;
 use kinds::FwdState;
@@ -13,38 +13,38 @@ ghost use Rattle.kinds.specs.Tests.{all};
 ghost use Rattle.parser.specs.Parsed.{known, eventOf, parsed, refusedParse};
 ghost use Rattle.parser.specs.Code.{takenAt, gatheredOf, allTaken, codesIn, asByte};
 
-// What a line says: 0 and the pair and the event that it names, or the number of its refusal.
+// A parsed line: its pair and its event with refusal 0, or the refusal number.
 pub struct ParsedLine {
     pub refusal: Refusal,
     pub pair: PairNumber,
     pub event: [u8; EVENT_BYTES],
 }
 
-// A line's reader: the line, and the place where its next field starts.
+// A line, and the offset at which its next field starts.
 struct Fields<'a> {
     line: &'a [u8],
     at: usize,
 }
 
-// A field that is taken: its code in its column, and the place behind it and its comma.
+// One field: its code in its column, and the offset behind its comma.
 struct Taken {
     code: u32,
     next: usize,
 }
 
-// The codes of a line's first fields, one for each column, and the place behind the last.
+// The codes of a line's first eleven fields, and the offset behind the last one.
 struct Codes {
     codes: [u32; COLUMNS],
     end: usize,
 }
 
-// The codes of a line's fields, and whether there is one for each column, each known there, and no more.
+// The codes of a line's fields, and whether there are exactly eleven fields, each known in its column.
 struct Found {
     codes: [u32; COLUMNS],
     good: bool,
 }
 
-// The field that starts at a place of a line, by its code in a column; unknown past the end of the line.
+// Reads the field at an offset in the column with this number; unknown past the end of the line.
 fn field_at(number: usize, line: &[u8], at: usize) -> Taken
     ensures { λ r. ⌜ r ≡ takenAt number (now (line .entry)) at ⌝ }
 {
@@ -96,7 +96,7 @@ fn gathered(
     }
 }
 
-// The fields of a line taken one after another: one reader is made, and moved from field to field.
+// Reads the eleven fields one after another.
 fn take_all(line: &[u8]) -> Codes
     ensures { λ r. ⌜ r ≡ allTaken (now (line .entry)) ⌝ }
 {
@@ -151,7 +151,7 @@ fn all_known(codes: &[u32]) -> bool
     good
 }
 
-// The codes of a line's fields, and whether they are what a line has to say.
+// The codes of a line's fields, and whether the line is well formed.
 fn codes_of(line: &[u8]) -> Found
     ensures { λ r. ⌜ r ≡ codesIn (now (line .entry)) ⌝ }
 {
@@ -176,7 +176,7 @@ fn as_bytes(codes: [u32; COLUMNS]) -> [u8; COLUMNS]
     bytes
 }
 
-// The event's bytes, from the codes of a line's fields.
+// The event's bytes, from the codes of the fields (definition 8.4).
 fn event_of(codes: [u8; COLUMNS]) -> [u8; EVENT_BYTES]
     ensures { λ r. ⌜ r ≡ eventOf codes ⌝ }
 {
@@ -200,7 +200,7 @@ fn event_of(codes: [u8; COLUMNS]) -> [u8; EVENT_BYTES]
     ]
 }
 
-// What a refused line says.
+// A refused line: pair 0 and an event of zeros.
 fn refused(refusal: Refusal) -> ParsedLine
     ensures { λ r. ⌜ r ≡ refusedParse (refusal .0) ⌝ }
 {
@@ -211,7 +211,7 @@ fn refused(refusal: Refusal) -> ParsedLine
     }
 }
 
-// What a line says.
+// Parses a line.
 pub fn parse_line(line: &[u8]) -> ParsedLine
     ensures { λ r. ⌜ r ≡ parsed (now (line .entry)) ⌝ }
 {

@@ -1,4 +1,4 @@
--- Laws of numbers in decimalText, and of the loops that count and spell their digits.
+-- Laws about numbers in decimal, and about the loops that count and write their digits.
 -- Assumes nothing.
 use mathlib.Core.Path.{_≡_, refl, sym, _∙_, ap, ap₂}
 use mathlib.Core.Bool.{Bool, true, false, cond}
@@ -12,11 +12,11 @@ use lib.ListN.{length, take, drop, set, length-append, length-set}
 use lib.Seq.{take-set-le, drop-cons, drop-set-lt, getD-set-same, set-split, append-snoc}
 use Rattle.replies.specs.Replies.{digit, decimalTextIn, decimalText}
 
--- the numbers that twenty digits hold
+-- every number below this has at most twenty digits
 abbrev pub most : ℕ
 most = 100000000000000000000
 
--- a count that suffices may be one more
+-- allowing one more digit than needed changes nothing
 more : (f n : ℕ) → n < 10 ^ suc f → decimalTextIn f n ≡ decimalTextIn (suc f) n
 more zero n h =
     ap (λ (d : ℕ). digit d ∷ []) (mod-eq-of-lt h)
@@ -32,7 +32,7 @@ decimal-small n h =
     ap (λ (b : Bool). cond b (digit n ∷ []) (decimalTextIn 18 (n / 10) ++ digit (n % 10) ∷ [])) (lt-ltb n 10 h)
     ∙ ap (λ (d : ℕ). digit d ∷ []) (sym (mod-eq-of-lt h))
 
--- any other: its tens, then its last digit
+-- any other number: the digits of its tens, then its last digit
 pub decimal-step : (n : ℕ) → 9 < n → n < most → decimalText n ≡ decimalText (n / 10) ++ digit (n % 10) ∷ []
 unfolding decimalText
 decimal-step n h k =
@@ -43,7 +43,7 @@ one-by : (b : Bool) (f n : ℕ) → 1 ≤ length (cond b (digit n ∷ []) (decim
 one-by true f n = omega arith
 one-by false f n = omega (arith, length-append (decimalTextIn f (n / 10)) (digit (n % 10) ∷ []))
 
--- a number has a digit
+-- a number has at least one digit
 pub decimal-one : (n : ℕ) → 1 ≤ length (decimalText n)
 unfolding decimalText
 decimal-one n = one-by (ltb n 10) 18 n
@@ -62,14 +62,14 @@ short-in zero (suc f) n h =
 short-in (suc k) (suc f) n h =
     short-by (ltb n 10) (suc k) f n (short-in k f (n / 10) (omega (arith, pow-succ' 10 (suc k))))
 
--- a number below a power of ten has as many digits as the power says, or fewer
+-- a number below 10 to the k has at most k digits
 pub decimal-short : (k n : ℕ) → n < 10 ^ suc k → length (decimalText n) ≤ suc k
 unfolding decimalText
 decimal-short k n h = short-in k 19 n h
 
--- The loop that counts: the digits counted, and those of what is left.
+-- The loop that counts digits: those counted, and those of the rest.
 
--- k digits were cut off, less one; rest is left
+-- k is one more than the number of digits cut off, and `rest` is what is left
 pub record Counting (n k rest : ℕ) : Type 0 where
   pub counted : k + length (decimalText rest) ≡ 1 + length (decimalText n)
   pub few : rest < most
@@ -91,7 +91,7 @@ counting-end {n} {k} {rest} c h =
     let e : length (decimalText rest) ≡ 1 = ap length (decimal-small rest (omega arith)) in
     omega (arith, c .counted)
 
--- The loop that spells: what is left, laid in front of what is spelled, is the whole.
+-- The loop that writes digits: those of the rest, put before those written, are the whole number.
 
 pub record Spelling (out₀ : List ℕ) (at k n : ℕ) (out : List ℕ) (i rest : ℕ) : Type 0 where
   pub few : rest < most
@@ -103,7 +103,7 @@ pub record Spelling (out₀ : List ℕ) (at k n : ℕ) (out : List ℕ) (i rest 
 pub spelling-start : (out : List ℕ) (at k n : ℕ) → n < most → k ≡ length (decimalText n) → at + k ≤ length out → Spelling out at k n out k n
 spelling-start out at k n small e h = record { few = small; left = e; fits = h; long = refl; so = refl }
 
--- a byte stored behind a text that is laid: it is the text's next byte
+-- a byte stored behind a text is the text's next byte
 stored : (at j d : ℕ) (out s : List ℕ) → at + j < length out
     → take at (set out (at + j) d) ++ s ++ drop (at + j) (set out (at + j) d) ≡ take at out ++ (s ++ d ∷ []) ++ drop (at + (j + 1)) out
 stored at j d out s h =
@@ -140,7 +140,7 @@ spelling-next {out₀} {out} {at} {k} {n} {i} {rest} c h =
           ∙ c .so;
     }
 
--- the first digit is stored last
+-- the first digit is written last
 pub spelling-end : {out₀ out : List ℕ} {at k n i rest : ℕ} → Spelling out₀ at k n out i rest → rest ≤ 9
     → set out at (digit (rest % 10)) ≡ take at out₀ ++ decimalText n ++ drop (at + k) out₀
 spelling-end {out₀} {out} {at} {k} {n} {i} {rest} c h =
@@ -154,6 +154,6 @@ spelling-end {out₀} {out} {at} {k} {n} {i} {rest} c h =
     ∙ ap₂ (λ (s : List ℕ) (m : ℕ). take at out ++ s ++ drop m out) (sym one) next
     ∙ c .so
 
--- the first digit has its place
+-- there is room for the first digit
 pub spelling-first : {out₀ out : List ℕ} {at k n i rest : ℕ} → Spelling out₀ at k n out i rest → at < length out
 spelling-first {rest} c = omega (arith, decimal-one rest, c .left, c .fits)

@@ -1,5 +1,5 @@
--- The laws for whoever puts lines into a buffer: what laying does, that the parts of a line make the line, how long a line can be,
--- and what a buffer with room holds after one. Assumes nothing.
+-- Laws about writing lines into a buffer: the parts of a line make the line, a line is at most so long, and a buffer with room holds it
+-- afterwards. Assumes nothing.
 use mathlib.Core.Path.{_≡_, refl, sym, _∙_, ap}
 use mathlib.Core.Bool.{Bool, true, false, cond}
 use mathlib.Core.List.{List, [], _∷_, _++_, append-assoc, append-nil}
@@ -22,16 +22,16 @@ pub use Rattle.replies.proofs.Laying.{lay-fits, lay-short, lay-nothing,
 pub use Rattle.replies.proofs.Decimal.{decimal-one, decimal-small, decimal-step, decimal-short}
 pub use Rattle.replies.proofs.States.{concat-states}
 
--- texts one after another, in two lots
+-- two lists of texts joined
 concat-append : (ss ts : List (List ℕ)) → concat (ss ++ ts) ≡ concat ss ++ concat ts
 concat-append [] ts = refl
 concat-append (s ∷ ss) ts = ap (λ (r : List ℕ). s ++ r) (concat-append ss ts) ∙ sym (append-assoc s (concat ss) (concat ts))
 
--- five parts, with what parts them, as one text
+-- the five parts of an output line, joined
 parts-of-five : (c n v d t e : List ℕ) → n ++ (c ++ v ++ c ++ (d ++ c ++ (t ++ (e ++ [])))) ≡ n ++ (c ++ v) ++ (c ++ d) ++ (c ++ t) ++ e
 parts-of-five c n v d t e = simp (append-assoc, append-nil)
 
--- the parts in which an answer is put make its line
+-- the parts of an event's output line make the line
 pub concat-answer : (k : ℕ) (found : Finding) → concat (answerTexts k found) ≡ answerLine k found
 unfolding answerTexts answerLine
 concat-answer k found =
@@ -43,7 +43,7 @@ concat-answer k found =
 parts-of-three : (n l e : List ℕ) → bytes "refused," ++ (n ++ ((comma ∷ []) ++ (l ++ (e ++ [])))) ≡ bytes "refused" ++ comma ∷ n ++ comma ∷ l ++ e
 parts-of-three n l e = simp (append-assoc, append-nil)
 
--- the parts in which a refusal is put make its line
+-- the parts of a refusal's line make the line
 pub concat-refusal : (number line : ℕ) → concat (refusalTexts number line) ≡ refusedLine number line
 unfolding refusalTexts refusedLine
 concat-refusal number line = parts-of-three (decimalText number) (decimalText line) eol
@@ -54,7 +54,7 @@ length-cond : (b : Bool) (s t : List ℕ) (n : ℕ) → length s ≤ n → lengt
 length-cond true s t n h k = h
 length-cond false s t n h k = k
 
--- no word of a list is longer than the longest, or than `unknown`
+-- no word is longer than the longest one, or than `unknown`
 word-short : (n : ℕ) (ws : List Word) (code : ℕ) → all (λ (w : Word). leb (length (w .text)) n) ws ≡ true → 7 ≤ n → length (wordFor ws code) ≤ n
 word-short n [] code h k = k
 word-short n (w ∷ ws) code h k =
@@ -97,7 +97,7 @@ states-short m = omega (arith, states-in-parts m, ap length (concat-states m))
 length-five : (n v d t e : List ℕ) → length (n ++ v ++ d ++ t ++ e) ≡ length n + length v + length d + length t + length e
 length-five n v d t e = simp length-append
 
--- an answer to one of the first ten million events fits into the room for a line
+-- the output line of an event below ten million fits into `room` bytes
 pub answer-short : (k : ℕ) (found : Finding) → k < 10 ^ 7 → length (answerLine k found) ≤ room
 unfolding answerLine
 answer-short k found h =
@@ -113,7 +113,7 @@ answer-short k found h =
 length-four : (r n l e : List ℕ) → length (r ++ n ++ l ++ e) ≡ length r + length n + length l + length e
 length-four r n l e = simp length-append
 
--- a refusal of one of the first ten thousand million lines does too
+-- a refusal of a line below ten thousand million fits too
 pub refusal-short : (number line : ℕ) → number < 256 → line < 10 ^ 10 → length (refusedLine number line) ≤ room
 unfolding refusedLine
 refusal-short number line h k =
@@ -121,22 +121,22 @@ refusal-short number line h k =
     let l : length (decimalText line) ≤ 10 = decimal-short 9 line k in
     le-trans (le-of-eq (length-four (bytes "refused") (comma ∷ decimalText number) (comma ∷ decimalText line) eol)) (omega arith)
 
--- What a buffer with room holds after a line.
+-- What a buffer with room holds after a line is written.
 
--- parts put where there is room for the text that they make
+-- parts written where there is room for the whole text
 parts-laid : (at : ℕ) (out : List ℕ) (ss : List (List ℕ)) (s : List ℕ) → concat ss ≡ s → at + length s ≤ length out
     → layAll (laid at out) ss ≡ laid (at + length s) (take at out ++ s ++ drop (at + length s) out)
 parts-laid at out ss s e h =
     lay-all (laid at out) ss (omega (arith, ap length e)) ∙ ap (lay (laid at out)) e ∙ lay-fits (laid at out) s h
 
--- after an answer
+-- after an output line of an event
 pub answer-laid : (at k : ℕ) (out : List ℕ) (found : Finding) → at + room ≤ length out → k < 10 ^ 7
     → layAll (laid at out) (answerTexts k found)
     ≡ laid (at + length (answerLine k found)) (take at out ++ answerLine k found ++ drop (at + length (answerLine k found)) out)
 answer-laid at k out found roomy h =
     parts-laid at out (answerTexts k found) (answerLine k found) (concat-answer k found) (omega (arith, answer-short k found h))
 
--- after a refusal
+-- after the line of a refusal
 pub refusal-laid : (at number line : ℕ) (out : List ℕ) → at + room ≤ length out → number < 256 → line < 10 ^ 10
     → layAll (laid at out) (refusalTexts number line)
     ≡ laid (at + length (refusedLine number line)) (take at out ++ refusedLine number line ++ drop (at + length (refusedLine number line)) out)

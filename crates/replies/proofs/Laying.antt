@@ -1,4 +1,4 @@
--- Laws of text laid into a buffer: one text, several, and how they come out as one.
+-- Laws about writing texts into a buffer: one text, several texts, and several as one.
 -- Assumes nothing.
 use mathlib.Core.Path.{_≡_, refl, sym, _∙_, ap, ap₂}
 use mathlib.Core.Bool.{Bool, true, false, cond}
@@ -13,20 +13,20 @@ use lib.ListN.{length, take, drop, getD, set, take-append-drop, length-append, l
 use lib.Seq.{length-take-le, take-at, drop-at, drop-drop, take-length, paste, paste-zero, paste-suc, length-paste}
 use Rattle.replies.specs.Laid.{Laid, laid, lay, layAll, concat}
 
--- a text where there is room for it
+-- a text that fits
 pub lay-fits : (l : Laid) (s : List ℕ) → l .at + length s ≤ length (l .out)
     → lay l s ≡ laid (l .at + length s) (take (l .at) (l .out) ++ s ++ drop (l .at + length s) (l .out))
 unfolding lay
 lay-fits l s h =
     ap (λ (b : Bool). cond b (laid (l .at + length s) (take (l .at) (l .out) ++ s ++ drop (l .at + length s) (l .out))) l) (le-leb _ _ h)
 
--- a text where there is none
+-- a text that does not fit
 pub lay-short : (l : Laid) (s : List ℕ) → length (l .out) < l .at + length s → lay l s ≡ l
 unfolding lay
 lay-short l s h =
     ap (λ (b : Bool). cond b (laid (l .at + length s) (take (l .at) (l .out) ++ s ++ drop (l .at + length s) (l .out))) l) (lt-leb _ _ h)
 
--- a text as long as the part that it takes the place of leaves the length
+-- replacing a part by a text of the same length keeps the length
 pub length-in : (at : ℕ) (out s : List ℕ) → at + length s ≤ length out
     → length (take at out ++ s ++ drop (at + length s) out) ≡ length out
 length-in at out s h =
@@ -39,7 +39,7 @@ length-by true l s e =
     ap (λ (k : Laid). length (k .out)) (lay-fits l s (leb-true _ _ e)) ∙ length-in (l .at) (l .out) s (leb-true _ _ e)
 length-by false l s e = ap (λ (k : Laid). length (k .out)) (lay-short l s (leb-false _ _ e))
 
--- laying leaves the buffer's length
+-- writing a text keeps the buffer's length
 pub length-lay : (l : Laid) (s : List ℕ) → length (lay l s .out) ≡ length (l .out)
 length-lay l s = length-by _ l s refl
 
@@ -60,12 +60,12 @@ empty-by false l e = lay-short l [] (leb-false _ _ e)
 pub lay-nothing : (l : Laid) → lay l [] ≡ l
 lay-nothing l = empty-by _ l refl
 
--- texts laid after others
+-- texts written after other texts
 pub lay-all-append : (l : Laid) (ss ts : List (List ℕ)) → layAll l (ss ++ ts) ≡ layAll (layAll l ss) ts
 lay-all-append l [] ts = refl
 lay-all-append l (s ∷ ss) ts = lay-all-append (lay l s) ss ts
 
--- a second text goes behind the first, and takes the place of what stood behind that
+-- a second text stands right behind the first
 second-in : (at : ℕ) (out s t : List ℕ) → at + length (s ++ t) ≤ length out
     → lay (laid (at + length s) (take at out ++ s ++ drop (at + length s) out)) t ≡ lay (laid at out) (s ++ t)
 second-in at out s t h =
@@ -88,12 +88,12 @@ second-in at out s t h =
     ∙ ap (λ (a : List ℕ). a ++ drop (at + length (s ++ t)) out) (append-assoc (take at out) s t))
     ∙ sym (lay-fits (laid at out) (s ++ t) h)
 
--- two texts laid one after the other are laid as one
+-- two texts written one after the other are written as one
 pub lay-lay : (l : Laid) (s t : List ℕ) → l .at + length (s ++ t) ≤ length (l .out) → lay (lay l s) t ≡ lay l (s ++ t)
 lay-lay l s t h =
     ap (λ (k : Laid). lay k t) (lay-fits l s (omega (arith, length-append s t))) ∙ second-in (l .at) (l .out) s t h
 
--- where there is room for all of them, texts laid one after another are laid as one
+-- if all texts fit, writing one after another writes them as one
 pub lay-all : (l : Laid) (ss : List (List ℕ)) → l .at + length (concat ss) ≤ length (l .out) → layAll l ss ≡ lay l (concat ss)
 lay-all l [] h = sym (lay-nothing l)
 lay-all l (s ∷ ss) h =
@@ -102,9 +102,9 @@ lay-all l (s ∷ ss) h =
     let long : length (lay l s .out) ≡ length (l .out) = length-lay l s in
     lay-all (lay l s) ss (omega arith) ∙ lay-lay l s (concat ss) h
 
--- One turn and the ends of the loop that copies, and what `put` and `put_number` answer.
+-- The loop of `copy`, and what `put` and `put_number` leave.
 
--- after i bytes: those stand in the buffer, and the rest is as it was
+-- after i bytes: those stand in the buffer, and the rest of it is as it was
 pub record Copying (out₀ : List ℕ) (at : ℕ) (text out : List ℕ) (i : ℕ) : Type 0 where
   pub within : i ≤ length text
   pub so : out ≡ paste out₀ at text i
@@ -135,11 +135,11 @@ copying-end {out₀} {text} {out} {at} {i} c h =
     c .so ∙ ap (paste out₀ at text) e
     ∙ ap (λ (s : List ℕ). take at out₀ ++ s ++ drop (at + length text) out₀) (take-length text)
 
--- nothing put where there is no room
+-- nothing is written without room
 pub put-short : (at : ℕ) (out s : List ℕ) → length out < at + length s → laid at out ≡ lay (laid at out) s
 put-short at out s h = sym (lay-short (laid at out) s h)
 
--- a text put where there is
+-- a text is written if there is room
 pub put-fits : (at n : ℕ) (out out′ s : List ℕ) → n ≡ length s → at + n ≤ length out → out′ ≡ take at out ++ s ++ drop (at + n) out
     → laid (at + n) out′ ≡ lay (laid at out) s
 put-fits at n out out′ s e h f =

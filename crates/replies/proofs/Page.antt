@@ -1,4 +1,4 @@
--- The page's own answer, computed: its four lines, its header and a refusal come out of the definitions byte for byte.
+-- The example's output, computed from the definitions byte for byte: header, four lines, and some lines more (definition 8.11).
 -- Assumes nothing.
 use mathlib.Core.Path.{_≡_, refl}
 use mathlib.Core.List.{_++_}
@@ -11,15 +11,15 @@ use Rattle.verdicts.specs.declared.Finding.{Finding}
 use Rattle.text.specs.Text.{bytes, eol}
 use Rattle.replies.specs.Replies.{decimalText, verdictText, dutyText, statesText, headerLine, answerLine, refusedLine}
 
--- what was found of an event: verdict, duty and the set after
+-- a finding: verdict, duty and set after
 abbrev pub found : ℕ → ℕ → ℕ → Finding
 found verdict duty after = record { after = after; verdict = record { 0 = verdict }; duty = record { 0 = duty } }
 
--- the set of I and SC
+-- the set {I, SC}
 abbrev pub I-SC : ℕ
 I-SC = 33
 
--- the page's answer: its header and its four lines
+-- the output of the example: its header and its four lines
 pub page :
     headerLine
     ++ answerLine 0 (found explained Home I-SC)
@@ -34,7 +34,7 @@ pub page :
 unfolding headerLine answerLine decimalText verdictText dutyText statesText bit
 page = refl
 
--- a late event with every state, a duty of the Requester and one that is lost
+-- two late events: all seven states with the duty on the Requester, and a lost duty
 pub all-states :
     answerLine 999999 (found explained Requester allStates) ++ answerLine 1000000 (found explained lost 1)
     ≡ bytes "999999,explained,Requester,I UC UCE UD UDP SC SD" ++ eol ++ bytes "1000000,explained,lost,I" ++ eol

@@ -1,4 +1,4 @@
--- Laws of the parts of a line: what each function that puts a part has put.
+-- Laws about the parts of a line: what each function has written.
 -- Assumes nothing.
 use mathlib.Core.Path.{_≡_, sym, _∙_, ap, ap₂, subst⁻¹}
 use mathlib.Core.Bool.{Bool, cond}
@@ -22,7 +22,7 @@ use Rattle.replies.specs.Replies.{space, decimalText, Word, wordFor, ver
 use Rattle.replies.specs.Replies.{dutyText, stateText, statesTexts, headerLine, answerTexts, refusalTexts}
 use Rattle.replies.proofs.Laying.{lay-nothing, lay-all-append, length-lay-all}
 
--- a code that is not the first word's is another's
+-- a code that is not the first word's
 other : (w : Word) (ws : List Word) (code : ℕ) → (code ≡ w .code → ⊥) → wordFor (w ∷ ws) code ≡ wordFor ws code
 other w ws code h = ap (λ (b : Bool). cond b (w .text) (wordFor ws code)) (ne-eqb code (w .code) h)
 
@@ -54,7 +54,7 @@ duty-unknown l {d} h₀ h₁ h₂ h₃ e =
     e ∙ ap (λ (s : List ℕ). lay l (s ++ comma ∷ []))
     (sym (other _ (drop 1 dutyNames) d h₀ ∙ other _ (drop 2 dutyNames) d h₁ ∙ other _ (drop 3 dutyNames) d h₂ ∙ other _ [] d h₃))
 
--- a state that is not in the set, the first that is, and one after others
+-- a state that is not in the set, the first one that is, and a later one
 pub not-in : {l : Laid} (m n : ℕ) (name : List ℕ) → (m / 2 ^ n % 2 ≡ 1 → ⊥) → l ≡ lay l (stateText m n name)
 unfolding bit
 not-in {l} m n name h =
@@ -77,7 +77,7 @@ later-in l m n spaced h z s e =
     ∙ ap₂ (λ (a b : Bool). lay l (cond a (cond b (drop 1 spaced) (space ∷ drop 1 spaced)) []))
     (sym (eq-eqb (m / 2 ^ n % 2) 1 h)) (sym (ne-eqb (m % 2 ^ n) 0 z))
 
--- the weight of a state, as it is shifted into place
+-- the bit of a state, as it is shifted
 pub weight : (s : ℕ) → s < 7 → 1 * 2 ^ s % 256 ≡ 2 ^ s
 weight s h = ap (λ (w : ℕ). w % 256) (one-mul (2 ^ s)) ∙ mod-eq-of-lt (lt-of-lt-of-le (pow-lt h) (omega arith))
 
@@ -90,15 +90,15 @@ none-before m s h e = ap (λ (w : ℕ). m % w) (sym (weight s h)) ∙ e
 pub some-before : (m s : ℕ) → s < 7 → (m % (1 * 2 ^ s % 256) ≡ 0 → ⊥) → m % 2 ^ s ≡ 0 → ⊥
 some-before m s h f e = f (ap (λ (w : ℕ). m % w) (weight s h) ∙ e)
 
--- a name that comes with its space is not empty
+-- a name with its space is not empty
 pub not-empty : (spaced : List ℕ) → spaced ≡ space ∷ drop 1 spaced → 1 ≤ length spaced
 not-empty spaced e = omega (arith, ap length e)
 
--- one text more
+-- one more text
 then : {r r′ k : Laid} (t : List ℕ) → r′ ≡ lay r t → r ≡ k → r′ ≡ lay k t
 then t e h = e ∙ ap (λ (x : Laid). lay x t) h
 
--- the seven states in their order
+-- the seven states, in their order
 pub seven : {r₀ r₁ r₂ r₃ r₄ r₅ r₆ : Laid} (l : Laid) (m : ℕ)
     → r₀ ≡ lay l (stateText m I (bytes "I")) → r₁ ≡ lay r₀ (stateText m UC (bytes "UC")) → r₂ ≡ lay r₁ (stateText m UCE (bytes "UCE"))
     → r₃ ≡ lay r₂ (stateText m UD (bytes "UD")) → r₄ ≡ lay r₃ (stateText m UDP (bytes "UDP")) → r₅ ≡ lay r₄ (stateText m SC (bytes "SC"))
@@ -106,11 +106,11 @@ pub seven : {r₀ r₁ r₂ r₃ r₄ r₅ r₆ : Laid} (l : Laid) (m : ℕ)
 unfolding statesTexts
 seven l m e₀ e₁ e₂ e₃ e₄ e₅ e₆ = then _ e₆ (then _ e₅ (then _ e₄ (then _ e₃ (then _ e₂ (then _ e₁ e₀)))))
 
--- texts put one after another keep the buffer's length
+-- writing texts keeps the buffer's length
 pub same-long : {r : Laid} (l : Laid) (ss : List (List ℕ)) → r ≡ layAll l ss → length (r .out) ≡ length (l .out)
 same-long l ss e = ap (λ (k : Laid). length (k .out)) e ∙ length-lay-all l ss
 
--- an answer's parts in their order
+-- the parts of an event's output line, in their order
 pub answered : {r₀ r₁ r₂ r₃ r₄ : Laid} (l : Laid) (k : ℕ) (found : Finding) → r₀ ≡ lay l (decimalText k) → r₁ ≡ lay r₀ (verdictPart (found .verdict .0))
     → r₂ ≡ lay r₁ (dutyPart (found .duty .0)) → r₃ ≡ layAll r₂ (statesTexts (found .after)) → r₄ ≡ lay r₃ eol
     → r₄ ≡ layAll l (answerTexts k found)
@@ -119,7 +119,7 @@ answered l k found e₀ e₁ e₂ e₃ e₄ =
     then _ e₄ (e₃ ∙ ap (λ (x : Laid). layAll x (statesTexts (found .after))) (then _ e₂ (then _ e₁ e₀)))
     ∙ sym (lay-all-append _ (statesTexts (found .after)) (eol ∷ []))
 
--- a refusal's parts in their order
+-- the parts of a refusal's line, in their order
 pub refused : {r₀ r₁ r₂ r₃ r₄ : Laid} (l : Laid) (number line : ℕ) → r₀ ≡ lay l (bytes "refused,") → r₁ ≡ lay r₀ (decimalText number) → r₂ ≡ lay r₁ (comma ∷ [])
     → r₃ ≡ lay r₂ (decimalText line) → r₄ ≡ lay r₃ eol → r₄ ≡ layAll l (refusalTexts number line)
 unfolding refusalTexts

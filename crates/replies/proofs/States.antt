@@ -1,4 +1,4 @@
--- The parts in which the text of a set is put make the text: the names of its states with one space between each two.
+-- The parts of a set's text make the text: the names of its states with spaces between them.
 -- Assumes nothing.
 use mathlib.Core.Path.{_≡_, refl, sym, _∙_, ap}
 use mathlib.Core.Bool.{Bool, true, false, cond, _&&_, not, and-true, and-false}
@@ -13,7 +13,7 @@ use Rattle.sets.specs.Sets.{bit}
 use Rattle.replies.specs.Laid.{concat}
 use Rattle.replies.specs.Replies.{space, stateNames, namesIn, spaced, statesText, stateText, statesTexts}
 
--- names with a space before each
+-- names, each after a space
 led : List (List ℕ) → List ℕ
 led [] = []
 led (name ∷ names) = (space ∷ name) ++ led names
@@ -23,7 +23,7 @@ unfolding led
 spaced-led name [] = sym (append-nil name)
 spaced-led name (next ∷ names) = ap (λ (s : List ℕ). name ++ space ∷ s) (spaced-led next names)
 
--- no state before n + 1 is in the set: none before n, and not n
+-- no state up to n is in the set: none below n, and not n itself
 below : (t r p s : ℕ) → t ≡ s * p + r → 0 < p → s < 2 → eqb t 0 ≡ (eqb r 0 && not (eqb s 1))
 below t r p zero e h k = ap (λ (x : ℕ). eqb x 0) (let f : t ≡ r = omega arith in f) ∙ sym (and-true (eqb r 0))
 below t r p (suc zero) e h k = ne-eqb t 0 (λ z. omega arith) ∙ sym (and-false (eqb r 0))
@@ -36,12 +36,12 @@ none-below m n =
     (ap (λ (k : ℕ). m % 2 ^ k) (let f : suc n ≡ 1 + n = omega arith in f) ∙ mod-pow-add m 1 n)
     (pow-pos n) (mod-lt (m / 2 ^ n) (zero-lt-suc 1))
 
--- the parts of the text of a set, from state n on
+-- the parts of a set's text, from state n on
 partsFrom : ℕ → ℕ → List (List ℕ) → List (List ℕ)
 partsFrom m n [] = []
 partsFrom m n (name ∷ names) = stateText m n name ∷ partsFrom m (suc n) names
 
--- what they make: the first name bare where no state before n is in the set
+-- the parts joined: the first name has no space before it if no lower state is in the set
 parts-by : (first has : Bool) (name rest : List ℕ) (names : List (List ℕ))
     → rest ≡ cond (first && not has) (spaced names) (led names)
     → cond has (cond first name (space ∷ name)) [] ++ rest
@@ -65,7 +65,7 @@ parts-from m n (name ∷ names) =
     (parts-from m (suc n) names
     ∙ ap (λ (b : Bool). cond b (spaced (namesIn m (suc n) names)) (led (namesIn m (suc n) names))) (none-below m n))
 
--- the parts of the text of a set make the text
+-- the parts of a set's text make the text
 pub concat-states : (m : ℕ) → concat (statesTexts m) ≡ statesText m
 unfolding statesTexts statesText partsFrom
 concat-states m =

@@ -1,4 +1,4 @@
--- The text that the bench sheet answers: the header, a line for each event, and the line of a refusal.
+-- The output of the bench sheet: the header, a line for each event, and the line of a refusal (definition 8.6, 8.7).
 use Prim.Native.Nat.{ℕ, zero, suc, _+_, _/_, _%_, _^_}
 use Prim.Native.String.{String}
 use mathlib.Core.Bool.{cond}
@@ -11,42 +11,42 @@ use Rattle.verdicts.specs.Verdicts.{explained, unexplained, notJudged}
 use Rattle.verdicts.specs.declared.Finding.{Finding}
 use Rattle.text.specs.Text.{bytes, comma, eol}
 
--- what parts the names of two states
+-- stands between the names of two states
 abbrev pub space : ℕ
 space = 32
 
--- a digit as text
+-- the byte of a digit
 abbrev pub digit : ℕ → ℕ
 digit d = 48 + d
 
--- a number below ten is its digit; any other is the number of its tens, then its last digit (in at most f + 1 digits)
+-- a number in decimal, with at most f + 1 digits: one digit below ten, else the digits of the tens and then the last digit
 abbrev pub decimalTextIn : ℕ → ℕ → List ℕ
 decimalTextIn zero n = digit (n % 10) ∷ []
 decimalTextIn (suc f) n = cond (ltb n 10) (digit n ∷ []) (decimalTextIn f (n / 10) ++ digit (n % 10) ∷ [])
 
--- a number of at most twenty digits in decimalText, without leading zeros; every number of 64 bits is one
+-- a number in decimal, without leading zeros; twenty digits suffice for every 64-bit number
 unfoldable pub decimalText : ℕ → List ℕ
 decimalText n = decimalTextIn 19 n
 
--- a code, and the word for it
+-- a code and its word
 pub record Word : Type 0 where
   pub code : ℕ
   pub text : List ℕ
 
--- a code with its word as it is written
+-- a code with its word, written as text
 abbrev pub word : ℕ → String → Word
 word code text = record { code = code; text = bytes text }
 
--- the word for a code; a code that has none is unknown
+-- the word for a code; `unknown` if it has none
 abbrev pub wordFor : List Word → ℕ → List ℕ
 wordFor [] code = bytes "unknown"
 wordFor (w ∷ ws) code = cond (eqb code (w .code)) (w .text) (wordFor ws code)
 
--- the verdicts by their names
+-- the verdicts' names (definition 8.6)
 abbrev pub verdictNames : List Word
 verdictNames = word explained "explained" ∷ word unexplained "unexplained" ∷ word notJudged "not judged" ∷ []
 
--- the duties by their names
+-- the duties' names (definition 8.6)
 abbrev pub dutyNames : List Word
 dutyNames = word noDuty "none" ∷ word Home "Home" ∷ word Requester "Requester" ∷ word lost "lost" ∷ []
 
@@ -58,47 +58,47 @@ verdictText v = wordFor verdictNames v
 unfoldable pub dutyText : ℕ → List ℕ
 dutyText d = wordFor dutyNames d
 
--- the names of the states, in table order
+-- the states' names, in the order of definition 2.1
 abbrev pub stateNames : List (List ℕ)
 stateNames = bytes "I" ∷ bytes "UC" ∷ bytes "UCE" ∷ bytes "UD" ∷ bytes "UDP" ∷ bytes "SC" ∷ bytes "SD" ∷ []
 
--- of these names, which are those of state n and the states after it, the ones that are in the set m
+-- given the names from state n on, those whose states are in the set m
 abbrev pub namesIn : ℕ → ℕ → List (List ℕ) → List (List ℕ)
 namesIn m n [] = []
 namesIn m n (name ∷ names) = cond (bit m n) (name ∷ namesIn m (suc n) names) (namesIn m (suc n) names)
 
--- names with one space between each two
+-- the names, with one space between them
 abbrev pub spaced : List (List ℕ) → List ℕ
 spaced [] = []
 spaced (name ∷ []) = name
 spaced (name ∷ next ∷ names) = name ++ space ∷ spaced (next ∷ names)
 
--- the names of the states of a set; nothing for the empty set
+-- the names of the states of a set; nothing for the empty set (definition 8.6)
 unfoldable pub statesText : ℕ → List ℕ
 statesText m = spaced (namesIn m I stateNames)
 
--- every line of the answer fits into this many bytes
+-- every output line fits into this many bytes
 abbrev pub room : ℕ
 room = 64
 
--- the first line of the answer
+-- the header of the output (definition 8.6)
 unfoldable pub headerLine : List ℕ
 headerLine = bytes "event,verdict,duty,states" ++ eol
 
--- the line that answers event k
+-- the output line of event k (definition 8.6)
 unfoldable pub answerLine : ℕ → Finding → List ℕ
 answerLine k found =
     decimalText k ++ comma ∷ verdictText (found .verdict .0) ++ comma ∷ dutyText (found .duty .0) ++ comma ∷ statesText (found .after) ++ eol
 
--- the line that ends a run: the number of the refusal, and the line that is refused
+-- the line that ends a refused run: the refusal number and the bad line (definition 8.7)
 unfoldable pub refusedLine : ℕ → ℕ → List ℕ
 refusedLine number line = bytes "refused" ++ comma ∷ decimalText number ++ comma ∷ decimalText line ++ eol
 
--- state n in the text of the set m: its name where it is in the set, behind a space where a state before it is in the set too
+-- state n in the text of the set m: its name if it is in the set, after a space if a lower state is in the set too
 abbrev pub stateText : ℕ → ℕ → List ℕ → List ℕ
 stateText m n name = cond (bit m n) (cond (eqb (m % 2 ^ n) 0) name (space ∷ name)) []
 
--- the text of a set in the parts in which it is put
+-- the text of a set, in the parts in which it is written
 unfoldable pub statesTexts : ℕ → List (List ℕ)
 statesTexts m =
     stateText m I (bytes "I") ∷
@@ -110,7 +110,7 @@ statesTexts m =
     stateText m SD (bytes "SD") ∷
     []
 
--- the line that answers event k, in the parts in which it is put
+-- the output line of event k, in the parts in which it is written
 unfoldable pub answerTexts : ℕ → Finding → List (List ℕ)
 answerTexts k found =
     decimalText k ∷
@@ -118,6 +118,6 @@ answerTexts k found =
     (dutyText (found .duty .0) ++ comma ∷ []) ∷
     (statesTexts (found .after) ++ eol ∷ [])
 
--- the line that ends a run, in the parts in which it is put
+-- the line of a refusal, in the parts in which it is written
 unfoldable pub refusalTexts : ℕ → ℕ → List (List ℕ)
 refusalTexts number line = bytes "refused," ∷ decimalText number ∷ (comma ∷ []) ∷ decimalText line ∷ eol ∷ []

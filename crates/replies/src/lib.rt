@@ -1,4 +1,4 @@
-// The text that the bench sheet answers, laid into a buffer byte for byte.
+// Writes the output of the bench sheet into a buffer, byte for byte (definition 8.6, 8.7).
 use kinds::Duty;
 use kinds::EventNumber;
 use kinds::LineState;
@@ -14,13 +14,13 @@ ghost use Rattle.replies.specs.Laid.{laid, lay, layAll};
 ghost use Rattle.replies.specs.Replies.{space, decimalText, verdictText, dutyText, stateText, statesTexts};
 ghost use Rattle.replies.specs.Replies.{headerLine, answerTexts, refusalTexts};
 
-// Every line of the answer fits into this many bytes.
+// Every output line fits into this many bytes.
 pub const ROOM: usize = 64;
 
-// The digit 0 as text; the others follow it.
+// The byte of the digit 0; the other digits follow it.
 const ZERO: u8 = b'0';
 
-// Copies a text that fits into the buffer, from the place on.
+// Copies a text into the buffer at an offset. The text must fit.
 fn copy(out: &mut [u8], at: usize, text: &[u8])
     requires { ⌜ at + length (now text) ≤ length (now out) ⌝ }
     ensures { λ _. ⌜ now (out .exit) ≡
@@ -33,7 +33,7 @@ fn copy(out: &mut [u8], at: usize, text: &[u8])
     }
 }
 
-// Puts a text into the buffer at a place, and answers the place behind it; a text that doesn't fit is left out.
+// Writes a text at an offset, and returns the offset behind it. A text that does not fit is left out.
 pub fn put(out: &mut [u8], at: usize, text: &[u8]) -> usize
     ensures { λ r. ⌜ laid r (now (out .exit)) ≡ lay (laid at (now (out .entry))) (now (text .entry)) ⌝ }
 {
@@ -48,7 +48,7 @@ pub fn put(out: &mut [u8], at: usize, text: &[u8]) -> usize
     at + len
 }
 
-// How many digits a number has.
+// The number of digits of a number.
 fn places(n: u64) -> usize
     ensures { λ r. ⌜ r ≡ length (decimalText n) ⌝ }
 {
@@ -61,7 +61,7 @@ fn places(n: u64) -> usize
     k
 }
 
-// Spells a number whose k digits fit into the buffer, the last digit first.
+// Writes the k digits of a number at an offset, the last digit first. They must fit.
 fn spell(out: &mut [u8], at: usize, k: usize, n: u64)
     requires { ⌜ k ≡ length (decimalText n) ⌝ }
     requires { ⌜ at + k ≤ length (now out) ⌝ }
@@ -77,7 +77,7 @@ fn spell(out: &mut [u8], at: usize, k: usize, n: u64)
     out[at] = ZERO + (rest % 10) as u8;
 }
 
-// Puts a number in decimalText.
+// Writes a number in decimal.
 fn put_number(out: &mut [u8], at: usize, n: u64) -> usize
     ensures { λ r. ⌜ laid r (now (out .exit)) ≡ lay (laid at (now (out .entry))) (decimalText n) ⌝ }
 {
@@ -92,7 +92,7 @@ fn put_number(out: &mut [u8], at: usize, n: u64) -> usize
     at + k
 }
 
-// Puts a verdict's name between commas; a code without a name is unknown.
+// Writes a verdict's name between two commas; `unknown` for a code without a name.
 fn put_verdict(out: &mut [u8], at: usize, verdict: Verdict) -> usize
     ensures { λ r. ⌜ laid r (now (out .exit)) ≡
         lay (laid at (now (out .entry))) (comma ∷ verdictText (verdict .0) ++ comma ∷ []) ⌝ }
@@ -110,7 +110,7 @@ fn put_verdict(out: &mut [u8], at: usize, verdict: Verdict) -> usize
     put(out, at, b",unknown,")
 }
 
-// Puts a duty's name and a comma; a code without a name is unknown.
+// Writes a duty's name and a comma; `unknown` for a code without a name.
 fn put_duty(out: &mut [u8], at: usize, duty: Duty) -> usize
     ensures { λ r. ⌜ laid r (now (out .exit)) ≡ lay (laid at (now (out .entry))) (dutyText (duty .0) ++ comma ∷ []) ⌝ }
 {
@@ -130,7 +130,7 @@ fn put_duty(out: &mut [u8], at: usize, duty: Duty) -> usize
     put(out, at, b"unknown,")
 }
 
-// Puts a state's name where the state is in the set, behind a space where a state before it is too; the name comes with its space.
+// Writes a state's name if the state is in the set. `spaced` is the name after a space, which only the first state leaves out.
 fn put_state(out: &mut [u8], at: usize, states: u8, state: u8, spaced: &[u8]) -> usize
     requires { ⌜ state < 7 ⌝ }
     requires { ⌜ now spaced ≡ space ∷ drop 1 (now spaced) ⌝ }
@@ -146,7 +146,7 @@ fn put_state(out: &mut [u8], at: usize, states: u8, state: u8, spaced: &[u8]) ->
     put(out, at, spaced)
 }
 
-// Puts the names of the states of a set.
+// Writes the names of the states of a set, with spaces between them.
 fn put_states(out: &mut [u8], at: usize, states: u8) -> usize
     ensures { λ r. ⌜ laid r (now (out .exit)) ≡ layAll (laid at (now (out .entry))) (statesTexts states) ⌝ }
 {
@@ -159,7 +159,7 @@ fn put_states(out: &mut [u8], at: usize, states: u8) -> usize
     put_state(out, sc, states, LineState::SD.0, b" SD")
 }
 
-// Puts the line that answers an event.
+// Writes the output line of an event (definition 8.6).
 pub fn put_answer(out: &mut [u8], at: usize, event: EventNumber, found: Finding) -> usize
     ensures { λ r. ⌜ laid r (now (out .exit)) ≡ layAll (laid at (now (out .entry))) (answerTexts (event .0) found) ⌝ }
 {
@@ -171,7 +171,7 @@ pub fn put_answer(out: &mut [u8], at: usize, event: EventNumber, found: Finding)
     put(out, named, b"\r\n")
 }
 
-// Puts the line that ends a run: why, and at which line.
+// Writes the line that ends a refused run: the refusal number and the bad line (definition 8.7).
 pub fn put_refusal(out: &mut [u8], at: usize, refusal: Refusal, line: u64) -> usize
     ensures { λ r. ⌜ laid r (now (out .exit)) ≡ layAll (laid at (now (out .entry))) (refusalTexts (refusal .0) line) ⌝ }
 {
@@ -184,7 +184,7 @@ pub fn put_refusal(out: &mut [u8], at: usize, refusal: Refusal, line: u64) -> us
     put(out, placed, b"\r\n")
 }
 
-// Puts the first line of the answer.
+// Writes the header of the output.
 pub fn put_header(out: &mut [u8], at: usize) -> usize
     ensures { λ r. ⌜ laid r (now (out .exit)) ≡ lay (laid at (now (out .entry))) headerLine ⌝ }
 {

@@ -1,4 +1,4 @@
--- A permitted step and the row that permits it, both ways: whatever a test shows of every row holds of that one.
+-- A permitted step and the row that permits it, in both directions. What holds for all rows holds for that row.
 -- Assumes nothing.
 use mathlib.Core.Path.{_≡_}
 use mathlib.Core.Bool.{Bool, true, _&&_}
@@ -10,7 +10,7 @@ use Rattle.kinds.proofs.Lists.{In, any-found, found-any, all-at, and-left, and-
 use Rattle.rows.specs.Rows.{Row, rows}
 use Rattle.rows.specs.Permitted.{asked, answered, tagged, holds, permitted}
 
--- a row with all that it asks of a step
+-- a row that permits the step, with everything that it asks
 pub record Permits (e : List ℕ) (t s s′ : ℕ) : Type 0 where
   pub row : Row
   pub inside : In row rows
@@ -49,6 +49,6 @@ row-permitted e t s s′ p =
     found-any (holds e t s s′) (p .inside)
     (and-both (and-both (and-both (and-both (p .from) (p .to)) (p .is-asked)) (p .is-answered)) (p .is-tagged))
 
--- what a test shows of every row, it shows of the one that permits
+-- a test that all rows pass is passed by the row that permits the step
 pub by-rows : (test : Row → Bool) {e : List ℕ} {t s s′ : ℕ} → all test rows ≡ true → (p : Permits e t s s′) → test (p .row) ≡ true
 by-rows test h p = all-at test h (p .inside)

@@ -1,4 +1,4 @@
--- Laws of the tests that the code makes, each over plain variables.
+-- Laws about the tests of the code, over plain variables.
 -- Assumes nothing.
 use mathlib.Core.Path.{_≡_, refl, sym, _∙_, ap, ap₂, subst⁻¹}
 use mathlib.Core.Bool.{Bool, true, false, cond, not, _&&_, _||_}
@@ -17,11 +17,11 @@ use Rattle.rows.specs.declared.Table.{Table}
 use Rattle.rows.specs.Permitted.{rulesOf, okOrDerr, byTags, fits, asked, tagsAllow, tagged, someTag}
 use Rattle.rows.specs.Event.{requestOf, retToSrcOf, doNotGoToSDOf, exclOf, tagOf, tagOpOf, seen}
 
--- what a rule says of a table, it says of one that is found to be that table
+-- what a rule says about a table holds for any table equal to it
 pub told : (rule : Table → Bool) {T U : Table} {r : Bool} → T ≡ U → r ≡ rule U → r ≡ rule T
 told rule h k = k ∙ ap rule (sym h)
 
--- errors, by whether the answer has data
+-- `ok_or_derr` computes okOrDerr
 pub ok-or-derr : (n : ℕ) (a : Answer) (h r : Bool) → h ≡ hasData a → r ≡ cond h (eqb n OK || eqb n DERR) (eqb n OK) → r ≡ n ∈? okOrDerr a
 ok-or-derr n a h r hh hr = hr ∙ ap (λ (b : Bool). cond b (eqb n OK || eqb n DERR) (eqb n OK)) hh ∙ each (hasData a)
   where
@@ -29,7 +29,7 @@ ok-or-derr n a h r hh hr = hr ∙ ap (λ (b : Bool). cond b (eqb n OK || eqb n D
     each true = one-of-2 n OK DERR
     each false = one-of-1 n OK
 
--- TagOps, by Dirty tags, PD and UDP
+-- `by_tags` computes byTags
 pub by-tags : (n t s : ℕ) (a : Answer) (m : ℕ) (p x y r : Bool) → m ≡ answerResp a → p ≡ respPD m
     → x ≡ cond p (eqb n opUpdate) (eqb n opTransfer) → y ≡ cond (eqb s UDP) (eqb n opInvalid) (eqb n opInvalid || eqb n opTransfer)
     → r ≡ cond (eqb t tagDirty) x y → r ≡ n ∈? byTags t s a
@@ -46,7 +46,7 @@ by-tags n t s a m p x y r hm hp hx hy hr =
     each false q true = one-of-1 n opInvalid
     each false q false = one-of-2 n opInvalid opTransfer
 
--- six bytes against an answer's six
+-- comparing six bytes one by one compares the event's answer with this answer
 pub same-wire : (x₀ x₁ x₂ x₃ x₄ x₅ : ℕ) (a : Answer) (w : List ℕ) → w ≡ wire a
     → eqb x₀ (getD w 0 0) && eqb x₁ (getD w 1 0) && eqb x₂ (getD w 2 0) && eqb x₃ (getD w 3 0) && eqb x₄ (getD w 4 0) && eqb x₅ (getD w 5 0)
     ≡ same (x₀ ∷ x₁ ∷ x₂ ∷ x₃ ∷ x₄ ∷ x₅ ∷ []) (wire a)
@@ -71,7 +71,7 @@ same-wire x₀ x₁ x₂ x₃ x₄ x₅ a w h =
     at-wire (SnpRespData r (CompData f)) = six 1 6 (r .0) (f .0) 1 (f .0)
     at-wire (SnpRespDataPtl r) = six 1 5 (r .0) 0 0 0
 
--- the four tests of the snoop
+-- the four tests of `asked`
 pub asked-by : (e : List ℕ) (T : Table) (ret : ℕ) (marked : Bool) (n : ℕ) (x y z : Bool)
     → x ≡ requestOf e ∈? rulesOf T .asks → n ≡ rulesOf T .excl → y ≡ fits n (exclOf e) → z ≡ fits ret (retToSrcOf e)
     → x && y && z && not (marked && eqb (doNotGoToSDOf e) 1) ≡ asked e T ret marked
@@ -79,12 +79,12 @@ unfolding asked
 asked-by e T ret marked n x y z hx hn hy hz =
     ap (λ (b : Bool). b && not (marked && eqb (doNotGoToSDOf e) 1)) (ap₂ _&&_ (ap₂ _&&_ hx (hy ∙ ap (λ (m : ℕ). fits m (exclOf e)) hn)) hz)
 
--- Dirty tags, by the state before and what is forwarded
+-- `tags_allow` computes tagsAllow
 pub tags-allow : (t s : ℕ) (a : Answer) (m : ℕ) (p : Bool) → m ≡ answerFwd a → p ≡ fwdPD m
     → not (eqb t tagDirty) || ((eqb s UD || eqb s SD) && not p) ≡ tagsAllow t s a
 tags-allow t s a m p hm hp = ap₂ (λ (x y : Bool). not (eqb t tagDirty) || (x && not y)) (one-of-2 s UD SD) (hp ∙ ap fwdPD hm)
 
--- the tags and the TagOp, with data and without
+-- the TagOp test of `tagged`, with data and without
 pub tagged-by : (e : List ℕ) (t : ℕ) (T : Table) (s : ℕ) (a : Answer) (h d f x : Bool) → h ≡ hasData a
     → d ≡ tagOpOf e ∈? rulesOf T .onData t s a → f ≡ cond h d (eqb (tagOpOf e) opInvalid) → x ≡ tagsAllow t s a → x && f ≡ tagged e t T s a
 unfolding tagged
@@ -95,11 +95,11 @@ tagged-by e t T s a h d f x hh hd hf hx =
     each true ns = refl
     each false ns = one-of-1 (tagOpOf e) opInvalid
 
--- one of the three tag states
+-- the three tag states, tested one by one
 pub any-tag : (p : ℕ → Bool) → p tagInvalid || p tagClean || p tagDirty ≡ any p tags
 any-tag p = or-3 (p tagInvalid) (p tagClean) (p tagDirty)
 
--- the three tries of the code are the test of the list
+-- `some_tag` computes someTag
 pub some-tag : (e : List ℕ) (T : Table) (s : ℕ) (a : Answer) (x₀ y₀ x₁ y₁ x₂ y₂ : Bool)
     → x₀ ≡ seen tagNotSeen (tagOf e) tagInvalid → y₀ ≡ tagged e tagInvalid T s a
     → x₁ ≡ seen tagNotSeen (tagOf e) tagClean → y₁ ≡ tagged e tagClean T s a

@@ -1,4 +1,4 @@
--- What `asked` and `answered` say of an event, part by part.
+-- What `asked` and `answered` mean for an event, part by part.
 -- Assumes nothing.
 use mathlib.Core.Path.{_≡_, refl, _∙_, ap}
 use mathlib.Core.Bool.{Bool, true, false, cond, not, _&&_}
@@ -18,7 +18,7 @@ use Rattle.rows.specs.declared.Table.the-variants.{B46, B57, B59, B60, N
 use Rattle.rows.specs.Event.{byte, requestOf, retToSrcOf, doNotGoToSDOf, exclOf, answerOf, respOf, fwdStateOf, respErrOf, forwardedOf, forwardedRespOf}
 use Rattle.rows.specs.Permitted.{rulesOf, fits, asked, answered}
 
--- what `asked` says: the table is for the request and the excl, RetToSrc is the row's, and DoNotGoToSD doesn't forbid it
+-- `asked`: the table is for the request and the excl, RetToSrc is the row's, and DoNotGoToSD does not forbid the row
 pub record AskedSo (e : List ℕ) (T : Table) (ret : ℕ) (marked : Bool) : Type 0 where
   pub request : requestOf e ∈? rulesOf T .asks ≡ true
   pub excl : fits (rulesOf T .excl) (exclOf e) ≡ true
@@ -36,7 +36,7 @@ asked-so e T ret marked h =
     let ab = and-left (a && b) c abc in
     record { request = and-left a b ab; excl = and-right a b ab; ret-to-src = and-right (a && b) c abc; not-forbidden = and-right (a && b && c) d h }
 
--- the row is that of NDERR
+-- the table is that of NDERR
 unfoldable pub isNdErr : Table → Bool
 isNdErr B46 = false
 isNdErr B57 = false
@@ -44,7 +44,7 @@ isNdErr B59 = false
 isNdErr B60 = false
 isNdErr NdErr = true
 
--- what `answered` says: the event shows the row's answer, field by field, and its error is one of the table's: NDERR with its own row and with no other
+-- `answered`: the event has the row's answer, field by field, and a RespErr of the table; only the row of NDERR has NDERR
 pub record AnsweredSo (e : List ℕ) (T : Table) (a : Answer) : Type 0 where
   pub shown : answerOf e ≡ wire a
   pub resp : respOf e ≡ answerResp a
@@ -54,7 +54,7 @@ pub record AnsweredSo (e : List ℕ) (T : Table) (a : Answer) : Type 0 where
   pub error : respErrOf e ∈? rulesOf T .errors a ≡ true
   pub nderr : eqb (respErrOf e) NDERR ≡ isNdErr T
 
--- an answer's Resp and FwdState on the bus
+-- bytes 2 and 3 of an answer's six bytes are its Resp and its FwdState
 wire-resp : (a : Answer) → byte (wire a) 2 ≡ answerResp a
 wire-resp (SnpResp r NoForward) = refl
 wire-resp (SnpResp r (CompData f)) = refl
@@ -69,7 +69,7 @@ wire-fwd (SnpRespData r NoForward) = refl
 wire-fwd (SnpRespData r (CompData f)) = refl
 wire-fwd (SnpRespDataPtl r) = refl
 
--- no answer of a printed table has NDERR
+-- no answer of a printed table carries NDERR
 usual : (n : ℕ) (b : Bool) → n ∈? cond b (OK ∷ DERR ∷ []) (OK ∷ []) ≡ true → eqb n NDERR ≡ false
 usual n true h = not-true (eqb n NDERR) (one-of (λ m. not (eqb m NDERR)) n (OK ∷ DERR ∷ []) h refl)
 usual n false h = not-true (eqb n NDERR) (one-of (λ m. not (eqb m NDERR)) n (OK ∷ []) h refl)

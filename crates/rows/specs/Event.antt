@@ -1,15 +1,15 @@
--- An event's bytes, by what they are.
+-- The fields of an event (definition 2.3).
 use Prim.Native.Nat.{ℕ}
 use mathlib.Core.Bool.{Bool, _||_}
 use mathlib.Core.List.{List, [], _∷_}
 use lib.ListN.{getD}
 use lib.Dec.{eqb}
 
--- the byte at a place, 0 past the end
+-- the byte at an offset; 0 past the end
 abbrev pub byte : List ℕ → ℕ → ℕ
 byte e i = getD e i 0
 
--- Where each field stands: no other file of definitions says it.
+-- The offset of each field. No other specification names an offset.
 abbrev pub requestOf : List ℕ → ℕ
 requestOf e = byte e 0
 
@@ -43,21 +43,21 @@ tagOpOf e = byte e 9
 abbrev pub respErrOf : List ℕ → ℕ
 respErrOf e = byte e 10
 
--- forwarded data present
+-- whether forwarded data is present
 abbrev pub forwardedOf : List ℕ → ℕ
 forwardedOf e = byte e 11
 
--- its Resp
+-- the Resp of the forwarded data
 abbrev pub forwardedRespOf : List ℕ → ℕ
 forwardedRespOf e = byte e 12
 
 abbrev pub stateAfterOf : List ℕ → ℕ
 stateAfterOf e = byte e 13
 
--- the answer on the bus: channel, opcode, Resp, FwdState, and what is forwarded
+-- the bytes of the answer: channel, opcode, Resp, FwdState, forwarded data present, its Resp
 abbrev pub answerOf : List ℕ → List ℕ
 answerOf e = channelOf e ∷ opcodeOf e ∷ respOf e ∷ fwdStateOf e ∷ forwardedOf e ∷ forwardedRespOf e ∷ []
 
--- x is what was seen, or nothing was seen
+-- x was seen, or nothing was seen
 abbrev pub seen : ℕ → ℕ → ℕ → Bool
 seen notSeen what x = eqb what notSeen || eqb what x

@@ -1,4 +1,4 @@
--- Which steps the rows permit.
+-- Which steps the rows permit (definition 5.6 to 5.11).
 use Prim.Native.Nat.{ℕ}
 use mathlib.Core.Bool.{Bool, cond, not, _&&_, _||_}
 use mathlib.Core.List.{List, [], _∷_}
@@ -13,34 +13,34 @@ use Rattle.rows.specs.declared.Table.the-variants.{B46, B57, B59, B60, N
 use Rattle.rows.specs.Event.{seen, requestOf, retToSrcOf, doNotGoToSDOf, exclOf, tagOf, answerOf, tagOpOf, respErrOf}
 use Rattle.rows.specs.Rows.{Row, X, rows}
 
--- What holds for a table as a whole.
+-- The rules that hold for all rows of a table.
 pub record Rules : Type 0 where
-  -- the requests that it is for
+  -- the requests that the table is for
   pub asks : List ℕ
-  -- the excl that it is for, or X
+  -- the excl that it is for; X for both
   pub excl : ℕ
-  -- the RespErr that an answer may have
+  -- the RespErr values that an answer may carry
   pub errors : Answer → List ℕ
-  -- the TagOp that data to Home may have, by tag state, state before and answer
+  -- the TagOp values that an answer with data may carry, by tag state, state before and answer
   pub onData : ℕ → ℕ → Answer → List ℕ
 
--- OK, and DERR on data
+-- OK, or DERR with data (definition 5.10)
 abbrev pub okOrDerr : Answer → List ℕ
 okOrDerr a = cond (hasData a) (OK ∷ DERR ∷ []) (OK ∷ [])
 
--- Invalid, Transfer or Update, whatever the tags
+-- Invalid, Transfer or Update, with any tags (definition 5.9, first line)
 abbrev pub upToUpdate : ℕ → ℕ → Answer → List ℕ
 upToUpdate t s a = opInvalid ∷ opTransfer ∷ opUpdate ∷ []
 
--- Dirty tags go with PD as Update, else as Transfer (`tagsAllow` leaves of the others only those that say SD); other tags are Invalid or
--- Transfer, and Invalid for UDP
+-- with Dirty tags: Update if Resp carries PD, else Transfer; with other tags: Invalid or Transfer, and only Invalid from UDP
+-- (definition 5.9, second and third line)
 abbrev pub byTags : ℕ → ℕ → Answer → List ℕ
 byTags t s a =
     cond (eqb t tagDirty)
     (cond (respPD (answerResp a)) (opUpdate ∷ []) (opTransfer ∷ []))
     (cond (eqb s UDP) (opInvalid ∷ []) (opInvalid ∷ opTransfer ∷ []))
 
--- request 22 uses B4.59 with either excl, and B4.60 beside it with excl 0 alone; the answer of NDERR has no data
+-- SnpPreferUniqueFwd uses B4.59 with either excl, and B4.60 too with excl 0 (definition 5.6); the row of NDERR has no data (5.11)
 abbrev pub rulesOf : Table → Rules
 rulesOf B46 = record { asks = SnpShared ∷ SnpClean ∷ SnpNotSharedDirty ∷ SnpPreferUnique ∷ []; excl = X; errors = okOrDerr; onData = upToUpdate }
 rulesOf B57 = record { asks = SnpCleanFwd ∷ SnpNotSharedDirtyFwd ∷ []; excl = X; errors = okOrDerr; onData = byTags }
@@ -48,11 +48,11 @@ rulesOf B59 = record { asks = SnpPreferUniqueFwd ∷ []; excl = X; errors = okOr
 rulesOf B60 = record { asks = SnpPreferUniqueFwd ∷ []; excl = 0; errors = okOrDerr; onData = byTags }
 rulesOf NdErr = record { asks = requests; excl = X; errors = λ a. NDERR ∷ []; onData = λ t s a. [] }
 
--- a column that is 0, 1 or X, against a flag
+-- a column (0, 1 or X) fits a flag
 abbrev pub fits : ℕ → ℕ → Bool
 fits column flag = eqb column X || eqb column flag
 
--- the snoop is one that the row is for
+-- the row is for the event's snoop: request, excl, RetToSrc and DoNotGoToSD (definition 5.1, 5.6, 5.7)
 unfoldable pub asked : List ℕ → Table → ℕ → Bool → Bool
 asked e T ret marked =
     (requestOf e ∈? rulesOf T .asks)
@@ -60,27 +60,27 @@ asked e T ret marked =
     && fits ret (retToSrcOf e)
     && not (marked && eqb (doNotGoToSDOf e) 1)
 
--- the answer is the row's
+-- the event has the row's answer, and a RespErr that it may carry (definition 5.10)
 unfoldable pub answered : List ℕ → Table → Answer → Bool
 answered e T a = same (answerOf e) (wire a) && (respErrOf e ∈? rulesOf T .errors a)
 
--- the TagOp that an answer may have; without data to Home it is Invalid
+-- the TagOp values that an answer may carry; only Invalid without data (definition 5.9)
 abbrev pub tagOps : ℕ → Table → ℕ → Answer → List ℕ
 tagOps t T s a = cond (hasData a) (rulesOf T .onData t s a) (opInvalid ∷ [])
 
--- Dirty tags exist only with UD and SD, and aren't forwarded with PD
+-- Dirty tags exist only with UD and SD, and forbid a forward with PD (definition 5.8)
 abbrev pub tagsAllow : ℕ → ℕ → Answer → Bool
 tagsAllow t s a = not (eqb t tagDirty) || ((s ∈? (UD ∷ SD ∷ [])) && not (fwdPD (answerFwd a)))
 
--- the tag state and the TagOp fit the row
+-- the row permits the tag state t and the event's TagOp
 unfoldable pub tagged : List ℕ → ℕ → Table → ℕ → Answer → Bool
 tagged e t T s a = tagsAllow t s a && (tagOpOf e ∈? tagOps t T s a)
 
--- some tag state, as seen or any of the three, fits the row
+-- the row permits some tag state: the one that was seen, or any of the three if none was seen (definition 6.1)
 unfoldable pub someTag : List ℕ → Table → ℕ → Answer → Bool
 someTag e T s a = any (λ t. seen tagNotSeen (tagOf e) t && tagged e t T s a) tags
 
--- the row permits the event as a step from s, with tag state t, to s′
+-- row r permits the event as a step from s to s′ with tag state t
 abbrev pub holds : List ℕ → ℕ → ℕ → ℕ → Row → Bool
 holds e t s s′ r =
     eqb s (r .before)
@@ -89,6 +89,6 @@ holds e t s s′ r =
     && answered e (r .table) (r .answer)
     && tagged e t (r .table) (r .before) (r .answer)
 
--- some row permits it
+-- some row permits the event as a step from s to s′ with tag state t
 unfoldable pub permitted : List ℕ → ℕ → ℕ → ℕ → Bool
 permitted e t s s′ = any (holds e t s s′) rows

@@ -1,7 +1,7 @@
--- The rows, one line a printed row, in the printed order, under the table's number.
--- A line reads: table, initial state, final states (expected, then permitted), RetToSrc, response to Home. The printed response to Requester is
--- what the name has after Fwded, and No Fwd where it has nothing. What the TagOp columns say is `tagsAllow` and `byTags` of Permitted.
--- row* is a row with the mark that it isn't permitted with DoNotGoToSD. (`∷` ends a line and `[]` the list.)
+-- The rows, one line per printed row, in the printed order, under the table's number (definition 5.2 to 5.7, 5.11).
+-- A line reads: table, state before, states after (the expected one first), RetToSrc, answer to Home. What the name has after Fwded is the
+-- printed answer to the Requester. The printed TagOp columns are `tagsAllow` and `byTags` in Permitted.antt.
+-- row* is a row with the star: DoNotGoToSD forbids it (definition 5.7). `∷` ends a line, and `[]` ends the list.
 use Prim.Native.Nat.{ℕ}
 use mathlib.Core.Bool.{Bool, true, false}
 use mathlib.Core.List.{List, [], _∷_, _++_, map}
@@ -13,6 +13,7 @@ use Rattle.kinds.specs.Answers.{SnpRespData-I-Fwded-SC, SnpRespData-SC-Fwded-SC
 use Rattle.rows.specs.declared.Table.{Table}
 use Rattle.rows.specs.declared.Table.the-variants.{B46, B57, B59, B60, NdErr}
 
+-- A row: it permits one answer from one state before, and names the states after (definition 5.1).
 pub record Row : Type 0 where
   pub table : Table
   pub before : ℕ
@@ -21,17 +22,19 @@ pub record Row : Type 0 where
   pub answer : Answer
   pub marked : Bool
 
+-- a row without the star
 abbrev pub row : Table → ℕ → List ℕ → ℕ → Answer → Row
 row T s s′ r a = record { table = T; before = s; finals = s′; ret = r; answer = a; marked = false }
 
+-- a row with the star
 abbrev pub row* : Table → ℕ → List ℕ → ℕ → Answer → Row
 row* T s s′ r a = record { table = T; before = s; finals = s′; ret = r; answer = a; marked = true }
 
--- in a column of RetToSrc or excl: it doesn't matter
+-- in a RetToSrc or excl column: 0 and 1 both fit
 abbrev pub X : ℕ
 X = 2
 
--- the columns of states after
+-- the states after that the rows name
 abbrev to-I : List ℕ
 to-I = I ∷ []
 
@@ -44,8 +47,8 @@ SC-or-I = SC ∷ I ∷ []
 abbrev to-SD : List ℕ
 to-SD = SD ∷ []
 
--- Table B4.46: SnpClean, SnpShared, SnpNotSharedDirty and SnpPreferUnique
--- (SnpPreferUnique stands here whatever excl is, and whatever the text after the table says.)
+-- Table B4.46: SnpClean, SnpShared, SnpNotSharedDirty and SnpPreferUnique, with either excl (definition 5.2).
+-- It holds for SnpPreferUnique whatever the text after the table says (definition 1.2).
 abbrev pub rows·B4·46 : List Row
 rows·B4·46 =
     row B46 I to-I X SnpResp-I ∷
@@ -67,8 +70,8 @@ rows·B4·46 =
     row B46 SD to-I X SnpRespData-I-PD ∷
     []
 
--- Table B4.57: SnpCleanFwd and SnpNotSharedDirtyFwd
--- (Both letters on SD are read as the mark.)
+-- Table B4.57: SnpCleanFwd and SnpNotSharedDirtyFwd (definition 5.3).
+-- Both letters on SD are read as the star.
 abbrev pub rows·B4·57 : List Row
 rows·B4·57 =
     row B57 I to-I X SnpResp-I ∷
@@ -100,8 +103,8 @@ rows·B4·57 =
     row B57 SD to-I X SnpRespData-I-PD-Fwded-SC ∷
     []
 
--- Table B4.59: SnpPreferUniqueFwd, with excl 1, and with excl 0 too
--- (The star on SD is read as the mark.)
+-- Table B4.59: SnpPreferUniqueFwd with either excl (definition 5.4, 5.6).
+-- The star on SD is as printed.
 abbrev pub rows·B4·59 : List Row
 rows·B4·59 =
     row B59 I to-I X SnpResp-I ∷
@@ -119,7 +122,7 @@ rows·B4·59 =
     row B59 SD to-SC X SnpRespData-SC-PD-Fwded-SC ∷
     []
 
--- Table B4.60: SnpPreferUniqueFwd, with excl 0 beside B4.59
+-- Table B4.60: SnpPreferUniqueFwd with excl 0, together with B4.59 (definition 5.5, 5.6).
 abbrev pub rows·B4·60 : List Row
 rows·B4·60 =
     row B60 I to-I X SnpResp-I ∷
@@ -133,9 +136,10 @@ rows·B4·60 =
     row B60 SD to-I X SnpRespData-I-PD ∷
     []
 
--- NDERR: its one row, for every state
+-- NDERR: one row, from every state (definition 5.11).
 abbrev pub rows·NDERR : List Row
 rows·NDERR = map (λ s. row NdErr s to-I X SnpResp-I) states
 
+-- all rows
 unfoldable pub rows : List Row
 rows = rows·B4·46 ++ rows·B4·57 ++ rows·B4·59 ++ rows·B4·60 ++ rows·NDERR

@@ -1,4 +1,4 @@
-// The rows of the tables, and what each asks of an event.
+// What the rows of the tables ask of an event (definition 5).
 use kinds::Answer;
 use kinds::EVENT_BYTES;
 use kinds::LineState;
@@ -16,7 +16,7 @@ ghost use Rattle.kinds.specs.Answers.{wire};
 ghost use Rattle.rows.specs.Event.{byte, seen, answerOf, tagOf};
 ghost use Rattle.rows.specs.Permitted.{rulesOf, okOrDerr, byTags, tagsAllow, asked, answered, tagged, someTag, fits};
 
-// The printed tables, and the row of NDERR.
+// The printed tables, and the row of NDERR (definition 5.2 to 5.5, 5.11).
 pub enum Table {
     B46,
     B57,
@@ -25,24 +25,24 @@ pub enum Table {
     NdErr,
 }
 
-// In a column of RetToSrc or excl: it doesn't matter.
+// In a RetToSrc or excl column: 0 and 1 both fit.
 const X: u8 = 2;
 
-// The byte at a place of an event, 0 past its end.
+// The byte of an event at an offset; 0 past the end.
 pub fn byte_at(event: &[u8], at: usize) -> u8
     ensures { λ r. ⌜ r ≡ byte (now (event .entry)) «at» ⌝ }
 {
     if at < event.len() { event[at] } else { 0 }
 }
 
-// A column that is 0, 1 or X, against a flag.
+// Whether a column (0, 1 or X) fits a flag.
 fn fits(column: u8, flag: u8) -> bool
     ensures { λ r. ⌜ r ≡ fits column flag ⌝ }
 {
     (column == X) | (column == flag)
 }
 
-// Whether the tag state that was seen leaves room for this one: it is this one, or none was seen.
+// Whether the event may have this tag state: it was seen, or none was seen.
 fn sees_tag(e: &[u8; EVENT_BYTES], tag: TagState) -> bool
     ensures { λ r. ⌜ r ≡ seen tagNotSeen (tagOf (now (e .entry))) (tag .0) ⌝ }
 {
@@ -50,7 +50,7 @@ fn sees_tag(e: &[u8; EVENT_BYTES], tag: TagState) -> bool
 }
 
 impl Table {
-    // Whether the table is for the request.
+    // Whether the table is for this request.
     fn asks(self, request: Request) -> bool
         ensures { λ r. ⌜ r ≡ request .0 ∈? rulesOf self .asks ⌝ }
     {
@@ -71,7 +71,7 @@ impl Table {
         }
     }
 
-    // The excl that the table is for, or X.
+    // The excl that the table is for; X for both.
     fn excl(self) -> u8
         ensures { λ r. ⌜ r ≡ rulesOf self .excl ⌝ }
     {
@@ -84,7 +84,7 @@ impl Table {
         }
     }
 
-    // Whether an answer may have the error.
+    // Whether an answer from this table may carry this RespErr.
     fn errors(self, answer: Answer, error: RespErr) -> bool
         ensures { λ r. ⌜ r ≡ error .0 ∈? rulesOf self .errors answer ⌝ }
     {
@@ -98,7 +98,7 @@ impl Table {
         }
     }
 
-    // Whether data to Home may have the TagOp.
+    // Whether an answer with data from this table may carry this TagOp.
     fn on_data(self, tag: TagState, before: LineState, answer: Answer, op: TagOp) -> bool
         ensures { λ r. ⌜ r ≡ op .0 ∈? rulesOf self .onData (tag .0) (before .0) answer ⌝ }
     {
@@ -113,7 +113,7 @@ impl Table {
     }
 }
 
-// NDERR alone.
+// RespErr of the row of NDERR: NDERR only.
 fn nderr(error: RespErr) -> bool
     ensures { λ r. ⌜ r ≡ error .0 ∈? (NDERR ∷ []) ⌝ }
 {
@@ -121,7 +121,7 @@ fn nderr(error: RespErr) -> bool
     n == RespErr::NDERR.0
 }
 
-// OK, and DERR on data.
+// RespErr of the printed tables: OK, or DERR with data (definition 5.10).
 fn ok_or_derr(answer: Answer, error: RespErr) -> bool
     ensures { λ r. ⌜ r ≡ error .0 ∈? okOrDerr answer ⌝ }
 {
@@ -130,7 +130,7 @@ fn ok_or_derr(answer: Answer, error: RespErr) -> bool
     kinds::choose_bool(answer.has_data(), ok | derr, ok)
 }
 
-// Invalid, Transfer or Update.
+// TagOp of B4.46: Invalid, Transfer or Update (definition 5.9).
 fn up_to_update(op: TagOp) -> bool
     ensures { λ r. ⌜ r ≡ op .0 ∈? (opInvalid ∷ opTransfer ∷ opUpdate ∷ []) ⌝ }
 {
@@ -138,7 +138,7 @@ fn up_to_update(op: TagOp) -> bool
     (n == TagOp::INVALID.0) | (n == TagOp::TRANSFER.0) | (n == TagOp::UPDATE.0)
 }
 
-// Dirty tags go with PD as Update, else as Transfer; other tags are Invalid or Transfer, and Invalid for UDP.
+// TagOp of the other tables, by the tag state, the state before and PD to Home (definition 5.9).
 fn by_tags(tag: TagState, before: LineState, answer: Answer, op: TagOp) -> bool
     ensures { λ r. ⌜ r ≡ op .0 ∈? byTags (tag .0) (before .0) answer ⌝ }
 {
@@ -151,7 +151,7 @@ fn by_tags(tag: TagState, before: LineState, answer: Answer, op: TagOp) -> bool
     kinds::choose_bool(tag.0 == TagState::DIRTY.0, dirty, other)
 }
 
-// Dirty tags exist only with UD and SD, and aren't forwarded with PD.
+// Dirty tags exist only with UD and SD, and forbid a forward with PD (definition 5.8).
 fn tags_allow(tag: TagState, before: LineState, answer: Answer) -> bool
     ensures { λ r. ⌜ r ≡ tagsAllow (tag .0) (before .0) answer ⌝ }
 {
@@ -160,7 +160,7 @@ fn tags_allow(tag: TagState, before: LineState, answer: Answer) -> bool
     !(tag.0 == TagState::DIRTY.0) | (exist & !answer.fwd_state().passes_dirty())
 }
 
-// Whether the snoop is one that the row is for.
+// Whether the row is for the event's snoop: request, excl, RetToSrc and DoNotGoToSD.
 pub fn asked(e: &[u8; EVENT_BYTES], table: Table, ret: u8, marked: bool) -> bool
     ensures { λ r. ⌜ r ≡ asked (now (e .entry)) table ret marked ⌝ }
 {
@@ -170,14 +170,14 @@ pub fn asked(e: &[u8; EVENT_BYTES], table: Table, ret: u8, marked: bool) -> bool
         & !(marked & (e[place::DO_NOT_GO_TO_SD] == 1))
 }
 
-// Whether the answer is the row's.
+// Whether the event has the row's answer, and a RespErr that it may carry.
 pub fn answered(e: &[u8; EVENT_BYTES], table: Table, answer: Answer) -> bool
     ensures { λ r. ⌜ r ≡ answered (now (e .entry)) table answer ⌝ }
 {
     same_answer(e, answer) & table.errors(answer, RespErr(e[place::RESP_ERR]))
 }
 
-// Whether the event shows just this answer.
+// Whether the event's bytes are those of this answer.
 fn same_answer(e: &[u8; EVENT_BYTES], answer: Answer) -> bool
     ensures { λ r. ⌜ r ≡ same (answerOf (now (e .entry))) (wire answer) ⌝ }
 {
@@ -190,7 +190,7 @@ fn same_answer(e: &[u8; EVENT_BYTES], answer: Answer) -> bool
         & (e[place::FORWARDED_RESP] == w[5])
 }
 
-// Whether the tag state and the TagOp fit the row.
+// Whether the row permits this tag state and the event's TagOp.
 fn tagged(
     e: &[u8; EVENT_BYTES],
     tag: TagState,
@@ -209,7 +209,7 @@ fn tagged(
     tags_allow(tag, before, answer) & fine
 }
 
-// Whether some tag state that was seen, or any, fits the row.
+// Whether the row permits the event with the tag state that was seen, or with any if none was seen.
 pub fn some_tag(e: &[u8; EVENT_BYTES], table: Table, before: LineState, answer: Answer) -> bool
     ensures { λ r. ⌜ r ≡ someTag (now (e .entry)) table (before .0) answer ⌝ }
 {

@@ -1,4 +1,4 @@
--- Laws of sets as bytes: a set is its test, and the byte operations are the operations on tests.
+-- Laws about sets as bytes: a set is the same as a test on states, and operations on bytes are operations on tests.
 -- Assumes nothing.
 use mathlib.Core.Path.{_≡_, refl, sym, _∙_, ap, ap₂, fun-ext}
 use mathlib.Core.Bool.{Bool, true, false, cond, _&&_, _||_, true≢false}
@@ -18,7 +18,7 @@ use Rattle.kinds.specs.Tests.{any}
 use lib.ListN.{getD}
 use Rattle.sets.specs.Sets.{one, setOf, bit, holdsDirty, union, apply}
 
--- the number whose n binary digits say what the test says of k, k + 1, ..
+-- the number whose n binary digits, lowest first, are the test's values at k, k + 1, ..
 digits : (ℕ → Bool) → ℕ → ℕ → ℕ
 digits p k zero = 0
 digits p k (suc n) = one (p k) + digits p (suc k) n * 2
@@ -78,38 +78,38 @@ bit-digits p k (suc n) (suc j) h =
     ∙ bit-digits p (suc k) n j (le-of-suc-le-suc h)
     ∙ ap p (suc-add k j ∙ sym (add-suc k j))
 
--- or of two sets
+-- the bitwise or of two sets
 pub or-setOf : (p q : ℕ → Bool) → bitOr (setOf p) (setOf q) ≡ setOf (λ n. p n || q n)
 or-setOf p q = ap₂ bitOr (setOf-digits p) (setOf-digits q) ∙ or-digits p q 0 7 ∙ sym (setOf-digits (λ n. p n || q n))
 
--- and of two sets
+-- the bitwise and of two sets
 pub and-setOf : (p q : ℕ → Bool) → bitAnd (setOf p) (setOf q) ≡ setOf (λ n. p n && q n)
 and-setOf p q = ap₂ bitAnd (setOf-digits p) (setOf-digits q) ∙ and-digits p q 0 7 ∙ sym (setOf-digits (λ n. p n && q n))
 
--- a state is in the set of those that pass the test when it passes the test
+-- a state is in the set of a test exactly when it passes the test
 pub bit-setOf : (p : ℕ → Bool) (n : ℕ) → n < 7 → bit (setOf p) n ≡ p n
 bit-setOf p n h = ap (λ (m : ℕ). bit m n) (setOf-digits p) ∙ bit-digits p 0 7 n h ∙ ap p (zero-add n)
 
--- no state past the seventh weight is in a byte
+-- a byte has no bit from 8 on
 pub bit-past : (m n : ℕ) → m < 256 → 8 ≤ n → bit m n ≡ false
 unfolding bit
 bit-past m n h k = ap (λ (d : ℕ). eqb (d % 2) 1) (div-eq-of-lt (lt-of-lt-of-le h (pow-mono k)))
 
--- two tests that agree make one set
+-- tests that agree have the same set
 pub setOf-ext : (p q : ℕ → Bool) → ((n : ℕ) → p n ≡ q n) → setOf p ≡ setOf q
 setOf-ext p q h = ap setOf (fun-ext h)
 
--- the set of no state is empty
+-- the set of a test that no state passes is 0
 none : setOf (λ n. false) ≡ 0
 unfolding setOf
 none = refl
 
--- a set that a test lets through, or the empty one
+-- a set if the test is true, else the empty set
 pub cond-setOf : (b : Bool) (p : ℕ → Bool) → cond b (setOf p) 0 ≡ setOf (λ n. b && p n)
 cond-setOf true p = refl
 cond-setOf false p = sym none
 
--- a Dirty state of a set, looked for state by state
+-- looking for a Dirty state one by one computes holdsDirty
 pub dirty-chain : (m : ℕ) (x₀ x₁ x₂ x₃ x₄ x₅ x₆ : Bool)
     → x₀ ≡ dirty I && bit m I → x₁ ≡ dirty UC && bit m UC → x₂ ≡ dirty UCE && bit m UCE → x₃ ≡ dirty UD && bit m UD
     → x₄ ≡ dirty UDP && bit m UDP → x₅ ≡ dirty SC && bit m SC → x₆ ≡ dirty SD && bit m SD
@@ -133,7 +133,7 @@ one-below : (b : Bool) → one b < 2
 one-below true = omega arith
 one-below false = omega arith
 
--- a set of states is below 128, and in a set below 128 there are states alone
+-- a set of states is below 128, and a set below 128 holds only the seven states
 pub setOf-below : (p : ℕ → Bool) → setOf p < 128
 unfolding setOf
 setOf-below p = omega (arith, one-below (p I), one-below (p UC), one-below (p UCE), one-below (p UD), one-below (p UDP), one-below (p SC), one-below (p SD))
@@ -149,17 +149,17 @@ bit-state m n h k = go (ltb n 7) refl
     go true l = ltb-true n 7 l
     go false l = absurd (true≢false (sym k ∙ bit-above m n h (ltb-false n 7 l)))
 
--- a union of sets is the set of the states that are in one of them
+-- a union of sets is the set of the states that are in at least one of them
 pub union-setOf {ℓ} : {A : Type ℓ} (f : A → ℕ → Bool) (xs : List A) → union (map (λ x. setOf (f x)) xs) ≡ setOf (λ n. any (λ x. f x n) xs)
 union-setOf f [] = sym none
 union-setOf f (x ∷ xs) = ap (bitOr (setOf (f x))) (union-setOf f xs) ∙ or-setOf (f x) (λ n. any (λ y. f y n) xs)
 
--- so for the sets of the states in m
+-- `apply` likewise, for the sets of the states in m
 pub apply-setOf : (f : ℕ → ℕ → Bool) (m : ℕ) → apply (map (λ s. setOf (f s)) states) m ≡ setOf (λ n. any (λ s. bit m s && f s n) states)
 unfolding apply
 apply-setOf f m = simp cond-setOf (union-setOf (λ s n. bit m s && f s n) states)
 
--- the seven unions, one a state
+-- the union of the seven sets one by one computes `apply`
 pub apply-chain : (sets : List ℕ) (m x₀ x₁ x₂ x₃ x₄ x₅ x₆ : ℕ)
     → x₀ ≡ cond (bit m I) (getD sets I 0) 0 → x₁ ≡ cond (bit m UC) (getD sets UC 0) 0 → x₂ ≡ cond (bit m UCE) (getD sets UCE 0) 0
     → x₃ ≡ cond (bit m UD) (getD sets UD 0) 0 → x₄ ≡ cond (bit m UDP) (getD sets UDP 0) 0 → x₅ ≡ cond (bit m SC) (getD sets SC 0) 0
@@ -189,7 +189,7 @@ digits-bit m k (suc n) h =
 pub setOf-bit : (m : ℕ) → m < 128 → setOf (bit m) ≡ m
 setOf-bit m h = setOf-digits (bit m) ∙ digits-bit m 0 7 (omega (arith, pow-zero 2, div-one m)) ∙ simp (pow-zero, div-one)
 
--- a state that is in the set
+-- a state in the set
 pub record Held (m : ℕ) : Type 0 where
   pub state : ℕ
   pub inside : bit m state ≡ true

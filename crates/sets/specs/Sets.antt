@@ -1,4 +1,4 @@
--- A set of states is a byte: state n has weight 2 to the n.
+-- A set of states is a byte: state n adds 2 to the n (definition 2.2).
 use Prim.Native.Nat.{ℕ, _+_, _*_, _/_, _%_, _^_}
 use mathlib.Core.Bool.{Bool, cond, _&&_}
 use mathlib.Core.List.{List, [], _∷_, map}
@@ -8,11 +8,11 @@ use lib.ListN.{getD}
 use Rattle.kinds.specs.Tests.{any}
 use Rattle.kinds.specs.Codes.{I, UC, UCE, UD, UDP, SC, SD, states, dirty}
 
--- 1 for a test that holds
+-- 1 if the test is true, else 0
 abbrev pub one : Bool → ℕ
 one b = cond b 1 0
 
--- the set of the states that pass the test
+-- the set of all states that pass the test
 unfoldable pub setOf : (ℕ → Bool) → ℕ
 setOf p = one (p I) * 1 + one (p UC) * 2 + one (p UCE) * 4 + one (p UD) * 8 + one (p UDP) * 16 + one (p SC) * 32 + one (p SD) * 64
 
@@ -29,6 +29,6 @@ abbrev pub union : List ℕ → ℕ
 union [] = 0
 union (m ∷ ms) = bitOr m (union ms)
 
--- of seven sets, one a state, the union of those that stand at a state of m
+-- given one set per state, the union of the sets of all states in m
 unfoldable pub apply : List ℕ → ℕ → ℕ
 apply sets m = union (map (λ s. cond (bit m s) (getD sets s 0) 0) states)

@@ -1,11 +1,11 @@
-// Sets of states as bytes.
+// Sets of states as bytes, one bit per state (definition 2.2).
 use kinds::LineState;
 ghost use mathlib.Core.Path.{_≡_};
 ghost use mathlib.Core.Bool.{cond, _&&_};
 ghost use Rattle.kinds.specs.Codes.{dirty};
 ghost use Rattle.sets.specs.Sets.{bit, holdsDirty, apply};
 
-// Whether a state is in a set.
+// Whether the state is in the set.
 pub fn has(set: u8, state: LineState) -> bool
     ensures { λ r. ⌜ r ≡ bit «set» (state .0) ⌝ }
 {
@@ -13,14 +13,14 @@ pub fn has(set: u8, state: LineState) -> bool
     if n < 8 { (set >> n) % 2 == 1 } else { false }
 }
 
-// Whether a state is Dirty and in a set.
+// Whether the state is Dirty and in the set.
 fn held_dirty(set: u8, state: LineState) -> bool
     ensures { λ r. ⌜ r ≡ dirty (state .0) && bit «set» (state .0) ⌝ }
 {
     state.dirty() & has(set, state)
 }
 
-// Whether a set holds a Dirty state.
+// Whether the set holds a Dirty state.
 pub fn holds_dirty(set: u8) -> bool
     ensures { λ r. ⌜ r ≡ holdsDirty «set» ⌝ }
 {
@@ -33,14 +33,14 @@ pub fn holds_dirty(set: u8) -> bool
         | held_dirty(set, LineState::SD)
 }
 
-// A state's set where the state is in the set before, else the empty one.
+// The given set if the state is in the set before, else the empty set.
 fn from_state(before: u8, state: LineState, states: u8) -> u8
     ensures { λ r. ⌜ r ≡ cond (bit «before» (state .0)) states 0 ⌝ }
 {
     kinds::choose_byte(has(before, state), states, 0)
 }
 
-// Of seven sets, one a state, the union of those that stand at a state of the set before.
+// Given one set per state, the union of the sets of all states in `before`.
 pub fn apply(sets: [u8; 7], before: u8) -> u8
     ensures { λ r. ⌜ r ≡ apply sets «before» ⌝ }
 {

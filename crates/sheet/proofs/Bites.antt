@@ -1,4 +1,4 @@
--- Laws of the bites of a run: none changes what is written in all, each takes a byte or ends the run, and after enough of them none is ready.
+-- Laws about bites: a bite keeps the whole output, takes a byte or ends the run, and after enough bites no line is ready.
 -- Assumes nothing.
 use mathlib.Core.Path.{_≡_, refl, sym, _∙_, ap, ap₂, subst}
 use mathlib.Core.Bool.{Bool, true, false, cond, _&&_, _||_, false≢true}
@@ -19,11 +19,11 @@ use Rattle.replies.specs.Replies.{room, refusedLine}
 use Rattle.sheet.specs.Sheet.{Told, told, refuse, header, longest, mostLines, onHeader, onParsed, onLine, answers}
 use Rattle.sheet.specs.Pieces.{Held, nextLine, whole, taken, sure, ready, afterLine, bite, times, eaten, toCome, total}
 
--- what a line too long does, whatever it holds
+-- what a line that is too long does, whatever it holds
 unfoldable pub tooLongTold : ℕ → List ℕ → Told
 tooLongTold k table = cond (eqb k 0) (refuse 6 0 table) (refuse 7 k table)
 
--- a line as long as the header, or it is another
+-- a line longer than the header is not the header
 same-long : (l h : List ℕ) → length h < length l → same l h ≡ false
 same-long [] h k = absurd (omega arith)
 same-long (x ∷ l) [] k = refl
@@ -59,11 +59,11 @@ too-long-ends k table = go (eqb k 0)
     go true = refl
     go false = refl
 
--- the answer to a line, and then those to the others
+-- the output of a line, and then that of the lines after it
 abbrev andThen : ℕ → Told → List (List ℕ) → List ℕ
 andThen k t others = t .text ++ cond (t .goes) (answers (k + 1) (t .table) others) []
 
--- where the run ends, the other lines don't matter
+-- after the end of the run, the other lines do not matter
 ends-all : (k : ℕ) (t : Told) (ls ls′ : List (List ℕ)) → t .goes ≡ false → andThen k t ls ≡ andThen k t ls′
 ends-all k t ls ls′ e =
     ap (λ b. t .text ++ cond b (answers (k + 1) (t .table) ls) []) e ∙ sym (ap (λ b. t .text ++ cond b (answers (k + 1) (t .table) ls′) []) e)
@@ -71,7 +71,7 @@ ends-all k t ls ls′ e =
 next-long : (rest : List ℕ) → reach tooLong rest ≡ tooLong → longest < length (nextLine rest)
 next-long rest e = subst (λ n. longest < n) (sym (length-take (reach tooLong rest) rest)) (omega (arith, e, reach-within tooLong rest))
 
--- a line known to be too long
+-- a line that is known to be too long
 long-seen : (k : ℕ) (table rest more : List ℕ) (ls : List (List ℕ)) → reach tooLong rest ≡ tooLong → tooLong < length rest
     → answers k table (linesOf (rest ++ more)) ≡ andThen k (onLine k table (nextLine rest)) ls
 long-seen k table rest more ls e h =
@@ -101,7 +101,7 @@ pub nothing : (s : List ℕ) → length s ≤ 0 → s ≡ []
 nothing [] h = refl
 nothing (x ∷ s) h = absurd (omega arith)
 
--- where the input has ended, and what is left has no CR LF and is not known to be too long
+-- the input has ended, and the rest has no CR LF and is not too long
 end-seen : (k : ℕ) (table rest : List ℕ) → whole rest ≡ false → length rest ≤ tooLong → ltb 0 (length rest) || eqb k 0 ≡ true
     → answers k table (linesOf rest) ≡ andThen k (onLine k table (nextLine rest)) (linesOf (drop (reach tooLong rest) rest))
 unfolding whole
@@ -115,7 +115,7 @@ end-seen k table rest w short h = go (ltb 0 (length rest)) refl h
         (subst (λ (s : List ℕ). answers 0 table (linesOf s) ≡ andThen 0 (onLine 0 table (nextLine s)) (linesOf (drop (reach tooLong s) s))) (sym (nothing rest (ltb-false 0 (length rest) e)))
         (none-seen table []))
 
--- where enough is known of the next line, the answers are its own and then those to what follows it
+-- if enough of the next line is known, the output is that of the line, and then that of the rest
 pub line-seen : (ended : Bool) (k : ℕ) (table rest more : List ℕ) → sure ended k rest ≡ true → (ended ≡ true → more ≡ [])
     → answers k table (linesOf (rest ++ more)) ≡ andThen k (onLine k table (nextLine rest)) (linesOf (drop (taken rest) rest ++ more))
 unfolding sure taken whole
@@ -145,7 +145,7 @@ count-by-goes : (b : Bool) (k : ℕ) (table : List ℕ) (ls : List (List ℕ))
 count-by-goes true k table ls = refl
 count-by-goes false k table ls = refl
 
--- the line that is next for a run, judged
+-- the run's next line, judged
 abbrev nextTold : Held → Told
 nextTold h = onLine (h .lines) (h .table) (nextLine (h .rest))
 
@@ -160,14 +160,14 @@ taken-keeps h more e g =
     ∙ ap (λ (s : List ℕ). h .text ++ s) (sym e)
     ∙ sym (ap (λ b. h .text ++ cond b (answers (h .lines) (h .table) (linesOf (h .rest ++ more))) []) g)
 
--- a test of three parts, parted
+-- a test of three parts, taken apart
 both3 : (a b c : Bool) → a && (b && c) ≡ true → (a ≡ true) × (b ≡ true) × (c ≡ true)
 both3 true true true h = (refl, refl, refl)
 both3 true true false h = absurd (false≢true h)
 both3 true false c h = absurd (false≢true h)
 both3 false b c h = absurd (false≢true h)
 
--- a run that is ready: it goes on, there is room, and enough is known of the next line
+-- a line can be taken: the run goes on, there is room, and enough of the line is known
 pub record Ready (ended : Bool) (space : ℕ) (h : Held) : Type 0 where
   pub goes-on : h .going ≡ true
   pub has-room : leb (length (h .text) + room) space ≡ true
@@ -187,7 +187,7 @@ pub bite-stuck : (ended : Bool) (space : ℕ) (h : Held) → ready ended space h
 unfolding bite
 bite-stuck ended space h e = ap (λ b. cond b (afterLine h (nextTold h)) h) e
 
--- a bite changes nothing of what is written in all
+-- a bite does not change the whole output
 pub bite-keeps : (ended : Bool) (space : ℕ) (h : Held) (more : List ℕ) → (ended ≡ true → more ≡ []) → total (bite ended space h) more ≡ total h more
 bite-keeps ended space h more f = go (ready ended space h) refl
   where
@@ -206,11 +206,11 @@ pub eaten-keeps : (ended : Bool) (space : ℕ) (h : Held) (more : List ℕ) → 
 unfolding eaten
 eaten-keeps ended space h more f = times-keeps (suc (length (h .rest))) ended space h more f
 
--- what a run has left to do: the bytes that it holds, and its end
+-- what a run has left to do: the bytes it holds, and its end
 unfoldable pub size : Held → ℕ
 size h = length (h .rest) + cond (h .going) 1 0
 
--- a run that goes on behind a line that is not its CR LF's has taken a byte
+-- an empty line 1 ends the run, and so does a line that is too long
 no-lines-ends : (table : List ℕ) → onLine 0 table [] .goes ≡ false
 unfolding onLine header
 no-lines-ends table = refl
@@ -224,7 +224,7 @@ two-bytes [] h = absurd (false≢true h)
 two-bytes (x ∷ []) h = absurd (false≢true h)
 two-bytes (x ∷ y ∷ s) h = omega arith
 
--- no more is taken than is there
+-- no more bytes are taken than there are
 pub taken-within : (rest : List ℕ) → taken rest ≤ length rest
 unfolding taken whole
 taken-within rest = go (whole rest) refl
@@ -233,7 +233,7 @@ taken-within rest = go (whole rest) refl
     go true e = omega (arith, subst (λ n. 2 ≤ n) (length-drop (reach tooLong rest) rest) (two-bytes (drop (reach tooLong rest) rest) e))
     go false e = omega (arith, reach-within tooLong rest)
 
--- where the run goes on behind the next line, that line took a byte
+-- if the run goes on after a line, the line took at least one byte
 goes-takes : (ended : Bool) (k : ℕ) (table rest : List ℕ) → sure ended k rest ≡ true → onLine k table (nextLine rest) .goes ≡ true
     → length (drop (taken rest) rest) < length rest
 unfolding sure taken whole
@@ -275,7 +275,7 @@ times-stuck : (n : ℕ) (ended : Bool) (space : ℕ) (h : Held) → ready ended 
 times-stuck zero ended space h e = refl
 times-stuck (suc n) ended space h e = ap (times n (bite ended space)) (bite-stuck ended space h e) ∙ times-stuck n ended space h e
 
--- after as many bites as there is left to do, more change nothing
+-- after as many bites as the run has left to do, further bites change nothing
 enough : (n m : ℕ) (ended : Bool) (space : ℕ) (h : Held) (b : Bool) → ready ended space h ≡ b → size h ≤ n → size h ≤ m
     → times n (bite ended space) h ≡ times m (bite ended space) h
 enough zero m ended space h true e p q = absurd (omega (arith, bite-less ended space h e))
@@ -295,7 +295,7 @@ size-most h = go (h .going)
     go true = omega arith
     go false = omega arith
 
--- a bite first makes no difference to what is eaten
+-- a bite before eating makes no difference
 pub eaten-bite : (ended : Bool) (space : ℕ) (h : Held) → eaten ended space h ≡ eaten ended space (bite ended space h)
 unfolding eaten
 eaten-bite ended space h = go (ready ended space h) refl
@@ -332,7 +332,7 @@ pub eaten-not-more : (ended : Bool) (space : ℕ) (h : Held) → size (eaten end
 unfolding eaten
 eaten-not-more ended space h = times-not-more (suc (length (h .rest))) ended space h
 
--- where a run is ready, eating leaves less to do
+-- eating leaves less to do, if a line is ready
 pub eaten-less : (ended : Bool) (space : ℕ) (h : Held) → ready ended space h ≡ true → size (eaten ended space h) < size h
 unfolding eaten
 eaten-less ended space h e = omega (arith, times-not-more (length (h .rest)) ended space (bite ended space h), bite-less ended space h e)
@@ -345,12 +345,12 @@ stuck-after (suc n) ended space h true e p =
     stuck-after n ended space h′ (ready ended space h′) refl (omega (arith, p, bite-less ended space h e))
 stuck-after (suc n) ended space h false e p = ap (ready ended space) (times-stuck (suc n) ended space h e) ∙ e
 
--- what is eaten stops only where the run is not ready
+-- eating stops only if no line is ready
 pub eaten-stops : (ended : Bool) (space : ℕ) (h : Held) → ready ended space (eaten ended space h) ≡ false
 unfolding eaten
 eaten-stops ended space h = stuck-after (suc (length (h .rest))) ended space h (ready ended space h) refl (size-most h)
 
--- a part is what is left of a whole behind some bytes
+-- `part` is a suffix of `all`
 pub record Rest (all part : List ℕ) : Type 0 where
   pub cut : ℕ
   pub inside : cut ≤ length all
@@ -382,7 +382,7 @@ pub eaten-rest : (ended : Bool) (space : ℕ) (h : Held) → Rest (h .rest) (eat
 unfolding eaten
 eaten-rest ended space h = times-rest (suc (length (h .rest))) ended space h
 
--- so many bytes were taken as there is less left
+-- a suffix is what is left after dropping the difference of the lengths
 pub taken-off : {all part : List ℕ} → Rest all part → drop (length all - length part) all ≡ part
 taken-off {all} {part} r = ap (λ n. drop n all) counted ∙ sym (r .so)
   where

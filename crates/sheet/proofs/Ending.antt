@@ -1,4 +1,4 @@
--- Every input has turns to the end, where a piece holds enough and the buffer has room for a line: each turn leaves less to do.
+-- Every input has turns to the end, if the piece and the output buffer are large enough: each turn leaves less to do.
 -- Assumes nothing.
 use mathlib.Core.Path.{_≡_, refl, sym, _∙_, ap, ap₂, subst}
 use mathlib.Core.Bool.{Bool, true, false, cond, not, _&&_, _||_, or-false, Bool·not-not, false≢true}
@@ -19,7 +19,7 @@ use Rattle.sheet.specs.Turns.{enough, wanted, isOver, answerWith, Begun,
 use Rattle.sheet.proofs.Bites.{nothing, size, eaten-less, eaten-not-more}
 use Rattle.sheet.proofs.Turns.{in-front, turn-eats, none-left, begun-start}
 
--- tests that say the contrary
+-- opposite tests
 lt-not : (m n : ℕ) → ltb n (m + 1) ≡ not (ltb m n)
 lt-not m n = go (ltb m n) refl
   where
@@ -45,7 +45,7 @@ at-most-one : (b : Bool) → cond b 0 1 ≤ 1
 at-most-one true = omega arith
 at-most-one false = omega arith
 
--- a run that goes on, with the input ended or enough held, has a line to take, or no line was taken yet
+-- if the run goes on, and the input has ended or enough is held, there is a line to take, or none was taken yet
 has-line : (g e long none some-line w : Bool) → not g || (e && (none && some-line)) ≡ false → not e && not long ≡ false
     → g && (true && (w || (long || (e && (not none || not some-line))))) ≡ true
 has-line false e long none some-line w o h = absurd (false≢true (sym o))
@@ -56,7 +56,7 @@ has-line true true false true true false o h = absurd (false≢true (sym o))
 has-line true true false true false false o h = refl
 has-line true true false false some-line false o h = refl
 
--- where the run is not over and no read is wanted, a line is ready
+-- if the run is not over and no read is wanted, a line is ready
 not-idle : (ended : Bool) (h : Held) (space : ℕ) → room ≤ space → isOver (carriedOf ended h) ≡ false → wanted (carriedOf ended h) ≡ false
     → ready ended space (emptied h) ≡ true
 unfolding ready sure
@@ -67,7 +67,7 @@ not-idle ended h space roomy o w =
     ∙ has-line (h .going) ended (ltb tooLong (length (h .rest))) (eqb (length (h .rest)) 0) (ltb 0 (h .lines)) (whole (h .rest)) o
     (sym (ap (λ b. not ended && b) (lt-not tooLong (length (h .rest)))) ∙ w)
 
--- what is left to do: a byte that is to come counts twice, one that is held once, and that the input has not ended once
+-- what is left to do: a byte to come counts two, a held byte one, and an input that has not ended one
 abbrev toDo : Bool → ℕ → ℕ → ℕ
 toDo ended held n = n + n + held + cond ended 0 1
 
@@ -75,7 +75,7 @@ size-read : (h : Held) (s : List ℕ) → size (emptied (withPiece h s)) ≡ siz
 unfolding size
 size-read h s = omega (arith, length-append (h .rest) s)
 
--- a turn leaves less: bytes arrive, or the input is found to have ended, or a line is taken
+-- a turn leaves less to do: bytes arrive, the input is found to have ended, or a line is taken
 module _ (ended : Bool) (h : Held) (space : ℕ) (arrived : List ℕ) (n : ℕ) (roomy : room ≤ space) (o : isOver (carriedOf ended h) ≡ false)
     (none : wanted (carriedOf ended h) ≡ false → arrived ≡ []) where
   now-ended : Bool
@@ -100,7 +100,7 @@ module _ (ended : Bool) (h : Held) (space : ℕ) (arrived : List ℕ) (n : ℕ) 
   by-read false e w =
       omega (arith, not-more, at-most-one now-ended, not-yet ended (and-left (not ended) _ w), pos-of-ne-zero (eqb-false (length arrived) 0 e))
 
-  -- none was
+  -- no read was wanted
   by-line : wanted (carriedOf ended h) ≡ false → toDo now-ended (size after) n < toDo ended (size h) (length arrived + n)
   unfolding now-ended after before
   by-line w =
@@ -118,7 +118,7 @@ module _ (ended : Bool) (h : Held) (space : ℕ) (arrived : List ℕ) (n : ℕ) 
   less true w = by-read (eqb (length arrived) 0) refl w
   less false w = by-line w
 
--- what a read takes where one is wanted, as much as the piece has room for, and what is then still to come
+-- what a read brings, if one is wanted: as much as the piece has room for
 abbrev taken : Bool → ℕ → List ℕ → List ℕ
 taken w n input = cond w (take n input) []
 
@@ -133,17 +133,17 @@ none-taken : (w : Bool) (n : ℕ) (input : List ℕ) → w ≡ false → taken w
 none-taken true n input e = absurd (false≢true (sym e))
 none-taken false n input e = refl
 
--- where there is room for a byte, none is taken only where none is to come
+-- if there is room for a byte, a read brings none only if none is to come
 all-taken : (w : Bool) (n : ℕ) (input : List ℕ) → (w ≡ true → 0 < n) → w ≡ true → taken w n input ≡ [] → stays w n input ≡ []
 all-taken true n input h e k =
     nothing (drop n input) (omega (arith, length-drop n input, length-take n input, ap length k, h refl))
 all-taken false n input h e k = absurd (false≢true e)
 
--- a buffer that something is put in front of is no shorter
+-- a buffer does not get shorter if bytes are put at its front
 no-shorter : (s buffer : List ℕ) → length buffer ≤ length (inFront s buffer)
 no-shorter s buffer = omega (arith, length-append s (drop (length s) buffer), length-drop (length s) buffer)
 
--- The next turn, with as much read as the piece has room for: what arrives, what is then to come, the piece, and what the turn leaves.
+-- The next turn, if as much is read as the piece has room for: what arrives, what is still to come, the piece, and what the turn leaves.
 module _ (ended : Bool) (h : Held) (piece out input : List ℕ) where
   abbrev w : Bool
   w = wanted (carriedOf ended h)
@@ -172,7 +172,7 @@ module _ (ended : Bool) (h : Held) (piece out input : List ℕ) where
   stands : take (length (h .rest) + length arrived) filled ≡ h .rest ++ arrived
   stands = ap (λ m. take m filled) (sym (length-append (h .rest) arrived)) ∙ in-front (h .rest ++ arrived) piece
 
-  -- where a read is wanted, there is a place for a byte
+  -- if a read is wanted, the piece has room for a byte
   has-place : enough ≤ length piece → wanted (carriedOf ended h) ≡ true → 0 < length piece - length (h .rest)
   has-place long e = omega (arith, long, ltb-true (length (h .rest)) enough (and-right (not ended) _ e))
 
@@ -201,7 +201,7 @@ module _ (ended : Bool) (h : Held) (piece out input : List ℕ) where
             (all-taken w free input (has-place long)) (sym (turn-eats ended h arrived filled out stands)) (x .turns);
       })
 
--- turns to the end, with so much left to do at most
+-- turns to the end, for a run with at most n left to do
 turns-on : (n : ℕ) (ended : Bool) (h : Held) (put : ℕ) (piece out input : List ℕ) → take (length (h .rest)) piece ≡ h .rest → enough ≤ length piece
     → room ≤ length out → (ended ≡ true → input ≡ []) → toDo ended (size h) (length input) ≤ n → (b : Bool) → isOver (carriedOf ended h) ≡ b
     → SomeTurns (answerWith (carriedOf ended h) put) piece (h .table) out input
@@ -217,7 +217,7 @@ turns-on (suc n) ended h put piece out input front long roomy f few false o =
     (none-come ended h piece out input f long)
     (omega (arith, few, fewer ended h piece out input roomy o)) (isOver (carriedOf (now ended h piece out input) (h′ ended h piece out input))) refl)
 
--- EVERY INPUT HAS TURNS TO THE END, where a piece holds enough and the buffer has room for a line.
+-- EVERY INPUT HAS TURNS TO THE END, if the piece and the output buffer are large enough.
 pub turns-exist : (piece table out input : List ℕ) → length table ≡ mostPairs → room ≤ length out → enough ≤ length piece
     → SomeTurns (begun table out .answer) piece (begun table out .table) (begun table out .out) input
 turns-exist piece table out input t roomy long =

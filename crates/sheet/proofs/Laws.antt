@@ -1,4 +1,4 @@
--- Laws of a piece that is eaten line by line.
+-- Laws about a piece that is judged line by line.
 -- Assumes nothing.
 use mathlib.Core.Path.{_≡_, refl, sym, _∙_, ap, ap₂, subst}
 use mathlib.Core.Bool.{Bool, true, false, cond, _&&_, _||_, false≢true}
@@ -37,11 +37,11 @@ use Rattle.sheet.specs.Turns as turns
 use Rattle.sheet.specs.Code.{Answers, AnswersOn, Roomy, nextIn, EatLeft, eatLeft, eatLeftOf, ate, movedDown}
 use Rattle.sheet.proofs.Bites.{is-ready, size, eaten-bite, eaten-stuck, bite-ready, bite-less, taken-within, Rest, rest-short, eaten-rest, taken-off}
 
--- a run in the middle of a piece: so many bytes taken, and so many put
+-- a run in the middle of a piece: `taken` bytes are taken, and `put` bytes are put into the output buffer
 abbrev now-held : List ℕ → ℕ → ℕ → ℕ → Bool → List ℕ → List ℕ → Held
 now-held piece taken put lines going table out = record { rest = drop taken piece; lines = lines; table = table; text = take put out; going = going }
 
--- what is left to eat is what was to be eaten
+-- what is still to be eaten is all that was to be eaten
 pub record Eating (ended : Bool) (piece out₀ : List ℕ) (h₀ : Held) (table out : List ℕ) (taken put lines : ℕ) (going : Bool) : Type 0 where
   pub so : eaten ended (length out₀) h₀ ≡ eaten ended (length out₀) (now-held piece taken put lines going table out)
   pub inside : taken ≤ length piece
@@ -57,7 +57,7 @@ eating-start ended piece table out lines going = record { so = refl; inside = om
 length-front : (n : ℕ) (s : List ℕ) → n ≤ length s → length (take n s) ≡ n
 length-front n s h = length-take n s ∙ omega (arith, h)
 
--- the code's own test
+-- the loop's own test is `ready`
 pub ready-test : {ended : Bool} {piece out₀ : List ℕ} {h₀ : Held} {table out : List ℕ} {taken put lines : ℕ} {going : Bool} (b : Bool)
     → Eating ended piece out₀ h₀ table out taken put lines going
     → b ≡ sure ended lines (drop taken piece)
@@ -73,7 +73,7 @@ ready-test {ended} {piece} {out₀} {h₀} {table} {out} {taken} {put} {lines} {
         go true h = sym (le-leb (put + room) (length out) (omega (arith, leb-true room (length out - put) h)))
         go false h = sym (lt-leb (put + room) (length out) (omega (arith, leb-false room (length out - put) h)))
 
--- the run stops where it is not ready
+-- the loop stops if the run is not ready
 pub eating-stop : {ended : Bool} {piece out₀ : List ℕ} {h₀ : Held} {table out : List ℕ} {taken put lines : ℕ} {going : Bool}
     → Eating ended piece out₀ h₀ table out taken put lines going
     → ready ended (length out₀) (now-held piece taken put lines going table out) ≡ false
@@ -88,12 +88,12 @@ eating-stop {ended} {piece} {out₀} {h₀} {table} {out} {taken} {put} {lines} 
         (ap (λ n. take put out ++ drop n out₀) (length-front put out (e .fits)) ∙ ap (λ (s : List ℕ). take put out ++ s) (sym (e .tail)) ∙ take-append-drop put out)
         ∙ ap (λ n. eatLeft (record { taken = taken; put = n; lines = lines; going = going }) table out) (length-front put out (e .fits))
 
--- behind a text that was put stands what stood there
+-- the bytes behind a written text are as they were
 put-tail : (at : ℕ) (out s : List ℕ) → at ≤ length out → drop (at + length s) (take at out ++ s ++ drop (at + length s) out) ≡ drop (at + length s) out
 put-tail at out s h =
     drop-at (take at out ++ s) (drop (at + length s) out) (at + length s) (length-append (take at out) s ∙ ap (λ n. n + length s) (length-front at out h))
 
--- and before it what stood there, and it
+-- the bytes before a written text are as they were, and then comes the text
 put-front : (at : ℕ) (out s : List ℕ) → at ≤ length out → take (at + length s) (take at out ++ s ++ drop (at + length s) out) ≡ take at out ++ s
 put-front at out s h =
     take-at (take at out ++ s) (drop (at + length s) out) (at + length s) (length-append (take at out) s ∙ ap (λ n. n + length s) (length-front at out h))
@@ -109,11 +109,11 @@ held-same {rest} {rest′} {table} {table′} {text} {text′} {lines} {lines′
     ∙ ap (λ (x : List ℕ). record { rest = rest′; lines = lines′; table = table′; text = x; going = going }) d
     ∙ ap (λ (x : Bool). record { rest = rest′; lines = lines′; table = table′; text = text′; going = x }) e
 
--- the event of a line, judged
+-- the event of a parsed line, judged
 abbrev parsedTold : ℕ → List ℕ → ParsedLine → Told
 parsedTold k table e = told (answerLine (k - 1) (finding (e .event) (setIn table (e .pair .0)))) (moved table (record { pair = e .pair .0; bytes = e .event })) true
 
--- a line's judgment keeps the table's length
+-- judging a line keeps the table's length
 table-kept : (k : ℕ) (table line : List ℕ) → length (onLine k table line .table) ≡ length table
 unfolding onLine
 table-kept k table line = go (eqb k 0) (ltb mostLines (k + 1)) (ltb longest (length line))
@@ -133,7 +133,7 @@ table-kept k table line = go (eqb k 0) (ltb mostLines (k + 1)) (ltb longest (len
     go false false true = refl
     go false false false = on-parsed (parsed line) (eqb (parsed line .refusal .0) 0)
 
--- what one more line is made of
+-- the parts of one more line
 pub record OneMore (ended : Bool) (piece out₀ table out : List ℕ) (taken₀ put lines : ℕ) (going : Bool) (next : Next) (r : Answered) (table′ out′ : List ℕ) (lines′ : ℕ) : Type 0 where
   pub is-ready : ready ended (length out₀) (now-held piece taken₀ put lines going table out) ≡ true
   pub is-next : next ≡ nextIn ended lines piece taken₀
@@ -169,7 +169,7 @@ module _ {ended : Bool} {piece out₀ : List ℕ} {h₀ : Held} {table out : Lis
       (sym (ap₂ take (b .at-so) (b .out-so) ∙ put-front put out (t .text) (e .fits)))
       (sym (b .goes-so))
 
-  -- one line more
+  -- one more line
   pub eating-next : Eating ended piece out₀ h₀ table′ out′ (next .next) (r .at) lines′ (r .goes)
   eating-next = record {
     so = e .so ∙ eaten-bite ended (length out₀) (now-held piece taken₀ put lines going table out) ∙ ap (eaten ended (length out₀)) bitten;
@@ -181,7 +181,7 @@ module _ {ended : Bool} {piece out₀ : List ℕ} {h₀ : Held} {table out : Lis
     table-long = ap length (on .table-so) ∙ table-kept lines table (nextLine (drop taken₀ piece)) ∙ e .table-long;
   }
 
-  -- it leaves less to do
+  -- one more line leaves less to do
   pub eating-less : length piece - next .next + cond (r .goes) 1 0 < length piece - taken₀ + cond going 1 0
   unfolding size
   eating-less =
@@ -190,7 +190,7 @@ module _ {ended : Bool} {piece out₀ : List ℕ} {h₀ : Held} {table out : Lis
       (subst (λ x. size x < size (now-held piece taken₀ put lines going table out)) bitten
       (bite-less ended (length out₀) (now-held piece taken₀ put lines going table out) (o .is-ready))))
 
--- the line that starts at a place, by what is found of it
+-- the line that starts at an offset, from what was found
 pub next-seen : (ended : Bool) (lines : ℕ) (piece : List ℕ) (start end next : ℕ) (b : Bool)
     → end ≡ lineEnd piece start → b ≡ crlf (drop end piece) → next ≡ end + cond b 2 0
     → record {
@@ -211,7 +211,7 @@ pub end-within : (piece : List ℕ) (start : ℕ) → start ≤ length piece →
 unfolding lineEnd
 end-within piece start h = omega (arith, h, subst (λ n. reach tooLong (drop start piece) ≤ n) (length-drop start piece) (reach-within tooLong (drop start piece)))
 
--- an answer that says the same of another table
+-- a refusal does the same with any table
 pub refuse-on : {at : ℕ} {out out′ : List ℕ} {r : Answered} (number k : ℕ) (table : List ℕ)
     → Answers (refuse number k []) out at r out′ → AnswersOn (refuse number k table) out at r out′ table
 refuse-on number k table a = record {
@@ -219,7 +219,7 @@ refuse-on number k table a = record {
   table-so = refl;
 }
 
--- the header's line answers nothing
+-- a good header has no output
 pub header-good : (line out : List ℕ) (at : ℕ) → same line header ≡ true → at ≤ length out
     → Answers (onHeader [] line) out at (record { at = at; goes = true }) out
 header-good line out at e h =
@@ -235,7 +235,7 @@ pub header-bad : {out out′ : List ℕ} {at : ℕ} {r : Answered} (line : List 
     → Answers (refuse 6 0 []) out at r out′ → Answers (onHeader [] line) out at r out′
 header-bad {out} {out′} {at} {r} line e a = subst (λ (t : Told). Answers t out at r out′) (sym (ap (λ b. cond b (told [] [] true) (refuse 6 0 [])) e)) a
 
--- the header's line leaves the table as it is
+-- line 1 leaves the table as it is
 header-on : {out out′ : List ℕ} {at : ℕ} {r : Answered} (line table : List ℕ) → Answers (onHeader [] line) out at r out′ → AnswersOn (onHeader table line) out at r out′ table
 header-on {out} {out′} {at} {r} line table a = go (same line header) a
   where
@@ -251,7 +251,7 @@ first-line {out} {out′} {at} {r} k line table e a =
     (sym (ap (λ b. cond b (onHeader table line) (cond (ltb mostLines (k + 1)) (refuse 7 k table) (cond (ltb longest (length line)) (refuse 7 k table) (onParsed k table (parsed line))))) (eq-eqb k 0 e)))
     (header-on line table a)
 
--- a line behind the header, by what the tests found
+-- a line after the header, by the two tests for 7
 later : (k : ℕ) (line table : List ℕ) → (k ≡ 0 → ⊥)
     → onLine k table line ≡ cond (ltb mostLines (k + 1)) (refuse 7 k table) (cond (ltb longest (length line)) (refuse 7 k table) (onParsed k table (parsed line)))
 unfolding onLine
@@ -284,18 +284,18 @@ line-read {out} {out′} {table′} {at} {r} k line table e f h l q a =
     ∙ ap (λ b. cond b (refuse 7 k table) (onParsed k table (parsed line))) (le-ltb longest (length line) l)))
     a
 
--- what is read of a line, by its number
+-- a parsed line, by its refusal number
 pub parsed-refused : {out out′ : List ℕ} {at : ℕ} {r : Answered} (k : ℕ) (table : List ℕ) (e : ParsedLine) → (e .refusal .0 ≡ 0 → ⊥)
     → Answers (refuse (e .refusal .0) k []) out at r out′ → AnswersOn (onParsed k table e) out at r out′ table
 parsed-refused {out} {out′} {at} {r} k table e f a =
     subst (λ (t : Told). AnswersOn t out at r out′ table) (sym (ap (λ b. cond b (parsedTold k table e) (refuse (e .refusal .0) k table)) (ne-eqb (e .refusal .0) 0 f))) (refuse-on (e .refusal .0) k table a)
 
--- what a line does is put where its text is laid
+-- a line's output is written where its text is laid
 put-answers : (t : Told) (out out′ : List ℕ) (at n : ℕ) → laid n out′ ≡ laid (at + length (t .text)) (take at out ++ t .text ++ drop (at + length (t .text)) out)
     → at + length (t .text) ≤ length out → Answers t out at (record { at = n; goes = t .goes }) out′
 put-answers t out out′ at n e h = record { at-so = ap (λ (l : Laid). l .at) e; out-so = ap (λ (l : Laid). l .out) e; fits-so = h; goes-so = refl }
 
--- only a line that is not too many lets the run go on
+-- the run goes on only after a line that is not one too many
 pub goes-few : (k : ℕ) (table line : List ℕ) → onLine k table line .goes ≡ true → k < mostLines
 unfolding onLine
 goes-few k table line g = go (eqb k 0) refl (ltb mostLines (k + 1)) refl g
@@ -338,7 +338,7 @@ answer-put k at n table out out′ table′ e found before pos few roomy zero-is
 pub positive : (n : ℕ) → (n ≡ 0 → ⊥) → 0 < n
 positive n f = pos-of-ne-zero f
 
--- where the next line ends, it lies in the piece
+-- the next line ends within the piece
 pub next-end : (ended : Bool) (lines start : ℕ) (piece : List ℕ) (next : Next) → start ≤ length piece → next ≡ nextIn ended lines piece start
     → (start ≤ next .end) × (next .end ≤ length piece)
 next-end ended lines start piece next h e =
@@ -347,7 +347,7 @@ next-end ended lines start piece next h e =
       omega (arith, f, h, subst (λ n. reach tooLong (drop start piece) ≤ n) (length-drop start piece) (reach-within tooLong (drop start piece))),
     )
 
--- where the run is ready, there is room
+-- if the run is ready, there is room
 pub roomy-here : {ended : Bool} {piece out₀ : List ℕ} {h₀ : Held} {table out : List ℕ} {taken put lines : ℕ} {going : Bool}
     → Eating ended piece out₀ h₀ table out taken put lines going
     → ready ended (length out₀) (now-held piece taken put lines going table out) ≡ true → Roomy out put
@@ -355,7 +355,7 @@ roomy-here {ended} {piece} {out₀} {h₀} {table} {out} {taken} {put} {lines} {
     let m = leb-true (length (take put out) + room) (length out₀) (is-ready ended (length out₀) (now-held piece taken put lines going table out) f .has-room) in
     omega (arith, m, length-front put out (e .fits), e .long)
 
--- the piece eaten, as the contract says it
+-- the piece eaten, as the contract says
 pub eaten-all : {ended : Bool} {piece out₀ : List ℕ} {table₀ table out : List ℕ} {taken put lines₀ lines : ℕ} {going₀ going : Bool}
     → Eating ended piece out₀ (held piece lines₀ table₀ going₀) table out taken put lines going
     → ready ended (length out₀) (now-held piece taken put lines going table out) ≡ false
@@ -363,11 +363,11 @@ pub eaten-all : {ended : Bool} {piece out₀ : List ℕ} {table₀ table out : L
 unfolding ate
 eaten-all e f = eating-stop e f
 
--- only a line that is not too many lets the run go on
+-- the run goes on only after a line that is not one too many
 pub counts-on : {at : ℕ} {out out′ table′ : List ℕ} {r : Answered} (k : ℕ) (table line : List ℕ) → AnswersOn (onLine k table line) out at r out′ table′ → r .goes ≡ true → k < mostLines
 counts-on k table line a g = goes-few k table line (sym (a .answers-so .goes-so) ∙ g)
 
--- a buffer that is written over from its front: so many bytes of a text stand there, and behind them what stood there
+-- a buffer overwritten from the front: `at` bytes of the text, and behind them the buffer as it was
 pub record Pasting (text : List ℕ) (count : ℕ) (buffer₀ buffer : List ℕ) (at : ℕ) : Type 0 where
   pub so : buffer ≡ take at text ++ drop at buffer₀
   pub below : at ≤ count
@@ -401,7 +401,7 @@ module _ {text : List ℕ} {count : ℕ} {buffer₀ buffer : List ℕ} {at : ℕ
 pub part-long : (piece : List ℕ) (start count : ℕ) → start + count ≤ length piece → count ≤ length (drop start piece)
 part-long piece start count h = subst (λ n. count ≤ n) (sym (length-drop start piece)) (omega (arith, h))
 
--- a byte that is not moved yet stands where it stood
+-- a byte that is not moved yet is where it was
 pub still : {piece₀ piece : List ℕ} {count at : ℕ} (start : ℕ) → start + count ≤ length piece₀ → Pasting (drop start piece₀) count piece₀ piece at
     → getD piece (start + at) 0 ≡ getD (drop start piece₀) at 0
 still {piece₀} {piece} {count} {at} start h p =
@@ -411,7 +411,7 @@ still {piece₀} {piece} {count} {at} start h p =
     (drop-at (take at (drop start piece₀)) (drop at piece₀) at (length-front at (drop start piece₀) (part-long piece₀ start at (omega (arith, h, p .below)))))
     ∙ getD-drop at piece₀ start 0 ∙ ap (λ n. getD piece₀ n 0) (add-comm at start) ∙ sym (getD-drop start piece₀ at 0)
 
--- a table with every pair's set put
+-- a table in which every pair's set is written
 pub filled : (table : List ℕ) → take (length table) (replicate (length table) allStates) ++ drop (length table) table ≡ replicate (length table) allStates
 filled table =
     ap₂ (λ (a b : List ℕ). a ++ b)
@@ -419,7 +419,7 @@ filled table =
     (drop-length table)
     ∙ append-nil (replicate (length table) allStates)
 
--- a run begun, as the contract says it
+-- a run begun, as the contract says
 pub begun-is : (table out : List ℕ) {table′ out′ : List ℕ} {put : ℕ} {r : Turned} → table′ ≡ replicate (length table) allStates → laid put out′ ≡ lay (laid 0 out) headerLine
     → r ≡ answerWith nothingYet put → begunWith r table′ out′ ≡ begun table out
 unfolding begun
@@ -427,7 +427,7 @@ begun-is table out {table′} {out′} {put} {r} filled-so l a =
     ap₂ (λ (x : Turned) (y : List ℕ). begunWith x y out′) (a ∙ ap (λ (k : Laid). answerWith nothingYet (k .at)) l) filled-so
     ∙ ap (λ (k : Laid). begunWith (answerWith nothingYet (lay (laid 0 out) headerLine .at)) (replicate (length table) allStates) (k .out)) l
 
--- as many bytes as the piece has are all of it
+-- no more bytes are held than the piece has
 all-held : (n : ℕ) (piece : List ℕ) → take (min n (length piece)) piece ≡ take n piece
 all-held n piece = go (leb n (length piece)) refl
   where
@@ -444,7 +444,7 @@ part-of : (piece : List ℕ) (start count : ℕ) → start + count ≤ length pi
 part-of piece start count h =
     ap (drop start) (take-add start count piece) ∙ drop-at (take start piece) (take count (drop start piece)) start (length-front start piece (omega (arith, h)))
 
--- the rest of what is held, moved to the front
+-- the rest of the held bytes, moved to the front
 rest-moved : (piece rest : List ℕ) (n : ℕ) → n ≤ length piece → Rest (take n piece) rest
     → movedDown piece (n - length rest) (n - (n - length rest)) ≡ inFront rest piece
 rest-moved piece rest n h r =
@@ -462,13 +462,13 @@ rest-moved piece rest n h r =
     back : n - length rest + length rest ≡ n
     back = omega (arith, short)
 
--- no more is taken than the piece has
+-- no more bytes are taken than the piece has
 pub ate-most : {table′ out′ : List ℕ} {r : Eaten} (ended : Bool) (piece : List ℕ) (lines : ℕ) (going : Bool) (table out : List ℕ)
     → eatLeft r table′ out′ ≡ ate ended piece lines going table out → r .taken ≤ length piece
 unfolding ate
 ate-most ended piece lines going table out e = subst (λ n. n ≤ length piece) (sym (ap (λ (x : EatLeft). x .answer .taken) e)) (omega arith)
 
--- a turn, as the contract says it
+-- a turn, as the contract says
 module _ (c : Carried) (got : ℕ) (piece table out : List ℕ) {table′ out′ : List ℕ} {b : Bool} {n : ℕ} {e : Eaten}
     (is-wanted : b ≡ wanted c) (is-held : n ≡ min (c .held + got) (length piece))
     (is-eaten : eatLeft e table′ out′ ≡ ate (c .ended || (b && eqb got 0)) (take n piece) (c .lines) (c .going) table out) where
@@ -526,7 +526,7 @@ unfolding turned
 turned-within c got piece table out e =
     left-within (endedBy c got) piece out (eaten (endedBy c got) (length out) (held (take (c .held + got) piece) (c .lines) table (c .going))) e
 
--- the same where a run begins, and the buffer has room for a line
+-- the same after `begin`, if the buffer has room for a line
 pub begun-within : (table out : List ℕ) {r : Turned} {table′ out′ : List ℕ} → room ≤ length out → begunWith r table′ out′ ≡ begun table out
     → (r .carried .held ≡ 0) × (r .put ≤ length out′)
 unfolding begun headerLine

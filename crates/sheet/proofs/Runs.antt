@@ -1,4 +1,4 @@
--- However the input is cut into pieces, and whatever the buffer's size, a run writes the sheet.
+-- However the input is cut into pieces, and whatever the size of the buffer, a run writes the sheet's output (definition 8.9).
 -- Assumes nothing.
 use mathlib.Core.Path.{_≡_, refl, sym, _∙_, ap, subst}
 use mathlib.Core.Bool.{Bool, true, false, cond, _&&_, _||_, false≢true}
@@ -37,13 +37,13 @@ all-taken h e k =
     ∙ ap (λ b. cond (h .going) (cond b (refusedLine 6 1) []) []) (ne-eqb (h .lines) 0 (λ z. omega (arith, k, z)))
     ∙ either (h .going) [])
 
--- an eaten piece: what was put, and then what is still to come
+-- after eating: the output so far, and then what is still to come
 eaten-come : (ended : Bool) (space : ℕ) (h : Held) (more : List ℕ) → (ended ≡ true → more ≡ [])
     → eaten ended space (emptied h) .text ++ toCome (eaten ended space (emptied h)) more ≡ toCome h more
 unfolding total toCome
 eaten-come ended space h more f = eaten-keeps ended space (emptied h) more f
 
--- WHAT A RUN WRITES: all that is to come of what is held and of the input.
+-- WHAT A RUN WRITES: all output still to come, for what is held and for the input.
 pub run-writes : {h : Held} {input out : List ℕ} → Run h input out → out ≡ toCome h input
 run-writes (reads {h = h} {input = input} piece r) = run-writes r ∙ piece-read h piece input
 run-writes (eats {h = h} {input = input} space r) =
@@ -53,16 +53,16 @@ run-writes (ends {h = h} space r) =
 run-writes (refused {h = h} {input = input} e) = none-come h input e
 run-writes (done {h = h} e k) = all-taken h e k
 
--- THE SHEET, HOWEVER IT IS CUT: behind the header's line, every run of an input writes the sheet's output for it.
+-- THE SHEET, HOWEVER IT IS CUT (definition 8.9): after the output's header, every run writes the sheet's output for its input.
 pub run-is-sheet : {input out : List ℕ} → Run start input out → headerLine ++ out ≡ sheetOut input
 unfolding toCome
 run-is-sheet r = ap (λ (s : List ℕ). headerLine ++ s) (run-writes r)
 
--- two runs of one input write the same
+-- two runs on the same input write the same output
 pub runs-agree : {input out out′ : List ℕ} → Run start input out → Run start input out′ → out ≡ out′
 runs-agree r r′ = run-writes r ∙ sym (run-writes r′)
 
--- where the input has ended, a buffer with room for one answer is enough, and what is held is not ready only behind a refusal or the last line
+-- after the end of the input, room for one line is enough: a run that is not ready was refused, or has taken its last line
 not-ready : (h : Held) → ready true room (emptied h) ≡ false → SomeRun h []
 unfolding ready sure
 not-ready h e = go (h .going) refl (whole (h .rest)) (ltb tooLong (length (h .rest))) (ltb 0 (length (h .rest))) refl (eqb (h .lines) 0) refl e
@@ -89,7 +89,7 @@ finish (suc n) h true e p =
     let r = finish n h′ (ready true room (emptied h′)) refl (omega (arith, p, eaten-less true room (emptied h) e)) in
     record { out = h′ .text ++ r .out; run = ends room (r .run) }
 
--- EVERY INPUT HAS A RUN: read at once, and eaten to its end.
+-- EVERY INPUT HAS A RUN: read everything at once, and eat it to its end.
 pub run-exists : (input : List ℕ) → SomeRun start input
 run-exists input =
     let h = withPiece start input in

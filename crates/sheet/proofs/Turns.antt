@@ -1,4 +1,4 @@
--- The turns of the program are a run, so whatever the input and however it is cut, the program writes the sheet.
+-- The turns of the program are a run, so the program writes the sheet's output, for any input and however it is cut (definition 8.9).
 -- Assumes nothing.
 use mathlib.Core.Path.{_≡_, refl, sym, _∙_, ap, ap₂, subst}
 use mathlib.Core.Bool.{Bool, true, false, not, _&&_, _||_, false≢true}
@@ -25,11 +25,11 @@ use Rattle.sheet.specs.Turns.{wanted, isOver, answerWith, Begun, begunWi
 use Rattle.sheet.proofs.Bites.{nothing, eaten-stops}
 use Rattle.sheet.proofs.Runs.{run-is-sheet}
 
--- what is put in front of a buffer is found there
+-- bytes put at the front of a buffer stand there
 pub in-front : (s buffer : List ℕ) → take (length s) (inFront s buffer) ≡ s
 in-front s buffer = take-at s (drop (length s) buffer) (length s) refl
 
--- ONE TURN by what is held before it: the bytes that arrived are read, and all that is held is eaten into the buffer.
+-- ONE TURN: the bytes that arrived are read, and everything held is eaten into the buffer.
 pub turn-eats : (ended : Bool) (h : Held) (arrived piece out : List ℕ) → take (length (h .rest) + length arrived) piece ≡ h .rest ++ arrived
     → let now-ended = endedBy (carriedOf ended h) (length arrived) in
     turned (carriedOf ended h) (length arrived) piece (h .table) out ≡ turnLeftBy now-ended piece out (eaten now-ended (length out) (emptied (withPiece h arrived)))
@@ -38,7 +38,7 @@ turn-eats ended h arrived piece out e =
     let now-ended = endedBy (carriedOf ended h) (length arrived) in
     ap (λ (s : List ℕ). turnLeftBy now-ended piece out (eaten now-ended (length out) (held s (h .lines) (h .table) (h .going)))) e
 
--- ONE TURN IS ONE STEP OF A RUN: a run goes on from what the turn leaves as it does from what was held before it.
+-- ONE TURN IS ONE STEP OF A RUN: a run continues from what the turn leaves.
 pub turn-runs : {h : Held} {input out : List ℕ} (ended : Bool) (space : ℕ) (arrived : List ℕ) → (ended ≡ true → input ≡ [])
     → Run (eaten ended space (emptied (withPiece h arrived))) input out
     → Run h (arrived ++ input) (eaten ended space (emptied (withPiece h arrived)) .text ++ out)
@@ -51,7 +51,7 @@ turn-runs {h} {input} {out} ended space arrived f r = reads arrived (go ended f 
         subst (λ (s : List ℕ). Run (withPiece h arrived) s (eaten true space (emptied (withPiece h arrived)) .text ++ out)) (sym (g refl))
         (ends space (subst (λ (s : List ℕ). Run (eaten true space (emptied (withPiece h arrived))) s out) (g refl) x))
 
--- IT GOES AS FAR AS IT CAN: behind a turn a refusal has ended the run, or the buffer has no room for a line, or too little is known of the next.
+-- A TURN GOES AS FAR AS IT CAN: then a refusal has ended the run, the buffer has no room for a line, or too little of the next is known.
 pub turn-stops : (c : Carried) (got : ℕ) (piece table out : List ℕ)
     → let r = turned c got piece table out in
     let next = r .answer .carried in
@@ -62,7 +62,7 @@ turn-stops c got piece table out =
     ap (λ (s : List ℕ). h .going && (leb (length (h .text) + room) (length out) && sure (endedBy c got) (h .lines) s)) (in-front (h .rest) piece)
     ∙ eaten-stops (endedBy c got) (length out) (held (take (c .held + got) piece) (c .lines) table (c .going))
 
--- where the run is over, nothing is to come
+-- if the run is over, nothing is still to come
 over-runs : (ended : Bool) (h : Held) (input : List ℕ) → (ended ≡ true → input ≡ []) → isOver (carriedOf ended h) ≡ true → Run h input []
 over-runs ended h input f e = go (h .going) refl e
   where
@@ -74,7 +74,7 @@ over-runs ended h input f e = go (h .going) refl e
         (done (nothing (h .rest) (le-of-eq (eqb-true (length (h .rest)) 0 (and-left _ (ltb 0 (h .lines)) none))))
         (ltb-true 0 (h .lines) (and-right (eqb (length (h .rest)) 0) _ none)))
 
--- no input is left behind a turn that finds its end
+-- if a turn finds the end of the input, no input is left
 pub none-left : (ended : Bool) (h : Held) (arrived input : List ℕ) → (ended ≡ true → arrived ++ input ≡ [])
     → (wanted (carriedOf ended h) ≡ true → arrived ≡ [] → input ≡ []) → endedBy (carriedOf ended h) (length arrived) ≡ true → input ≡ []
 none-left ended h arrived input f g e = go ended refl e
@@ -85,13 +85,13 @@ none-left ended h arrived input f g e = go ended refl e
         g (and-left _ (eqb (length arrived) 0) k)
         (nothing arrived (le-of-eq (eqb-true (length arrived) 0 (and-right (wanted (carriedOf ended h)) _ k))))
 
--- what the last call put, and then what a run writes
+-- what the last call wrote, and then what a run writes
 record Then (put : List ℕ) (h : Held) (input written : List ℕ) : Type 0 where
   out : List ℕ
   so : written ≡ put ++ out
   run : Run h input out
 
--- one turn more
+-- one more turn
 one-more : {input written text : List ℕ} (put : List ℕ) (h : Held) (ended : Bool) (space : ℕ) (arrived : List ℕ) → (ended ≡ true → input ≡ [])
     → text ≡ eaten ended space (emptied (withPiece h arrived)) .text → Then text (eaten ended space (emptied (withPiece h arrived))) input written
     → Then put h (arrived ++ input) (put ++ written)
@@ -124,14 +124,14 @@ turns-run (more {a = a} {piece = piece} {table = table} {out = out} {input = inp
     (turns-run others now-ended h′ (length (h′ .text)) (ap (λ (x : TurnLeft). x .answer) is-left)
     (ap (λ (x : TurnLeft). take (length (h′ .rest)) (x .piece)) is-left ∙ in-front (h′ .rest) piece′) (ap (λ (x : TurnLeft). x .table) is-left) no-input)
 
--- with room for a line and a table of as many pairs as a sheet has, the program begins with the header's line and the start of a run
+-- with room for a line and 4,096 pairs in the table, the program begins with the output's header and the start of a run
 pub begun-start : (table out : List ℕ) → length table ≡ mostPairs → room ≤ length out
     → begun table out ≡ begunWith (answerWith (carriedOf false start) (length headerLine)) startTable (inFront headerLine out)
 unfolding begun startTable headerLine
 begun-start table out long roomy =
     ap₂ (λ (n : ℕ) (l : Laid). begunWith (answerWith (carriedOf false start) (l .at)) (replicate n allStates) (l .out)) long (header-laid 0 out (omega (arith, roomy)))
 
--- THE PROGRAM WRITES THE SHEET: from what `begin` leaves, with any input, however it arrives, turns to the end write the sheet's whole output.
+-- THE PROGRAM WRITES THE SHEET (definition 8): after `begin`, turns to the end write the whole output, however the input arrives.
 pub turns-write : (piece table out : List ℕ) {input written : List ℕ} → length table ≡ mostPairs → room ≤ length out
     → Turns (begun table out .answer) piece (begun table out .table) (begun table out .out) input written → written ≡ sheetOut input
 turns-write piece table out {input} {written} long roomy t =

@@ -1,4 +1,4 @@
--- What the code's own parts answer. Nobody has to believe this file: the claims above it don't name it.
+-- What private functions compute. No public claim names this file.
 use Prim.Native.Nat.{ℕ, _+_, _-_, _≤_}
 use mathlib.Core.Path.{_≡_}
 use mathlib.Core.Bool.{Bool}
@@ -12,23 +12,23 @@ use Rattle.sheet.specs.Sheet.{Told}
 use Rattle.replies.specs.Replies.{room}
 use Rattle.sheet.specs.Pieces.{Held, held, eaten, taken, sure}
 
--- what a line does, put into the buffer: the text at the place, and every other byte as it was
+-- the output of a line is in the buffer at the offset, and every other byte is as it was
 pub record Answers (t : Told) (out : List ℕ) (at : ℕ) (r : Answered) (out′ : List ℕ) : Type 0 where
   pub at-so : r .at ≡ at + length (t .text)
   pub out-so : out′ ≡ take at out ++ t .text ++ drop (at + length (t .text)) out
   pub fits-so : at + length (t .text) ≤ length out
   pub goes-so : r .goes ≡ t .goes
 
--- the same, with what it does to the table of sets
+-- the same, with the table of sets after the line
 pub record AnswersOn (t : Told) (out : List ℕ) (at : ℕ) (r : Answered) (out′ table′ : List ℕ) : Type 0 where
   pub answers-so : Answers t out at r out′
   pub table-so : table′ ≡ t .table
 
--- there is room for an answer
+-- there is room for the output of a line
 abbrev pub Roomy : List ℕ → ℕ → Type 0
 Roomy out at = at + room ≤ length out
 
--- the line that starts at a place of a piece: whether enough is known of it, where it ends, and where the next one starts
+-- the line that starts at an offset of a piece: whether enough of it is known, where it ends, and where the next one starts
 abbrev pub nextIn : Bool → ℕ → List ℕ → ℕ → Next
 nextIn ended lines piece start = record {
   sure = sure ended lines (drop start piece);
@@ -36,7 +36,7 @@ nextIn ended lines piece start = record {
   next = start + taken (drop start piece);
 }
 
--- the answer to a piece that is eaten, and the two buffers that may be written, as they are left
+-- what `eat` leaves: its result, and the two buffers that it may write
 pub record EatLeft : Type 0 where
   pub answer : Eaten
   pub table : List ℕ
@@ -45,16 +45,16 @@ pub record EatLeft : Type 0 where
 abbrev pub eatLeft : Eaten → List ℕ → List ℕ → EatLeft
 eatLeft answer table out = record { answer = answer; table = table; out = out }
 
--- what is left of a piece and of the buffer: the text at its start, and what stood behind it
+-- what `eat` leaves if it ends with this run
 abbrev pub eatLeftOf : List ℕ → List ℕ → Held → EatLeft
 eatLeftOf piece out h =
     eatLeft (record { taken = length piece - length (h .rest); put = length (h .text); lines = h .lines; going = h .going }) (h .table)
     (h .text ++ drop (length (h .text)) out)
 
--- the whole answer to a piece
+-- the whole answer of `eat`
 unfoldable pub ate : Bool → List ℕ → ℕ → Bool → List ℕ → List ℕ → EatLeft
 ate ended piece lines going table out = eatLeftOf piece out (eaten ended (length out) (held piece lines table going))
 
--- so many bytes from a place on stand at the front, and behind them what stood there
+-- `count` bytes from an offset, moved to the front of the piece
 abbrev pub movedDown : List ℕ → ℕ → ℕ → List ℕ
 movedDown piece start count = take count (drop start piece) ++ drop count piece

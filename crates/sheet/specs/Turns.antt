@@ -1,4 +1,4 @@
--- A run of the program, turn by turn: what `begin` and `turn` answer and leave, for whatever is lent, and what the program writes by them.
+-- A run turn by turn: what `begin` and `turn` leave, whatever is lent, and what the program writes with them (definition 8.9).
 use Prim.Native.Nat.{ℕ, _+_}
 use mathlib.Core.Path.{_≡_}
 use mathlib.Core.Bool.{Bool, true, false, not, _&&_, _||_}
@@ -13,7 +13,7 @@ use Rattle.sheet.specs.declared.Carried.{Carried}
 use Rattle.sheet.specs.declared.Turned.{Turned}
 use Rattle.sheet.specs.Pieces.{Held, held, eaten}
 
--- with this many bytes held, something is known of the next line whatever follows
+-- with this many bytes held, the next line can be judged, whatever follows
 abbrev pub enough : ℕ
 enough = tooLong + 1
 
@@ -21,15 +21,15 @@ enough = tooLong + 1
 abbrev pub wanted : Carried → Bool
 wanted c = not (c .ended) && ltb (c .held) enough
 
--- the run is over: a refusal has ended it, or the input has ended, nothing is held, and a line was taken
+-- the run is over: a refusal ended it, or the input has ended, nothing is held, and at least one line was taken
 abbrev pub isOver : Carried → Bool
 isOver c = not (c .going) || (c .ended && (eqb (c .held) 0 && ltb 0 (c .lines)))
 
--- the answer by which this is carried on, and so many bytes are to be written
+-- the result of a turn that keeps c and has put `put` bytes into the output buffer
 abbrev pub answerWith : Carried → ℕ → Turned
 answerWith c put = record { carried = c; put = put; wants = wanted c; over = isOver c }
 
--- what `begin` leaves: its answer, and the two buffers that are lent
+-- what `begin` leaves: its result, and the two lent buffers
 pub record Begun : Type 0 where
   pub answer : Turned
   pub table : List ℕ
@@ -42,12 +42,12 @@ begunWith answer table out = record { answer = answer; table = table; out = out 
 abbrev pub nothingYet : Carried
 nothingYet = record { held = 0; lines = 0; going = true; ended = false }
 
--- THE WHOLE ANSWER OF `begin`: every pair has the set of all seven states, and the header's line is put
+-- THE WHOLE ANSWER OF `begin`: every pair has the set of all seven states, and the output's header is written
 unfoldable pub begun : List ℕ → List ℕ → Begun
 begun table out =
     begunWith (answerWith nothingYet (lay (laid 0 out) headerLine .at)) (replicate (length table) allStates) (lay (laid 0 out) headerLine .out)
 
--- what `turn` leaves: its answer, and the three buffers that are lent
+-- what `turn` leaves: its result, and the three lent buffers
 pub record TurnLeft : Type 0 where
   pub answer : Turned
   pub piece : List ℕ
@@ -57,33 +57,33 @@ pub record TurnLeft : Type 0 where
 abbrev pub turnLeft : Turned → List ℕ → List ℕ → List ℕ → TurnLeft
 turnLeft answer piece table out = record { answer = answer; piece = piece; table = table; out = out }
 
--- bytes at the front of a buffer, and behind them what stood there
+-- some bytes at the front of a buffer, with the rest of the buffer unchanged
 abbrev pub inFront : List ℕ → List ℕ → List ℕ
 inFront s buffer = s ++ drop (length s) buffer
 
--- the input has ended: it had before, or a read was wanted and brought nothing
+-- the input has ended: it had ended before, or a read was wanted and brought nothing
 abbrev pub endedBy : Carried → ℕ → Bool
 endedBy c got = c .ended || (wanted c && eqb got 0)
 
--- what is carried on of a run
+-- what is kept of a run between two turns
 abbrev pub carriedOf : Bool → Held → Carried
 carriedOf ended h = record { held = length (h .rest); lines = h .lines; going = h .going; ended = ended }
 
--- what is left where these bytes are held and this text is put
+-- what a turn leaves if it ends with this run
 abbrev pub turnLeftBy : Bool → List ℕ → List ℕ → Held → TurnLeft
 turnLeftBy ended piece out h = turnLeft (answerWith (carriedOf ended h) (length (h .text))) (inFront (h .rest) piece) (h .table) (inFront (h .text) out)
 
--- THE WHOLE ANSWER OF `turn`, where so many bytes more stand in the piece behind those that are held: all of them are eaten into the buffer
+-- THE WHOLE ANSWER OF `turn`, after `got` bytes arrived behind those held: all held lines are judged, as far as they are known and fit
 unfoldable pub turned : Carried → ℕ → List ℕ → List ℕ → List ℕ → TurnLeft
 turned c got piece table out =
     turnLeftBy (endedBy c got) piece out (eaten (endedBy c got) (length out) (held (take (c .held + got) piece) (c .lines) table (c .going)))
 
--- `Turns a piece table out input written`: behind a call that answered a and left these buffers, with this input to come, the program writes this
+-- `Turns a piece table out input written`: after a call with result a that left these buffers, the program writes `written` for this input
 pub data Turns : Turned → List ℕ → List ℕ → List ℕ → List ℕ → List ℕ → Type 0 where
-  -- the run is over: what was put is written
+  -- the run is over: the output buffer is written, and nothing more
   last : {a : Turned} {piece table out input : List ℕ} → a .over ≡ true → Turns a piece table out input (take (a .put) out)
-  -- it is not: what was put is written, bytes arrive behind those that are held, and `turn` is called. None arrive where no read is wanted;
-  -- where one is, none arrive only at the end of the input
+  -- the run is not over: the output buffer is written, bytes arrive behind those held, and `turn` is called; bytes arrive only if a read is
+  -- wanted, and a wanted read brings none only at the end of the input
   more : {a : Turned} {piece table out input written : List ℕ} (arrived piece′ : List ℕ) (r : TurnLeft) → a .over ≡ false
       → take (a .carried .held + length arrived) piece′ ≡ take (a .carried .held) piece ++ arrived
       → (a .wants ≡ false → arrived ≡ [])
@@ -92,7 +92,7 @@ pub data Turns : Turned → List ℕ → List ℕ → List ℕ → List ℕ → 
       → Turns (r .answer) (r .piece) (r .table) (r .out) input written
       → Turns a piece table out (arrived ++ input) (take (a .put) out ++ written)
 
--- behind such a call, with this input to come, something is written: there are turns to the end
+-- after such a call, with this input to come, there are turns to the end of the run
 pub record SomeTurns (a : Turned) (piece table out input : List ℕ) : Type 0 where
   pub written : List ℕ
   pub turns : Turns a piece table out input written

@@ -1,4 +1,4 @@
-// The bench sheet judged as it arrives, piece by piece.
+// The bench sheet judged as it arrives, piece by piece (definition 8).
 use kinds::ALL_STATES;
 use kinds::EventNumber;
 use kinds::Refusal;
@@ -16,14 +16,14 @@ ghost use Rattle.sheet.specs.Sheet.{refuse, onHeader, onParsed, onLine, 
 ghost use Rattle.sheet.specs.Turns.{wanted, answerWith, begunWith, begun, turnLeft, turned};
 ghost use Rattle.sheet.specs.Code.{Answers, AnswersOn, Roomy, nextIn, eatLeft, ate, movedDown};
 
-// With this many bytes held, something is known of the next line whatever follows.
+// With this many bytes held, the next line can be judged, whatever follows.
 const ENOUGH: usize = TOO_LONG + 1;
 
-// A sheet has at most this many lines.
+// The most lines of a sheet (definition 8.7).
 const MOST_LINES: u64 = 1_000_001;
 
-// What a run carries from turn to turn: how many bytes are held at the front of the piece, how many lines were taken so far, whether the
-// run goes on, and whether the input has ended.
+// What a run keeps between two turns: the number of bytes held at the front of the piece, the number of lines taken so far, whether
+// the run goes on, and whether the input has ended.
 pub struct Carried {
     pub held: usize,
     pub lines: u32,
@@ -31,8 +31,8 @@ pub struct Carried {
     pub ended: bool,
 }
 
-// A turn's answer: what is carried on, how many bytes of the buffer are to be written now, whether a read is wanted before the next turn,
-// and whether the run is over.
+// The result of a turn: what is kept, how many bytes of the output buffer to write now, whether to read before the next turn, and
+// whether the run is over.
 pub struct Turned {
     pub carried: Carried,
     pub put: usize,
@@ -40,8 +40,8 @@ pub struct Turned {
     pub over: bool,
 }
 
-// What was done with a piece: how many of its bytes were taken, how many were put, how many lines were taken so far, and whether the run
-// goes on.
+// What was done with a piece: how many of its bytes are taken, how many bytes are put into the output buffer, how many lines are taken
+// so far, and whether the run goes on.
 struct Eaten {
     taken: usize,
     put: usize,
@@ -49,20 +49,20 @@ struct Eaten {
     going: bool,
 }
 
-// A line answered: the place behind its answer, and whether the run goes on.
+// What was done with a line: the offset behind its output, and whether the run goes on.
 struct Answered {
     at: usize,
     goes: bool,
 }
 
-// The next line of a piece: whether enough is known of it, where it ends, and where the one behind it starts.
+// The next line of a piece: whether enough of it is known, where it ends, and where the line behind it starts.
 struct Next {
     sure: bool,
     end: usize,
     next: usize,
 }
 
-// A refusal put: the run ends.
+// Writes the line of a refusal. The run ends.
 fn refuse_line(refusal: Refusal, lines: u32, out: &mut [u8], at: usize) -> Answered
     requires { ⌜ Roomy (now out) at ⌝ }
     ensures { λ r. ⌜ Answers (refuse (refusal .0) lines []) (now (out .entry)) at r (now (out .exit)) ⌝ }
@@ -75,7 +75,7 @@ fn refuse_line(refusal: Refusal, lines: u32, out: &mut [u8], at: usize) -> Answe
     }
 }
 
-// Line 1: the header, or a refusal.
+// Judges line 1: the header, or refusal 6.
 fn judge_header(line: &[u8], out: &mut [u8], at: usize) -> Answered
     requires { ⌜ Roomy (now out) at ⌝ }
     ensures { λ r. ⌜ Answers (onHeader [] (now (line .entry))) (now (out .entry)) at r (now (out .exit)) ⌝ }
@@ -89,7 +89,7 @@ fn judge_header(line: &[u8], out: &mut [u8], at: usize) -> Answered
     refuse_line(Refusal::HEADER, 0, out, at)
 }
 
-// What a line says, judged on the set of its pair, or refused.
+// Judges a parsed line on the set of its pair, or writes its refusal.
 fn judge_parsed(
     lines: u32,
     parsed: ParsedLine,
@@ -120,7 +120,7 @@ fn judge_parsed(
     }
 }
 
-// A line with so many lines before it, judged.
+// Judges a line, given the number of lines before it.
 fn judge_line(lines: u32, line: &[u8], table: &mut [u8], out: &mut [u8], at: usize) -> Answered
     requires { ⌜ Roomy (now out) at ⌝ }
     ensures { λ r. ⌜ AnswersOn (onLine lines (now (table .entry)) (now (line .entry)))
@@ -138,7 +138,7 @@ fn judge_line(lines: u32, line: &[u8], table: &mut [u8], out: &mut [u8], at: usi
     judge_parsed(lines, parser::parse_line(line), table, out, at)
 }
 
-// The place behind a line: behind its CR LF where that is there.
+// The offset behind a line: behind its CR LF if it has one.
 fn behind(whole: bool, end: usize) -> usize
     requires { ⌜ end + 2 < 2 ^ 64 ⌝ }
     ensures { λ r. ⌜ r ≡ end + cond whole 2 0 ⌝ }
@@ -146,7 +146,7 @@ fn behind(whole: bool, end: usize) -> usize
     if whole { end + 2 } else { end }
 }
 
-// The line that starts at a place of a piece, as far as it is known.
+// The line that starts at an offset of a piece, as far as it is known.
 fn next_line(piece: &[u8], start: usize, ended: bool, lines: u32) -> Next
     requires { ⌜ start ≤ length (now piece) ⌝ }
     ensures { λ r. ⌜ r ≡ nextIn ended lines (now (piece .entry)) start ⌝ }
@@ -161,7 +161,7 @@ fn next_line(piece: &[u8], start: usize, ended: bool, lines: u32) -> Next
     }
 }
 
-// How many lines were taken, one more where the run goes on.
+// The number of lines taken: one more if the run goes on.
 fn counted(lines: u32, goes: bool) -> u32
     requires { ⌜ (goes ≡ true → lines < mostLines) ⌝ }
     ensures { λ r. ⌜ r ≡ cond goes (lines + 1) lines ⌝ }
@@ -169,8 +169,8 @@ fn counted(lines: u32, goes: bool) -> u32
     if goes { lines + 1 } else { lines }
 }
 
-// A piece of a sheet judged line by line, as far as its lines are known and the buffer has room for their answers. So many lines were taken
-// before it, and `going` is false behind a refusal. Where `ended`, nothing follows the piece.
+// Judges a piece line by line, as long as enough of the next line is known and the output buffer has room. `lines` lines come before
+// the piece. `going` is false after a refusal. If `ended`, nothing follows the piece.
 fn eat(
     piece: &[u8],
     ended: bool,
@@ -207,7 +207,7 @@ fn eat(
     }
 }
 
-// The bytes from a place up to an end, moved down to the front.
+// Moves `count` bytes from an offset to the front of the piece.
 fn move_down(piece: &mut [u8], from: usize, count: usize)
     requires { ⌜ from + count ≤ length (now piece) ⌝ }
     ensures { λ _. ⌜ now (piece .exit) ≡ movedDown (now (piece .entry)) from count ⌝ }
@@ -219,7 +219,7 @@ fn move_down(piece: &mut [u8], from: usize, count: usize)
     }
 }
 
-// Every pair's set is that of all states.
+// Gives every pair the set of all states (definition 8.5).
 fn fill(table: &mut [u8])
     ensures { λ _. ⌜ now (table .exit) ≡ replicate (length (now (table .entry))) allStates ⌝ }
 {
@@ -230,14 +230,14 @@ fn fill(table: &mut [u8])
     }
 }
 
-// Whether a read is wanted.
+// Whether to read before the next turn: the input has not ended, and too few bytes are held.
 fn wants_more(carried: Carried) -> bool
     ensures { λ r. ⌜ r ≡ wanted carried ⌝ }
 {
     !carried.ended & (carried.held < ENOUGH)
 }
 
-// How many bytes are held with those that arrived; no more than the piece has.
+// The number of bytes held after `got` bytes arrived; at most the length of the piece.
 fn held_with(held: usize, got: usize, len: usize) -> usize
     ensures { λ r. ⌜ r ≡ min (held + got) len ⌝ }
 {
@@ -250,7 +250,7 @@ fn held_with(held: usize, got: usize, len: usize) -> usize
     held + got
 }
 
-// The answer by which this is carried on, and so many bytes are to be written.
+// The result of a turn that keeps `carried` and has put `put` bytes into the output buffer.
 fn answer(carried: Carried, put: usize) -> Turned
     ensures { λ r. ⌜ r ≡ answerWith carried put ⌝ }
 {
@@ -263,7 +263,7 @@ fn answer(carried: Carried, put: usize) -> Turned
     }
 }
 
-// A run begins: every pair has the set of all states, the header's line is put, and nothing is read yet.
+// Begins a run: every pair has the set of all states, the output's header is written, and nothing is read yet.
 pub fn begin(table: &mut [u8], out: &mut [u8]) -> Turned
     ensures { λ r. ⌜ begunWith r (now (table .exit)) (now (out .exit)) ≡ begun (now (table .entry)) (now (out .entry)) ⌝ }
 {
@@ -278,8 +278,8 @@ pub fn begin(table: &mut [u8], out: &mut [u8]) -> Turned
     answer(nothing, put)
 }
 
-// One turn of a run. So many bytes have arrived in the piece, behind those that are held. All of them are judged line by line, as far as it
-// is known where lines end and the buffer has room, and the rest is moved to the front of the piece.
+// One turn of a run, after `got` bytes arrived behind those that are held. Lines are judged as long as it is known where they end
+// and the output buffer has room. The rest is moved to the front of the piece.
 pub fn turn(
     carried: Carried,
     got: usize,

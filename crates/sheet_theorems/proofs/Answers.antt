@@ -1,4 +1,4 @@
--- The answers to good lines are those to their events, one after another, and what follows goes on from the table that they leave.
+-- The output of good lines is that of their events, one after another, and later lines start from the table that they leave.
 -- Assumes nothing.
 use mathlib.Core.Path.{_≡_, refl, sym, _∙_, ap, ap₂}
 use mathlib.Core.Bool.{true, cond}
@@ -24,7 +24,7 @@ good-short line g = leb-true (length line) longest (and-left (leb (length line) 
 pub good-accepted : (line : List ℕ) → good line ≡ true → parsed line .refusal .0 ≡ 0
 good-accepted line g = eqb-true (parsed line .refusal .0) 0 (and-right (leb (length line) longest) (eqb (parsed line .refusal .0) 0) g)
 
--- behind the header, a line that is neither one too many nor too long is read
+-- after the header, a line that is not one too many and not too long is parsed
 pub line-is-read : (k : ℕ) (table line : List ℕ) → 0 < k → k < mostLines → length line ≤ longest → onLine k table line ≡ onParsed k table (parsed line)
 unfolding onLine
 line-is-read k table line p q r =
@@ -40,7 +40,7 @@ line-is-good k table line p q g =
     ∙ ap (λ b. cond b (told (answerLine (k - 1) (foundOn table (eventOn line))) (moved table (eventOn line)) true) (refuse (parsed line .refusal .0) k table))
     (eq-eqb (parsed line .refusal .0) 0 (good-accepted line g))
 
--- the first of lines that are all good, and the others
+-- the first of some good lines, and the others
 pub first-good : {k : ℕ} {line : List ℕ} {lines : List (List ℕ)} → AllGood k (line ∷ lines) → good line ≡ true
 first-good {k} {line} {lines} g = and-left (good line) (all good lines) (g .each-good)
 
@@ -77,7 +77,7 @@ good-then-more k table (line ∷ lines) more g =
     one-on : (n : ℕ) → 0 < n → n + 1 - 1 ≡ n - 1 + 1
     one-on n h = omega (arith, h)
 
--- good lines, and nothing behind them
+-- good lines, and nothing after them
 pub good-alone : (k : ℕ) (table : List ℕ) (lines : List (List ℕ)) → AllGood k lines → answers k table lines ≡ answerLines (k - 1) table (eventsOf lines)
 good-alone k table lines g =
     ap (answers k table) (sym (append-nil lines))
@@ -85,7 +85,7 @@ good-alone k table lines g =
     ∙ ap (λ b. answerLines (k - 1) table (eventsOf lines) ++ cond b (refusedLine 6 1) []) (ne-eqb (k + length lines) 0 (λ e. omega (arith, e, g .behind-header)))
     ∙ append-nil (answerLines (k - 1) table (eventsOf lines))
 
--- the answer to one event of a trace that is cut there
+-- the output of one event in the middle of a trace
 pub answer-between : (n : ℕ) (table : List ℕ) (xs : List TraceEvent) (x : TraceEvent) (ys : List TraceEvent)
     → answerLines n table (xs ++ (x ∷ ys))
     ≡ answerLines n table xs ++ (answerLine (n + length xs) (foundOn (run table xs) x) ++ answerLines (n + length xs + 1) (moved (run table xs) x) ys)
@@ -103,7 +103,7 @@ events-append (line ∷ before) more = ap (λ (xs : List TraceEvent). eventOn li
 pub lines-number : (n : ℕ) → 1 + n + 1 ≡ n + 2
 lines-number n = omega arith
 
--- one good line behind others, and what follows it
+-- one good line after others, and what follows it
 pub answer-behind : (table : List ℕ) (before : List (List ℕ)) (line : List ℕ) (more : List (List ℕ)) → AllGood 1 before → good line ≡ true → length before + 1 < mostLines
     → answers 1 table (before ++ (line ∷ more))
     ≡ answerLines 0 table (eventsOf before)

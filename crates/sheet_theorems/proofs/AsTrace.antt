@@ -1,4 +1,4 @@
--- Good lines as one call of the judge of a whole trace: it is accepted, its events are the lines', and the sheet's answers spell what it leaves.
+-- Good lines as one trace: the trace is accepted, its events are the lines', and the sheet's output says what it leaves.
 -- Assumes nothing.
 use mathlib.Core.Path.{_≡_, refl, sym, _∙_, ap, ap₂, subst}
 use mathlib.Core.Bool.{true}
@@ -30,7 +30,7 @@ use Rattle.sheet_theorems.proofs.Good.{parsed-pair-in, parsed-in-range,
 use Rattle.sheet_theorems.proofs.Answers.{good-accepted}
 use Rattle.sheet_theorems.proofs.Reached.{start-length, start-set}
 
--- an event that the trace call takes on the starting table
+-- an event that a trace with the starting table accepts
 record Fine (x : TraceEvent) : Type 0 where
   long : length (x .bytes) ≡ eventLength
   pair-in : x .pair < mostPairs
@@ -65,7 +65,7 @@ length-events : (lines : List (List ℕ)) → length (eventsOf lines) ≡ length
 length-events [] = refl
 length-events (line ∷ lines) = ap suc (length-events lines)
 
--- events behind others are read back one by one
+-- the events after others are read back one by one
 event-here : (bs ps : List ℕ) (k : ℕ) (x : TraceEvent) (xs : List TraceEvent) → length bs ≡ k * eventLength → length ps ≡ k → length (x .bytes) ≡ eventLength
     → eventAt (bs ++ bytesOf (x ∷ xs)) (ps ++ pairsOf (x ∷ xs)) k ≡ x
 event-here bs ps k x xs e f l =
@@ -82,7 +82,7 @@ read-back bs ps k (one {x = x} {xs = xs} g gs) e f =
     (omega (arith, length-append bs (x .bytes), e, g .long))
     (omega (arith, length-append ps (x .pair ∷ []), f)))
 
--- event k among them is fine
+-- event k of them is accepted
 fine-at : {xs : List TraceEvent} (bs ps : List ℕ) (i k : ℕ) → AllFine xs → length bs ≡ i * eventLength → length ps ≡ i → k < length xs
     → Fine (eventAt (bs ++ bytesOf xs) (ps ++ pairsOf xs) (i + k))
 fine-at bs ps i k none e f h = absurd (omega arith)
@@ -97,7 +97,7 @@ fine-at bs ps i (suc k) (one {x = x} {xs = xs} g gs) e f h =
     (omega (arith, length-append ps (x .pair ∷ []), f))
     (omega (arith, h)))
 
--- THE CALL.
+-- THE TRACE.
 module _ (lines : List (List ℕ)) (verdicts duties afters : List ℕ) (g : all good lines ≡ true) (few : length lines ≤ mostEvents)
     (v : length verdicts ≡ length lines) (d : length duties ≡ length lines) (a : length afters ≡ length lines) where
   l : Lent
@@ -148,7 +148,7 @@ module _ (lines : List (List ℕ)) (verdicts duties afters : List ℕ) (g : all 
       judged-accepted issueE l (ap (λ (o : Outcome). o .refusal .0) outcome-so)
       ∙ ap₂ (λ (o : Outcome) (xs : List TraceEvent). left o (run startTable xs) (outputs verdict startTable xs) (outputs dutyByte startTable xs) (outputs afterSet startTable xs)) outcome-so trace-so
 
--- the bytes of a trace spelled are its answers
+-- the bytes that a trace leaves, written out, are the sheet's output
 pub spelled-so : (n : ℕ) (table : List ℕ) (xs : List TraceEvent) → spelled n (outputs verdict table xs) (outputs dutyByte table xs) (outputs afterSet table xs) ≡ answerLines n table xs
 spelled-so n table [] = refl
 spelled-so n table (x ∷ xs) = ap (λ (s : List ℕ). answerLine n (foundOn table x) ++ s) (spelled-so (n + 1) (moved table x) xs)

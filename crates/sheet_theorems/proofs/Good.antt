@@ -1,4 +1,4 @@
--- A line that is not refused is an event without fault: every byte is within its range, the request is one of the seven, the pair is in the table.
+-- A line that is not refused is an event without fault: bytes in range, a request of the seven, and a pair that the table has.
 -- Assumes nothing.
 use mathlib.Core.Path.{_≡_, refl, sym, _∙_, ap}
 use mathlib.Core.Bool.{Bool, true, false, cond, _&&_, false≢true}
@@ -28,7 +28,7 @@ names-requested : all (λ (n : Named). n .code ∈? requests) requestNames ≡ t
 unfolding requestNames
 names-requested = refl
 
--- a known name of a request stands for one of the seven
+-- a known request name is one of the seven requests
 code-requested : (f : List ℕ) → known (codeOf requestNames f) ≡ true → codeOf requestNames f ∈? requests ≡ true
 code-requested f h = go (seek requestNames f)
   where
@@ -44,7 +44,7 @@ field-requested (f ∷ g ∷ fs) h =
     let others = all known (codesOf (drop 2 columns) fs) in
     code-requested g (and-left (known (codeOf requestNames g)) others (and-right (known (pairOf f)) (known (codeOf requestNames g) && others) h))
 
--- NUMBERS BELOW LIMITS: one list behind another, as many, and by their places
+-- NUMBERS BELOW LIMITS: two lists joined, equal lengths, and element by element
 under-append : (xs ls ys ms : List ℕ) → under xs ls ≡ true → under ys ms ≡ true → under (xs ++ ys) (ls ++ ms) ≡ true
 under-append [] [] ys ms h k = k
 under-append [] (l ∷ ls) ys ms h k = absurd (false≢true h)
@@ -67,7 +67,7 @@ under-below [] (l ∷ ls) h = absurd (false≢true h)
 under-below (x ∷ xs) (l ∷ ls) h =
     and-both (and-left (ltb x l) (under xs ls) h) (below-behind x xs 0 ls ∙ under-below xs ls (and-right (ltb x l) (under xs ls) h))
 
--- the limits of an answer's four bytes, of what follows them, and of the two bytes of a forward
+-- the limits of the bytes after the tag state, after FwdState, and after RespErr
 abbrev behindTag : List ℕ
 behindTag = drop 4 (issueE .limits)
 
@@ -77,7 +77,7 @@ behindAnswer = drop 4 behindTag
 abbrev behindError : List ℕ
 behindError = drop 2 behindAnswer
 
--- what every entry passes, and what stands past the last, an entry looked up passes
+-- if all elements and the default pass a test, every element that is looked up passes it
 getD-all {ℓ} : {A : Type ℓ} (p : A → Bool) (l : List A) (d : A) → all p l ≡ true → p d ≡ true → (i : ℕ) → p (getD l i d) ≡ true
 getD-all p [] d h k i = k
 getD-all p (x ∷ xs) d h k zero = and-left (p x) (all p xs) h
@@ -94,12 +94,12 @@ forward-under state h = go (eqb state 0)
     go true = refl
     go false = and-both h refl
 
--- the first test stays, and the others grant what they grant
+-- the first test stays, and the second implies the third
 keep : (a : Bool) {b c : Bool} → (b ≡ true → c ≡ true) → a && b ≡ true → a && c ≡ true
 keep true f h = f h
 keep false f h = absurd (false≢true h)
 
--- codes below the limits of their columns make bytes below the limits of theirs
+-- codes below their columns' limits make bytes below the event's limits
 module _ (codes : List ℕ) where
   error-on : ltb (forwardCode codes) 8 && (ltb (finalCode codes) 8 && true) ≡ true
       → under (forwardWire (forwardAt (forwardCode codes)) ++ (finalCode codes ∷ [])) behindError ≡ true
@@ -147,7 +147,7 @@ module _ (line : List ℕ) (w : wellFormed line ≡ true) where
       ap (λ b. cond b (cond (getD (eventOf (lineCodes line)) 0 0 ∈? requests) 0 5) 4) all-in-range
       ∙ ap (λ b. cond b 0 5) requested
 
--- what a line that isn't refused says
+-- what a line that is not refused is known to be
 pub record Says (line : List ℕ) : Type 0 where
   pub well-formed : wellFormed line ≡ true
   pub low-pair : pairCode (lineCodes line) ≤ highestPair
@@ -156,7 +156,7 @@ pub record Says (line : List ℕ) : Type 0 where
 pub says : (line : List ℕ) → parsed line .refusal .0 ≡ 0 → Says line
 says line h = go (wellFormed line) refl (ltb highestPair (pairCode (lineCodes line))) refl
   where
-    -- a refused line has a number
+    -- a refused line has a number that is not 0
     numbered : {e : ParsedLine} → parsed line ≡ e → e .refusal .0 ≡ 0
     numbered so = sym (ap (λ (x : ParsedLine). x .refusal .0) so) ∙ h
 

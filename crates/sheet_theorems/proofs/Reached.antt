@@ -1,5 +1,5 @@
--- The sets of a sheet hold exactly the states in which histories end; so the answer to a good line shows those of the histories that pass it,
--- and its verdict and its duty are those of the histories.
+-- The sets of a sheet hold exactly the states in which histories end. So the output of a good line shows the ends of the histories that
+-- pass it, and its verdict and duty are those that histories give.
 -- Assumes nothing.
 use mathlib.Core.Path.{_≡_, refl, sym, _∙_, ap, subst}
 use mathlib.Core.Logic.{_↔_}
@@ -41,6 +41,7 @@ seven-states s = (λ h. each-state (λ n. n ∈? states ≡ true) refl refl refl
         let one-below : f .one < 7 = ltb-true (f .one) 7 (all-at (λ n. ltb n 7) refl (f .inside)) in
         each-state (λ n. bit allStates n ≡ true) refl refl refl refl refl refl refl s (omega (arith, one-below, eqb-true s (f .one) (f .passes)))
 
+-- the starting table has 4,096 pairs, each with all seven states
 pub start-length : length startTable ≡ mostPairs
 unfolding startTable
 start-length = length-replicate mostPairs allStates
@@ -49,7 +50,7 @@ pub start-set : (p : ℕ) → p < mostPairs → setIn startTable p ≡ allStates
 unfolding startTable
 start-set p h = getD-replicate mostPairs p allStates 0 h
 
--- the set of a pair after lines
+-- the set of a pair after some lines
 abbrev setAfterLines : List (List ℕ) → ℕ → ℕ
 setAfterLines lines p = setIn (run startTable (eventsOf lines)) p
 
@@ -61,14 +62,14 @@ set-walked lines p h =
 set-small : (lines : List (List ℕ)) (p : ℕ) → p < mostPairs → setAfterLines lines p < 128
 set-small lines p h = subst (λ m. m < 128) (sym (set-walked lines p h)) (walk-below allStates (own p (eventsOf lines)) (omega arith))
 
--- A SET AND THE HISTORIES, both ways
+-- A SET AND THE HISTORIES, in both directions
 pub set-exact : (lines : List (List ℕ)) (p : ℕ) → p < mostPairs → (s : ℕ) → bit (setIn (run startTable (eventsOf lines)) p) s ≡ true ↔ HistoryOn p lines s
 set-exact lines p h s = subst (λ m. bit m s ≡ true ↔ HistoryOn p lines s) (sym (set-walked lines p h)) (ends-exact allStates (own p (eventsOf lines)) s)
 
 set-some : (lines : List (List ℕ)) (p : ℕ) → p < mostPairs → Held (setAfterLines lines p) ↔ SomeHistoryOn p lines
 set-some lines p h = subst (λ m. Held m ↔ SomeHistoryOn p lines) (sym (set-walked lines p h)) (some-ends allStates (own p (eventsOf lines)))
 
--- A LINE THAT IS ANSWERED, BEHIND OTHERS.
+-- A GOOD LINE, after others.
 module _ (before : List (List ℕ)) (line : List ℕ) (g : good line ≡ true) where
   pub pair-inside : pairOn line < mostPairs
   pair-inside = parsed-pair-in line (good-accepted line g)
@@ -80,7 +81,7 @@ module _ (before : List (List ℕ)) (line : List ℕ) (g : good line ≡ true) w
   e : List ℕ
   e = eventOn line .bytes
 
-  -- and after it
+  -- its pair's set after it
   set-moves : setAfterLines (before ++ (line ∷ [])) (pairOn line) ≡ foundBehind before line .after
   set-moves =
       ap (λ (xs : List TraceEvent). setIn (run startTable xs) (pairOn line)) (events-append before (line ∷ []))

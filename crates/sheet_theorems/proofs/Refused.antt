@@ -1,4 +1,4 @@
--- Every line is the header, good, or refused with one number; and so every sheet is answered in one of four ways.
+-- Every line is the header, good, or refused with one number, and so every sheet's output has one of four forms.
 -- Assumes nothing.
 use mathlib.Core.Path.{_≡_, refl, sym, _∙_, ap, subst}
 use mathlib.Core.Bool.{Bool, true, false, cond, true≢false}
@@ -33,7 +33,7 @@ not-same line h = go (same line header) refl
     go true e = absurd (h (same-equal line header e))
     go false e = refl
 
--- a line that is refused ends the run with that number
+-- a refused line ends the run with its number
 pub refused-told : {k : ℕ} {line : List ℕ} {number : ℕ} (table : List ℕ) → RefusedWith k line number → onLine k table line ≡ refuse number k table
 unfolding onLine tooLongTold
 refused-told {k} {line} table (not-header p q) =
@@ -48,7 +48,7 @@ refused-told {k} {line} table (too-long p q) =
 refused-told {k} {line} table (ill-formed p q r s) = line-is-read k table line p q r ∙ ap (onParsed k table) (parsed-ill line s)
 refused-told {k} {line} table (high-pair p q r s t) = line-is-read k table line p q r ∙ ap (onParsed k table) (parsed-high line s t)
 
--- a line that is read is good or refused
+-- a line that is parsed is good or refused
 read-is : (k : ℕ) (line : List ℕ) → 0 < k → k < mostLines → length line ≤ longest → LineIs k line
 read-is k line p q r = go (wellFormed line) refl (ltb highestPair (pairCode (lineCodes line))) refl
   where
@@ -67,7 +67,7 @@ behind-is k line p = go (ltb mostLines (k + 1)) refl (ltb longest (length line))
     go false e true f = is-refused 7 (too-long p (ltb-true longest (length line) f))
     go false e false f = read-is k line p (omega (arith, ltb-false mostLines (k + 1) e)) (ltb-false longest (length line) f)
 
--- every line is one of its cases
+-- every line is one of the cases
 pub line-is : (k : ℕ) (line : List ℕ) → LineIs k line
 line-is k line = go (eqb k 0) refl (same line header) refl
   where
@@ -76,7 +76,7 @@ line-is k line = go (eqb k 0) refl (same line header) refl
     go true e true f = is-header (eqb-true k 0 e) (same-equal line header f)
     go true e false f = is-refused 6 (not-header (eqb-true k 0 e) (λ q. true≢false (sym (ap (λ (l : List ℕ). same l header) q ∙ same-self header) ∙ f)))
 
--- a line has one number at most
+-- a line has at most one number
 number : ℕ → List ℕ → ℕ
 number k line = cond (eqb k 0) 6 (cond (ltb mostLines (k + 1)) 7 (cond (ltb longest (length line)) 7 (cond (wellFormed line) 3 8)))
 
@@ -103,18 +103,18 @@ its-number {k} {line} (high-pair p q r s t) = behind k line p ∙ read k line q 
 pub one-number : {k : ℕ} {line : List ℕ} {n n′ : ℕ} → RefusedWith k line n → RefusedWith k line n′ → n ≡ n′
 one-number r r′ = sym (its-number r) ∙ its-number r′
 
--- the header is answered by nothing
+-- the header has no output
 pub header-passes : (lines : List (List ℕ)) → answers 0 startTable (header ∷ lines) ≡ answers 1 startTable lines
 unfolding onLine
 header-passes lines =
     ap (λ b. cond b (told [] startTable true) (refuse 6 0 startTable) .text ++ cond (cond b (told [] startTable true) (refuse 6 0 startTable) .goes) (answers 1 (cond b (told [] startTable true) (refuse 6 0 startTable) .table) lines) []) (same-self header)
 
--- a refusal is the last that is written
+-- nothing is written after a refusal
 refused-ends : {k : ℕ} {line : List ℕ} {n : ℕ} (table : List ℕ) (more : List (List ℕ)) → RefusedWith k line n → answers k table (line ∷ more) ≡ refusedLine n (k + 1)
 refused-ends {k} {line} {n} table more r =
     ap (λ (t : Told). t .text ++ cond (t .goes) (answers (k + 1) (t .table) more) []) (refused-told table r) ∙ append-nil (refusedLine n (k + 1))
 
--- A WHOLE SHEET: where it is said what lines are answered, that is the answer
+-- A WHOLE SHEET: the form that the cases give is the output
 pub said-answers : {lines : List (List ℕ)} {out : List ℕ} → SheetSays lines out → answers 0 startTable lines ≡ out
 said-answers no-lines = refl
 said-answers (no-header {more = more} h) = refused-ends startTable more (not-header refl h)
@@ -124,7 +124,7 @@ said-answers (refused {bad = bad} {number = n} lines more g r) =
     ∙ good-then-more 1 startTable lines (bad ∷ more) g
     ∙ ap (λ (s : List ℕ). answerLines 0 startTable (eventsOf lines) ++ s) (refused-ends (run startTable (eventsOf lines)) more r ∙ ap (refusedLine n) (lines-number (length lines)))
 
--- lines behind k others: all good, or good up to one that is refused
+-- lines with k lines before them: all good, or good up to a refused one
 data Split (k : ℕ) : List (List ℕ) → Type 0 where
   whole : {lines : List (List ℕ)} → AllGood k lines → Split k lines
   cut : {bad : List ℕ} {n : ℕ} (lines more : List (List ℕ)) → AllGood k lines → RefusedWith (k + length lines) bad n → Split k (lines ++ (bad ∷ more))
@@ -153,7 +153,7 @@ split k (line ∷ lines) p q = go (line-is k line) (λ h. split (k + 1) lines (o
     go (is-good a b c) others = on b c (others b)
     go (is-refused n r) others = cut [] lines (none-good k p q) (subst (λ (i : ℕ). RefusedWith i line n) (sym (add-zero k)) r)
 
--- something is said of some lines
+-- the cases give an output for these lines
 pub record SomeSaid (lines : List (List ℕ)) : Type 0 where
   pub out : List ℕ
   pub says : SheetSays lines out
@@ -162,7 +162,7 @@ split-said : {lines : List (List ℕ)} → Split 1 lines → SomeSaid (header �
 split-said (whole {lines = lines} g) = record { out = answerLines 0 startTable (eventsOf lines); says = all-answered g }
 split-said (cut {n = n} lines more g r) = record { out = answerLines 0 startTable (eventsOf lines) ++ refusedLine n (length lines + 2); says = refused lines more g r }
 
--- and so of any
+-- the cases give an output for any lines
 pub some-said : (lines : List (List ℕ)) → SomeSaid lines
 some-said [] = record { out = refusedLine 6 1; says = no-lines }
 some-said (line ∷ lines) = go (line-is 0 line)

@@ -1,5 +1,5 @@
--- The theorems about the bench sheet. Whoever believes the checker reads this file, the definitions that it names, and the `ensures` of
--- `sheet::begin` and `sheet::turn`, which say that whatever is lent, the answer and the buffers afterwards are `begun` and `turned` of it.
+-- The theorems about the bench sheet. If you believe the checker, read this file, the definitions that it names, and the `ensures` of
+-- `sheet::begin` and `sheet::turn`, which say that whatever is lent, the result and the buffers afterwards are `begun` and `turned` of it.
 -- `sheetOut input` is the whole output.
 -- Assumes nothing.
 use mathlib.Core.Path.{_≡_, refl, sym, _∙_, ap, subst}
@@ -49,28 +49,28 @@ use Rattle.sheet_theorems.proofs.Reached.{seven-states, pair-inside, se
 use Rattle.sheet_theorems.proofs.Refused.{refused-told, line-is, one-number, header-passes, said-answers, some-said}
 use Rattle.sheet_theorems.proofs.AsTrace.{judged-so, spelled-so}
 
--- THE PAGE'S EXAMPLE: the whole input gives the whole output, byte for byte.
+-- THE EXAMPLE (definition 8.11): the whole input gives the whole output, byte for byte.
 pub page-example : sheetOut exampleIn ≡ exampleOut
 unfolding setOf bit rows asked answered tagged permitted steps duty afterSet verdict dutyByte codeOf requestNames flagNames tagNames responses responseNames namedAnswers tagOpNames respErrNames forwardNames finalNames isPair readDecimal pairOf columns wellFormed eventOf parsed decimalText verdictText dutyText statesText headerLine answerLine refusedLine header onLine startTable
 page-example = refl
 
--- THE REFUSALS BY EXAMPLES: each input gives exactly the output that is said of it.
+-- THE REFUSALS BY EXAMPLES (definition 8.7, 8.8): each input gives exactly the output that the case says.
 pub refusal-cases : all asSaid cases ≡ true
 unfolding setOf bit rows asked answered tagged permitted steps duty afterSet verdict dutyByte codeOf requestNames flagNames tagNames responses responseNames namedAnswers tagOpNames respErrNames forwardNames finalNames isPair readDecimal pairOf columns wellFormed eventOf parsed decimalText verdictText dutyText statesText headerLine answerLine refusedLine header onLine startTable
 refusal-cases = refl
 
--- THE REFUSAL TABLE OF THE SHEET: a line that a row gives a number for ends the run with that number and the line's own.
+-- THE REFUSAL TABLE OF THE SHEET (definition 8.7): a line to which a row applies ends the run with the row's number and the line's own.
 pub line-refused : (k : ℕ) (table line : List ℕ) (number : ℕ) → RefusedWith k line number → onLine k table line ≡ refuse number k table
 line-refused k table line number r = refused-told table r
 
--- Every line is the header, good, or refused; and no two rows give two numbers.
+-- Every line is the header, good, or refused, and a refused line has only one number (definition 8.8).
 pub every-line : (k : ℕ) (line : List ℕ) → LineIs k line
 every-line = line-is
 
 pub one-number-a-line : (k : ℕ) (line : List ℕ) (n n′ : ℕ) → RefusedWith k line n → RefusedWith k line n′ → n ≡ n′
 one-number-a-line k line n n′ r r′ = one-number r r′
 
--- THE WHOLE OUTPUT BY CASES: what stands behind the header's line is a text exactly when one of the four cases says it.
+-- THE WHOLE OUTPUT BY CASES (definition 8.6 to 8.8): a text follows the output's header exactly when one of the four cases says so.
 pub sheet-exact : (input out : List ℕ) → sheetOut input ≡ headerLine ++ out ↔ SheetSays (linesOf input) out
 sheet-exact input out = (
   λ e. let s = some-said (linesOf input) in
@@ -78,7 +78,7 @@ sheet-exact input out = (
   λ s. ap (λ (t : List ℕ). headerLine ++ t) (said-answers s),
 )
 
--- THE PIECES: however the input is cut, and whatever the buffer's size, a run writes the sheet; any two write the same; and there is one.
+-- THE PIECES (definition 8.9): however the input is cut, and for any buffer size, a run writes the sheet; any two agree; and there is one.
 pub however-cut : {input out : List ℕ} → Run start input out → headerLine ++ out ≡ sheetOut input
 however-cut = run-is-sheet
 
@@ -88,31 +88,31 @@ cuts-agree = runs-agree
 pub some-cut : (input : List ℕ) → SomeRun start input
 some-cut = run-exists
 
--- A piece that is eaten changes nothing of what is written in all, whatever is still to come.
+-- Judging a piece does not change the whole output, whatever is still to come.
 pub piece-tied : (ended : Bool) (space : ℕ) (h : Held) (more : List ℕ) → (ended ≡ true → more ≡ []) → total (eaten ended space h) more ≡ total h more
 piece-tied = eaten-keeps
 
--- It is eaten as far as it can be: then the run has ended, the buffer is short of room, or too little is known of the next line.
+-- A piece is judged as far as possible: then the run has ended, the buffer has no room for a line, or too little of the next line is known.
 pub piece-progress : (ended : Bool) (space : ℕ) (h : Held) → ready ended space (eaten ended space h) ≡ false
 piece-progress = eaten-stops
 
--- THE PROGRAM: from what `begin` leaves of a table of as many pairs as a sheet has and a buffer with room for a line, with any input, however it
--- arrives, the turns to the end write the sheet's whole output, its header first.
+-- THE PROGRAM (definition 8, 8.9): after `begin` with a table of 4,096 pairs and a buffer with room for a line, the turns to the end write
+-- the sheet's whole output, its header first, for any input and however it arrives.
 pub program-writes-sheet : (piece table out : List ℕ) {input written : List ℕ} → length table ≡ mostPairs → room ≤ length out
     → Turns (begun table out .answer) piece (begun table out .table) (begun table out .out) input written → written ≡ sheetOut input
 program-writes-sheet = turns-write
 
--- There are such turns for every input, where a piece has room for enough bytes: each turn leaves less to do.
+-- Every input has turns to the end, if a piece has room for enough bytes (definition 1.5: every call ends).
 pub program-ends : (piece table out input : List ℕ) → length table ≡ mostPairs → room ≤ length out → enough ≤ length piece
     → SomeTurns (begun table out .answer) piece (begun table out .table) (begun table out .out) input
 program-ends = turns-exist
 
--- It begins at the start of a run, with the header's line put.
+-- The program begins at the start of a run, with the output's header in the buffer.
 pub begins-at-start : (table out : List ℕ) → length table ≡ mostPairs → room ≤ length out
     → begun table out ≡ begunWith (answerWith (carriedOf false start) (length headerLine)) startTable (inFront headerLine out)
 begins-at-start = begun-start
 
--- A turn is one step of a run: the bytes that arrived are read, and what is held is eaten into the buffer, which is written out.
+-- A turn is one step of a run: the bytes that arrived are read, held lines are judged into the buffer, and it is written out.
 pub turn-is-eaten : (ended : Bool) (h : Held) (arrived piece out : List ℕ) → take (length (h .rest) + length arrived) piece ≡ h .rest ++ arrived
     → let now-ended = endedBy (carriedOf ended h) (length arrived) in
     turned (carriedOf ended h) (length arrived) piece (h .table) out ≡ turnLeftBy now-ended piece out (eaten now-ended (length out) (emptied (withPiece h arrived)))
@@ -123,30 +123,30 @@ pub turn-is-step : {h : Held} {input out : List ℕ} (ended : Bool) (space : ℕ
     → Run h (arrived ++ input) (eaten ended space (emptied (withPiece h arrived)) .text ++ out)
 turn-is-step = turn-runs
 
--- It goes as far as it can: behind it a refusal has ended the run, or the buffer has no room for a line, or too little is known of the next.
+-- A turn goes as far as possible: then a refusal has ended the run, the buffer has no room for a line, or too little of the next is known.
 pub turn-progress : (c : Carried) (got : ℕ) (piece table out : List ℕ)
     → let r = turned c got piece table out in
     let next = r .answer .carried in
     next .going && (leb (r .answer .put + room) (length out) && sure (next .ended) (next .lines) (take (next .held) (r .piece))) ≡ false
 turn-progress = turn-stops
 
--- ONE OUTCOME: every public function of the sheet and of what it stands on claims that its outcome is the value of one definition, so any
--- two outcomes that a claim allows are equal.
+-- ONE OUTCOME (definition 1.8): every public function of the sheet and of the crates below it claims that its outcome is the value of one
+-- definition, so any two outcomes that a claim allows are equal.
 pub one-value {ℓ} : {A : Type ℓ} {claimed r r′ : A} → r ≡ claimed → r′ ≡ claimed → r ≡ r′
 one-value p q = p ∙ sym q
 
--- A GOOD LINE IS AN EVENT WITHOUT FAULT: every byte is in its range and the request is one of the seven.
+-- A GOOD LINE IS AN EVENT WITHOUT FAULT (definition 4.1): every byte is in its range, and the request is one of the seven.
 pub well-formed-no-fault : (line : List ℕ) → wellFormed line ≡ true → fault issueE (eventOf (lineCodes line)) ≡ 0
 well-formed-no-fault = no-fault
 
--- So what the sheet answers, the trace call accepts: no fault, and a pair of the table.
+-- So the judge of a trace accepts every line that the sheet answers: its event has no fault, and the table has its pair.
 pub good-no-fault : (line : List ℕ) → good line ≡ true → fault issueE (eventOn line .bytes) ≡ 0
 good-no-fault line g = parsed-no-fault line (good-accepted line g)
 
 pub good-pair : (line : List ℕ) → good line ≡ true → pairOn line < mostPairs
 good-pair line g = pair-inside [] line g
 
--- GOOD LINES ARE A TRACE: their answers are those to its events, one after another, and lines behind them start from the table that it leaves.
+-- GOOD LINES ARE A TRACE: their output is that of its events, one after another, and later lines start from the table that it leaves.
 pub good-answers : (k : ℕ) (table : List ℕ) (lines : List (List ℕ)) → AllGood k lines → answers k table lines ≡ answerLines (k - 1) table (eventsOf lines)
 good-answers = good-alone
 
@@ -154,12 +154,12 @@ pub table-carried : (k : ℕ) (table : List ℕ) (lines more : List (List ℕ)) 
     → answers k table (lines ++ more) ≡ answerLines (k - 1) table (eventsOf lines) ++ answers (k + length lines) (run table (eventsOf lines)) more
 table-carried = good-then-more
 
--- The page's example is of that kind: its four lines are good.
+-- The four lines of the example are good (definition 8.11).
 pub example-good : AllGood 1 (drop 1 (linesOf exampleIn))
 unfolding codeOf requestNames flagNames tagNames responses responseNames namedAnswers tagOpNames respErrNames forwardNames finalNames isPair readDecimal pairOf columns wellFormed eventOf parsed
 example-good = record { behind-header = omega arith; not-too-many = omega arith; each-good = refl }
 
--- A LINE'S OWN ANSWER: behind the answers to the lines before it stands its number and what it is found to be.
+-- A LINE'S OWN OUTPUT (definition 8.6): its number and its finding, right after the output of the lines before it.
 pub own-answer : (input : List ℕ) (before : List (List ℕ)) (line : List ℕ) (more : List (List ℕ)) → linesOf input ≡ header ∷ (before ++ (line ∷ more))
     → AllGood 1 before → good line ≡ true → length before + 1 < mostLines
     → sheetOut input
@@ -170,7 +170,7 @@ own-answer input before line more e g h q =
     ap (λ (s : List ℕ). headerLine ++ s)
     (ap (answers 0 startTable) e ∙ header-passes (before ++ (line ∷ more)) ∙ answer-behind startTable before line more g h q)
 
--- THE SHEET AND THE TRACE CALL AGREE: up to 4,096 good lines, lent as one trace, are accepted, and the sheet is what comes back, spelled.
+-- THE SHEET AND THE TRACE CALL AGREE: up to 4,096 good lines, lent as one trace, are accepted, and what it leaves is the sheet's output.
 pub sheet-spells-trace : (input : List ℕ) (lines : List (List ℕ)) (verdicts duties afters : List ℕ) → linesOf input ≡ header ∷ lines → AllGood 1 lines
     → length lines ≤ mostEvents → length verdicts ≡ length lines → length duties ≡ length lines → length afters ≡ length lines
     → let r = judged issueE (asTrace lines verdicts duties afters) in
@@ -190,25 +190,25 @@ pub starts-from-all : (s : ℕ) → bit allStates s ≡ true ↔ s ∈? states �
 starts-from-all = seven-states
 
 module _ (before : List (List ℕ)) (line : List ℕ) (g : good line ≡ true) where
-  -- DEMAND 3 ON THE SHEET: the states that a line's answer shows are exactly those in which some history ends, of the line's pair, from one of
-  -- the seven states, through that pair's events on the lines before it and on the line itself.
+  -- DEMAND 3 ON THE SHEET (definition 1.7, 7.3): a line's output shows exactly the states in which a history that passes the line ends; it
+  -- starts in any of the seven states and goes through the pair's events on the lines before and on the line itself.
   pub sheet-states-exact : (s : ℕ) → bit (foundBehind before line .after) s ≡ true ↔ PassesTo before line s
   sheet-states-exact = shown-exact before line g
 
-  -- The same in the answer's text: a state's name stands in it exactly when some history ends there.
+  -- The same in the text: a state's name stands in the output line exactly when such a history ends in that state.
   pub sheet-names-exact : (s : ℕ) → s < 7 → names (foundBehind before line) s ≡ true ↔ PassesTo before line s
   sheet-names-exact s h = subst (λ b. b ≡ true ↔ PassesTo before line s) (sym (named (foundBehind before line) s h)) (shown-exact before line g s)
 
-  -- The set that it is judged on holds exactly the states in which some history reaches it.
+  -- The set on which a line is judged holds exactly the states in which histories reach it.
   pub sheet-reached-exact : (s : ℕ) → bit (setIn (run startTable (eventsOf before)) (pairOn line)) s ≡ true ↔ ReachesIn before line s
   sheet-reached-exact = set-exact before (pairOn line) (pair-inside before line g)
 
-  -- THE VERDICT: explained exactly when some history passes the line, unexplained exactly when histories reach it and none passes it, not judged
-  -- exactly when none reaches it.
+  -- THE VERDICT (definition 7.3): explained exactly when some history passes the line, unexplained exactly when some history reaches it and
+  -- none passes it, not judged exactly when none reaches it.
   pub sheet-verdict-exact : (v : ℕ) → foundBehind before line .verdict .0 ≡ v ↔ VerdictOn before line v
   sheet-verdict-exact v = (λ q. subst (VerdictOn before line) q (verdict-given before line g), λ x. gives-verdict before line g x)
 
-  -- DUTY: that of an explained line is the page's, asked of the states in which histories reach it, and that of any other is none.
+  -- DUTY (definition 6.3, 6.4): an explained line has the duty byte of 6.3, from the states in which histories reach it; any other has 0.
   pub sheet-duty-said : foundBehind before line .verdict .0 ≡ explained → DutyOn before line (foundBehind before line .duty .0)
   sheet-duty-said = duty-given before line g
 

@@ -1,4 +1,4 @@
--- The lines of a sheet as one call of the judge of a whole trace, and what that call leaves as the sheet's text.
+-- The lines of a sheet as one trace, and what the judge of a trace leaves as the sheet's output.
 use Prim.Native.Nat.{ℕ, _+_}
 use mathlib.Core.List.{List, [], _∷_, _++_}
 use Rattle.trace.specs.Events.{TraceEvent}
@@ -7,21 +7,21 @@ use Rattle.replies.specs.Replies.{answerLine}
 use Rattle.sheet.specs.Sheet.{startTable}
 use Rattle.sheet_theorems.specs.Good.{eventsOf}
 
--- the events' bytes, one event after another
+-- the bytes of the events, one event after another
 abbrev pub bytesOf : List TraceEvent → List ℕ
 bytesOf [] = []
 bytesOf (x ∷ xs) = x .bytes ++ bytesOf xs
 
--- their pairs
+-- the pairs of the events
 abbrev pub pairsOf : List TraceEvent → List ℕ
 pairsOf [] = []
 pairsOf (x ∷ xs) = x .pair ∷ pairsOf xs
 
--- what is lent: the lines' events and pairs, 4,096 pairs each with all seven states, and three buffers for what comes back
+-- the lent buffers: the lines' events and pairs, 4,096 pairs with all seven states each, and three output buffers
 abbrev pub asTrace : List (List ℕ) → List ℕ → List ℕ → List ℕ → Lent
 asTrace lines verdicts duties afters = lent (bytesOf (eventsOf lines)) (pairsOf (eventsOf lines)) startTable verdicts duties afters
 
--- the bytes of each event as the line that answers it, from event n on
+-- the output lines made from a trace's verdicts, duty bytes and after-sets, from event n on
 abbrev pub spelled : ℕ → List ℕ → List ℕ → List ℕ → List ℕ
 spelled n [] duties afters = []
 spelled n (v ∷ verdicts) [] afters = []

@@ -1,4 +1,4 @@
--- Sheets as text: the page's example, and cases of each refusal with the whole output for each.
+-- Sheets as text: the example (definition 8.11), and cases of each refusal, each with its whole output (definition 8.7, 8.8).
 use Prim.Native.Nat.{ℕ}
 use Prim.Native.String.{String}
 use mathlib.Core.Bool.{Bool}
@@ -13,7 +13,7 @@ abbrev pub page : List String → List ℕ
 page [] = []
 page (line ∷ lines) = bytes line ++ (eol ++ page lines)
 
--- the page's example: the whole input
+-- the example's whole input (definition 8.11)
 abbrev pub exampleIn : List ℕ
 exampleIn =
     page
@@ -24,7 +24,7 @@ exampleIn =
     "0,SnpClean,0,0,0,Invalid,SnpResp_I,Invalid,OK,-,I" ∷
     [])
 
--- and the whole output
+-- the example's whole output
 abbrev pub exampleOut : List ℕ
 exampleOut =
     page
@@ -35,54 +35,54 @@ exampleOut =
     "3,not judged,none," ∷
     [])
 
--- an input, and the output that is said of it
+-- an input, and the output that it must give
 pub record Case : Type 0 where
   pub input : List ℕ
   pub output : List ℕ
 
--- an input as bytes, with the lines that answer it behind the output's header
+-- an input as bytes, with the lines that must follow the output's header
 abbrev given : List ℕ → List String → Case
 given input answers = record { input = input; output = page ("event,verdict,duty,states" ∷ answers) }
 
--- the header as the page has it
+-- the header of the input (definition 8.2)
 abbrev headerText : String
 headerText = "pair,request,RetToSrc,DoNotGoToSD,excl,tag,response,TagOp,RespErr,forward,final"
 
--- a line with nothing amiss, and its answer as event 0
+-- a good line, and its output line as event 0
 abbrev goodText : String
 goodText = "0,SnpShared,0,0,0,Invalid,SnpRespData_SC_PD,Invalid,OK,-,?"
 
 abbrev goodAnswer : String
 goodAnswer = "0,explained,Home,I SC"
 
--- one line behind the header
+-- a sheet with one line after the header
 abbrev second : String → String → Case
 second line answer = given (page (headerText ∷ line ∷ [])) (answer ∷ [])
 
--- the same, with the line's bytes one by one
+-- the same, with the line given as bytes
 abbrev secondBytes : List ℕ → String → Case
 secondBytes line answer = given (page (headerText ∷ []) ++ (line ++ eol)) (answer ∷ [])
 
 abbrev pub cases : List Case
 cases =
-    -- 6, on line 1 alone: no input, an empty line, a header without its last letter, with a letter too many, in other letters, with a CR too many
+    -- 6, only on line 1: no input, an empty line, a header without its last letter, with one letter more, with a capital, with one CR more
     given [] ("refused,6,1" ∷ []) ∷
     given (page ("" ∷ [])) ("refused,6,1" ∷ []) ∷
     given (page ("pair,request,RetToSrc,DoNotGoToSD,excl,tag,response,TagOp,RespErr,forward,fina" ∷ goodText ∷ [])) ("refused,6,1" ∷ []) ∷
     given (page ("pair,request,RetToSrc,DoNotGoToSD,excl,tag,response,TagOp,RespErr,forward,finals" ∷ goodText ∷ [])) ("refused,6,1" ∷ []) ∷
     given (page ("Pair,request,RetToSrc,DoNotGoToSD,excl,tag,response,TagOp,RespErr,forward,final" ∷ goodText ∷ [])) ("refused,6,1" ∷ []) ∷
     given (bytes headerText ++ (CR ∷ eol)) ("refused,6,1" ∷ []) ∷
-    -- 6 and neither 7 nor 8: a first line too long, a good line where the header is missing
+    -- 6 and not 7 or 8: line 1 too long, a good line in place of the header
     given (replicate 161 120) ("refused,6,1" ∷ []) ∷
     given (page (goodText ∷ [])) ("refused,6,1" ∷ []) ∷
-    -- the header alone, without its CR LF and with it: no answers
+    -- only the header, without its CR LF and with it: no output lines
     given (bytes headerText) [] ∷
     given (page (headerText ∷ [])) [] ∷
     -- 8: an empty line, ten fields, twelve fields
     second "" "refused,8,2" ∷
     second "0,SnpShared,0,0,0,Invalid,SnpRespData_SC_PD,Invalid,OK,-" "refused,8,2" ∷
     second "0,SnpShared,0,0,0,Invalid,SnpRespData_SC_PD,Invalid,OK,-,?,?" "refused,8,2" ∷
-    -- 8: an unknown name of a request, a tag, a response, a TagOp, a RespErr, a forward, a state; a name in other letters, a space behind one
+    -- 8: an unknown request, tag, response, TagOp, RespErr, forward, state; a name in another case; a name with a space behind it
     second "0,SnpUnique,0,0,0,Invalid,SnpRespData_SC_PD,Invalid,OK,-,?" "refused,8,2" ∷
     second "0,SnpShared,0,0,0,Update,SnpRespData_SC_PD,Invalid,OK,-,?" "refused,8,2" ∷
     second "0,SnpShared,0,0,0,Invalid,SnpRespData_UC,Invalid,OK,-,?" "refused,8,2" ∷
@@ -92,40 +92,40 @@ cases =
     second "0,SnpShared,0,0,0,Invalid,SnpRespData_SC_PD,Invalid,OK,-,-" "refused,8,2" ∷
     second "0,snpShared,0,0,0,Invalid,SnpRespData_SC_PD,Invalid,OK,-,?" "refused,8,2" ∷
     second "0,SnpShared ,0,0,0,Invalid,SnpRespData_SC_PD,Invalid,OK,-,?" "refused,8,2" ∷
-    -- 8: each flag in its turn 2
+    -- 8: each flag as 2
     second "0,SnpShared,2,0,0,Invalid,SnpRespData_SC_PD,Invalid,OK,-,?" "refused,8,2" ∷
     second "0,SnpShared,0,2,0,Invalid,SnpRespData_SC_PD,Invalid,OK,-,?" "refused,8,2" ∷
     second "0,SnpShared,0,0,2,Invalid,SnpRespData_SC_PD,Invalid,OK,-,?" "refused,8,2" ∷
-    -- 8: a pair of no digits, with a leading zero, of five digits, with a sign
+    -- 8: a pair without digits, with a leading zero, with five digits, with a sign
     second ",SnpShared,0,0,0,Invalid,SnpRespData_SC_PD,Invalid,OK,-,?" "refused,8,2" ∷
     second "00,SnpShared,0,0,0,Invalid,SnpRespData_SC_PD,Invalid,OK,-,?" "refused,8,2" ∷
     second "01,SnpShared,0,0,0,Invalid,SnpRespData_SC_PD,Invalid,OK,-,?" "refused,8,2" ∷
     second "10000,SnpShared,0,0,0,Invalid,SnpRespData_SC_PD,Invalid,OK,-,?" "refused,8,2" ∷
     second "-1,SnpShared,0,0,0,Invalid,SnpRespData_SC_PD,Invalid,OK,-,?" "refused,8,2" ∷
-    -- 3: a pair above 4,095; the last below is answered; 8 before 3
+    -- 3: a pair above 4,095, where 4,095 itself is answered; and 8 before 3
     second "4096,SnpShared,0,0,0,Invalid,SnpRespData_SC_PD,Invalid,OK,-,?" "refused,3,2" ∷
     second "9999,SnpShared,0,0,0,Invalid,SnpRespData_SC_PD,Invalid,OK,-,?" "refused,3,2" ∷
     second "4095,SnpShared,0,0,0,Invalid,SnpRespData_SC_PD,Invalid,OK,-,?" goodAnswer ∷
     second "4096,SnpUnique,0,0,0,Invalid,SnpRespData_SC_PD,Invalid,OK,-,?" "refused,8,2" ∷
-    -- 7 before 8: a line of 161 bytes, with its CR LF and without; one of 160 is only unknown
+    -- 7 before 8: a line of 161 bytes, with its CR LF and without; a line of 160 bytes is 8
     secondBytes (replicate 161 120) "refused,7,2" ∷
     given (page (headerText ∷ []) ++ replicate 161 120) ("refused,7,2" ∷ []) ∷
     secondBytes (replicate 160 120) "refused,8,2" ∷
-    -- a CR alone and a LF alone are bytes of a field, and part no lines
+    -- a CR alone and an LF alone are ordinary bytes, and end no line
     secondBytes (bytes "0,SnpShared" ++ (CR ∷ bytes ",0,0,0,Invalid,SnpRespData_SC_PD,Invalid,OK,-,?")) "refused,8,2" ∷
     secondBytes (bytes "0,SnpShared" ++ (LF ∷ bytes ",0,0,0,Invalid,SnpRespData_SC_PD,Invalid,OK,-,?")) "refused,8,2" ∷
     secondBytes (bytes goodText ++ (CR ∷ bytes goodText)) "refused,8,2" ∷
     secondBytes (bytes goodText ++ (LF ∷ bytes goodText)) "refused,8,2" ∷
     secondBytes (bytes goodText ++ (LF ∷ CR ∷ bytes goodText)) "refused,8,2" ∷
-    -- a bad line behind a good one: the good one's answer stands, and nothing follows
+    -- a bad line after a good one: the good one's output stands, and nothing follows the refusal
     given (page (headerText ∷ goodText ∷ "" ∷ goodText ∷ [])) (goodAnswer ∷ "refused,8,3" ∷ []) ∷
-    -- two pairs: the second starts from all seven states too
+    -- two pairs: the second one starts with all seven states too
     given (page (headerText ∷ "0,SnpClean,0,0,0,?,SnpResp_SC,Invalid,DERR,-,?" ∷ "1,SnpShared,0,0,0,Invalid,SnpRespData_SC_PD,Invalid,OK,-,?" ∷ []))
     ("0,unexplained,none," ∷ "1,explained,Home,I SC" ∷ []) ∷
-    -- the last CR LF absent: the line is answered
+    -- without its CR LF, the last line is answered all the same
     given (page (headerText ∷ []) ++ bytes goodText) (goodAnswer ∷ []) ∷
     []
 
--- the output is the one that is said
+-- the output is as the case says
 abbrev pub asSaid : Case → Bool
 asSaid c = same (sheetOut (c .input)) (c .output)

@@ -1,4 +1,4 @@
--- Laws of what the walk's own parts compute, each over plain variables.
+-- Laws about what the functions of the loop compute, over plain variables.
 -- Assumes nothing.
 use mathlib.Core.Path.{_≡_, refl, sym, _∙_, ap, ap₂, subst⁻¹}
 use mathlib.Core.Bool.{Bool, true, false, cond, not, _&&_, false≢true}
@@ -29,11 +29,11 @@ use Rattle.steps.specs.declared.Row as code
 use Rattle.kinds.specs.declared.Forward.{Forward}
 use Rattle.kinds.specs.Answers.{forwardAt}
 
--- the sets of the states after that were seen, as the code has them: the seven states one by one, and all of them
+-- the code's sets of possible states after, by byte 13: each state by itself, and all seven for 7
 abbrev weights : List ℕ
 weights = 1 ∷ 2 ∷ 4 ∷ 8 ∷ 16 ∷ 32 ∷ 64 ∷ allStates ∷ []
 
--- the set of the states after that were seen: by one of the seven, by 7 for not seen, by no other number
+-- element n of that list is the set of the states after that the event may have
 pub seen-at : (n : ℕ) → n < 8 → getD weights n 0 ≡ setOf (seen stateNotSeen n)
 unfolding setOf
 seen-at n h = go (ltb n 7) refl
@@ -59,15 +59,15 @@ seen-past n h =
       ne-eqb n 6 (omega arith),
     )
 
--- a column past the last table's number
+-- a table number above 3 is NDERR's
 pub table-else : (n : ℕ) → (n ≡ 0 → ⊥) → (n ≡ 1 → ⊥) → (n ≡ 2 → ⊥) → (n ≡ 3 → ⊥) → NdErr ≡ tableAt n
 table-else n a b c d = simp (ne-eqb n 0 a, ne-eqb n 1 b, ne-eqb n 2 c, ne-eqb n 3 d)
 
--- the answer of a column, by its message
+-- a message number above 1 is SnpRespDataPtl's
 pub answer-else : (m r f : ℕ) → (m ≡ 0 → ⊥) → (m ≡ 1 → ⊥) → SnpRespDataPtl (record { 0 = r }) ≡ answerAt m r f
 answer-else m r f a b = simp (ne-eqb m 0 a, ne-eqb m 1 b)
 
--- one byte more is read
+-- reading one more byte
 bytes-snoc : (e : List ℕ) (i n : ℕ) → bytesFrom e i (suc n) ≡ bytesFrom e i n ++ (byte e (i + n) ∷ [])
 bytes-snoc e i zero = ap (λ (k : ℕ). byte e k ∷ []) (sym (add-zero i))
 bytes-snoc e i (suc n) = ap (λ (l : List ℕ). byte e i ∷ l) (bytes-snoc e (suc i) n ∙ ap (λ (k : ℕ). bytesFrom e (suc i) n ++ (byte e k ∷ [])) (suc-add i n ∙ sym (add-suc i n)))
@@ -79,13 +79,13 @@ bytes-turn e bytes i b h p q =
     ∙ ap₂ (λ (l : List ℕ) (x : ℕ). l ++ (x ∷ [])) q (p ∙ ap (byte e) (sym (zero-add i)))
     ∙ sym (ap (bytesFrom e 0) (add-one i) ∙ bytes-snoc e 0 i)
 
--- all bytes are read
+-- after 14 bytes, all bytes are read
 pub bytes-end : (e bytes : List ℕ) (i : ℕ) → length bytes ≡ eventLength → eventLength ≤ i → i ≤ eventLength → take i bytes ≡ bytesFrom e 0 i → bytes ≡ eventBytes e
 bytes-end e bytes i h k l q =
     let is : i ≡ eventLength = omega arith in
     sym (take-all i bytes (omega arith)) ∙ q ∙ ap (bytesFrom e 0) is
 
--- a row by its columns
+-- a row read column by column is the row that the word encodes
 pub row-parts : (w t b m r f ret : ℕ) (T : Table) (a : Answer) → t ≡ columnAt w at-table → T ≡ tableAt t → b ≡ columnAt w at-before → m ≡ columnAt w at-message
     → r ≡ columnAt w at-resp → f ≡ columnAt w at-fwd → a ≡ answerAt m r f → ret ≡ columnAt w at-ret
     → _≡_ {A = code.Row} (record { table = T; before = record { 0 = b }; ret = ret; answer = a; finals = w % mark; marked = eqb (w / mark % 2) 1 }) (rowAt w)
@@ -104,7 +104,7 @@ answer-rsp m r f g h k = ap (SnpResp (record { 0 = r })) k ∙ sym (ap (λ (n : 
 pub answer-dat : (m r f : ℕ) (g : Forward) → m ≡ 1 → g ≡ forwardAt f → SnpRespData (record { 0 = r }) g ≡ answerAt m r f
 answer-dat m r f g h k = ap (SnpRespData (record { 0 = r })) k ∙ sym (ap (λ (n : ℕ). answerAt n r f) h)
 
--- the snoop first, then the rest
+-- `row_fits` tests the snoop first, and then the answer and the tags
 pub fits-none : (e : List ℕ) (r : code.Row) (b : Bool) → b ≡ asked e (r .table) (r .ret) (r .marked) → not b ≡ true → false ≡ rowFits e r
 unfolding rowFits
 fits-none e r true h k = absurd (false≢true k)
@@ -133,11 +133,11 @@ fits-rest e r false x y h k p q = absurd (false≢true (sym k))
 pub two-choices : (s t : Bool) (a b d x r : ℕ) → x ≡ cond t b d → r ≡ cond s a x → r ≡ cond s a (cond t b d)
 two-choices s t a b d x r h k = k ∙ ap (cond s a) h
 
--- what the row adds, by whether it fits
+-- `row_adds` computes rowAdds
 pub adds : (e : List ℕ) (among : ℕ) (r : code.Row) (b : Bool) (v : ℕ) → b ≡ rowFits e r → v ≡ cond b (bitAnd (r .finals) among) 0 → v ≡ rowAdds e among r
 adds e among r b v h k = k ∙ ap (λ (x : Bool). cond x (bitAnd (r .finals) among) 0) h
 
--- the duty, each choice from the one before
+-- the choices of `duty`, each from the one before
 pub duty-by : (e : List ℕ) (before r f x : ℕ) (home requester held : Bool) (d₁ d₂ d : ℕ) → r ≡ respOf e → home ≡ respPD r → f ≡ fwdStateOf e → requester ≡ fwdPD f
     → x ≡ respErrOf e → held ≡ holdsDirty before → d₁ ≡ cond (eqb x NDERR && held) lost noDuty → d₂ ≡ cond requester Requester d₁ → d ≡ cond home Home d₂ → d ≡ duty e before
 unfolding duty
@@ -148,7 +148,7 @@ duty-by e before r f x home requester held d₁ d₂ d hr hh hf hq hx hs h₁ h�
     ∙ ap₂ (λ (b : Bool) (n : ℕ). cond b Requester n) (hq ∙ ap fwdPD hf)
     (h₁ ∙ ap₂ (λ (n : ℕ) (b : Bool). cond (eqb n NDERR && b) lost noDuty) hx hs))
 
--- the upper columns, from those of the tables and the message
+-- the key of the event, from its table part and its message part
 pub key-by : (e : List ℕ) (tables message key : ℕ) → tables ≡ tablesOf (requestOf e) (respErrOf e) → message ≡ messageOf (channelOf e) (opcodeOf e)
     → key ≡ rowKey tables message (respOf e) (fwdStateOf e) → key ≡ eventKey e
 unfolding wireKey

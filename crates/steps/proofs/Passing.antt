@@ -1,4 +1,4 @@
--- Rows that are passed over unread: a word with other upper columns than the event's adds nothing to the sets.
+-- Skipped rows: a word whose key differs from the event's adds nothing to the sets.
 -- Assumes nothing.
 use mathlib.Core.Path.{_≡_, refl, sym, _∙_, ap, ap₂}
 use mathlib.Core.Bool.{Bool, true, false, cond, _&&_}
@@ -24,7 +24,7 @@ use Rattle.steps.specs.declared.Row as code
 use Rattle.steps.specs.Code.{rowCount, at-key, rowAt, eventBytes, rowFits, rowAdds, withRow, tablesIf, tablesOf, wireKey, eventKey}
 use Rattle.steps.proofs.Walk.{half, keyed, Printed, walked, walk-turn}
 
--- what holds of every word holds of word i, and past the end of 0
+-- a test that all words and 0 pass is passed by word i, and by 0 past the end
 all-getD : (p : ℕ → Bool) (ws : List ℕ) (i : ℕ) → p 0 ≡ true → all p ws ≡ true → p (getD ws i 0) ≡ true
 all-getD p [] i z h = z
 all-getD p (w ∷ ws) zero z h = and-left (p w) (all p ws) h
@@ -34,12 +34,12 @@ keyed-zero : keyed 0 ≡ true
 unfolding keyed rowAt wireKey half
 keyed-zero = refl
 
--- the upper columns of a word
+-- the key of a word
 word-key : (w : ℕ) → keyed w ≡ true → w / 2 ^ at-key ≡ wireKey (half (rowAt w .table)) (wire (rowAt w .answer))
 unfolding keyed
 word-key w h = eqb-true (w / 2 ^ at-key) (wireKey (half (rowAt w .table)) (wire (rowAt w .answer))) h
 
--- the tables are those of the request and the error
+-- the key's table part is that of the request and the RespErr
 tables-half : (e : List ℕ) (T : Table) → requestOf e ∈? rulesOf T .asks ≡ true → eqb (respErrOf e) NDERR ≡ isNdErr T → tablesOf (requestOf e) (respErrOf e) ≡ half T
 unfolding half isNdErr
 tables-half e T h k =
@@ -53,7 +53,7 @@ tables-half e T h k =
     each B60 = refl
     each NdErr = refl
 
--- a row that fits has the event's upper columns
+-- a row that fits has the event's key
 fits-key : (e : List ℕ) (r : code.Row) → rowFits e r ≡ true → wireKey (half (r .table)) (wire (r .answer)) ≡ eventKey e
 unfolding rowFits
 fits-key e r h =
@@ -66,7 +66,7 @@ fits-key e r h =
     let asks = asked-so e T (r .ret) (r .marked) (and-right d c dc) in
     sym (ap₂ wireKey (tables-half e T (asks .request) (says .nderr)) (says .shown))
 
--- a row with other upper columns doesn't fit
+-- a row with another key does not fit
 none-fits : (e : List ℕ) (r : code.Row) (n : ℕ) → n ≡ wireKey (half (r .table)) (wire (r .answer)) → (n ≡ eventKey e → ⊥) → rowFits e r ≡ false
 none-fits e r n h k = go (rowFits e r) refl
   where
@@ -74,7 +74,7 @@ none-fits e r n h k = go (rowFits e r) refl
     go true s = absurd (k (h ∙ fits-key e r s))
     go false s = s
 
--- a row that doesn't fit adds nothing
+-- a row that does not fit adds nothing
 none-added : (e : List ℕ) (among : ℕ) (r : code.Row) (sets : List ℕ) → rowFits e r ≡ false → withRow e among r sets ≡ sets
 unfolding withRow
 none-added e among r sets h =
@@ -82,7 +82,7 @@ none-added e among r sets h =
     ∙ ap (set sets (r .before .0)) (or-zero-r (getD sets (r .before .0) 0))
     ∙ set-getD sets (r .before .0) 0
 
--- a turn of the walk that passes its row over
+-- one iteration of the loop that skips its row
 pub pass-turn : (e : List ℕ) {ws : List ℕ} (i : ℕ) (b : List ℕ) (among key : ℕ) (sets : List ℕ)
     → Printed ws → i < rowCount → b ≡ eventBytes e → among ≡ setOf (seen stateNotSeen (stateAfterOf b)) → key ≡ eventKey b
     → (getD ws i 0 / 2 ^ at-key ≡ key → ⊥) → sets ≡ walked (eventBytes e) (take i rows) → sets ≡ walked (eventBytes e) (take (i + 1) rows)
@@ -91,7 +91,7 @@ pass-turn e {ws} i b among key sets h l hb ha hk n hs =
     let other = none-fits b (rowAt w) (w / 2 ^ at-key) (word-key w (all-getD keyed ws i keyed-zero (h .keys))) (λ x. n (x ∙ sym hk)) in
     walk-turn e i b among (rowAt w) sets sets h l hb ha refl hs (sym (none-added b among (rowAt w) sets other))
 
--- a turn of the walk that adds its row
+-- one iteration of the loop that adds its row
 pub add-turn : (e : List ℕ) {ws : List ℕ} (i : ℕ) (b : List ℕ) (among : ℕ) (r : code.Row) (sets : List ℕ) (more : ℕ)
     → Printed ws → i < rowCount → b ≡ eventBytes e → among ≡ setOf (seen stateNotSeen (stateAfterOf b)) → r ≡ rowAt (getD ws i 0)
     → sets ≡ walked (eventBytes e) (take i rows) → more ≡ rowAdds b among r

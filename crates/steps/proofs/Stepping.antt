@@ -1,4 +1,4 @@
--- The test of a step is the step, both ways, and a step stays among the seven states.
+-- The test `steps` and the record `Step` agree in both directions, and a step stays among the seven states.
 -- Assumes nothing.
 use mathlib.Core.Path.{_≡_, refl, sym, _∙_, ap, subst}
 use mathlib.Core.Bool.{Bool, true, _&&_}
@@ -68,7 +68,7 @@ permitted-after e t s s′ h =
     subst (λ (n : ℕ). n < 7) (sym (eqb-true s′ (f .one) (f .passes)))
     (ltb-true (f .one) 7 (all-at (λ n. ltb n 7) (and-right (ltb (r .before) 7) (all (λ n. ltb n 7) (r .finals)) (by-rows among-states all-among q)) (f .inside)))
 
--- the set of states after holds exactly the states that a step leads to
+-- the set of states after holds exactly the states to which the event is a step
 pub in-set-step : (e : List ℕ) (s s′ : ℕ) → s < 7 → s′ < 7 → bit (getD (setsAfter e) s 0) s′ ≡ true → Step e s s′
 unfolding setAfter
 in-set-step e s s′ h k b = steps-step e s s′ (sym (ap (λ (m : ℕ). bit m s′) (at-state (setAfter e) s h) ∙ bit-setOf (steps e s) s′ k) ∙ b)

@@ -1,4 +1,4 @@
--- The walk along the rows: what each row adds to the seven sets, and that after all of them they are the sets of the steps.
+-- The loop over the rows: what each row adds to the seven sets, and that in the end they are the sets of the steps.
 -- Assumes nothing.
 use mathlib.Core.Path.{_≡_, refl, sym, _∙_, ap, ap₂, subst, fun-ext}
 use mathlib.Core.Bool.{Bool, true, false, cond, _&&_, _||_}
@@ -28,11 +28,11 @@ use Rattle.steps.specs.Steps.{steps, setAfter, setsAfter}
 use Rattle.rows.proofs.ByRows.{Permits, permitted-row, row-permitted}
 use Rattle.steps.specs.Code.{codeOf, rowCount, at-key, rowAt, eventBytes, rowFits, withRow, wireKey}
 
--- the row leads from s to s′, under some tag state and with a state after that was seen
+-- the row leads from s to s′, with some tag state that the event may have and a state after that it may have
 by : List ℕ → ℕ → ℕ → Row → Bool
 by e s s′ r = eqb s (r .before) && rowFits e (codeOf r) && ((s′ ∈? r .finals) && seen stateNotSeen (stateAfterOf e) s′)
 
--- where some of the rows lead from s
+-- the set of states to which some of the rows lead from s
 reach : List ℕ → List Row → ℕ → ℕ
 reach e rs s = setOf (λ s′. any (by e s s′) rs)
 
@@ -40,7 +40,7 @@ reach e rs s = setOf (λ s′. any (by e s s′) rs)
 pub walked : List ℕ → List Row → List ℕ
 walked e rs = map (reach e rs) states
 
--- one of the seven changed
+-- one of the seven sets changed
 set-state : (f g : ℕ → ℕ) (b v : ℕ) → b < 7 → v ≡ g b → ((s : ℕ) → s ≢ b → f s ≡ g s) → set (map f states) b v ≡ map g states
 set-state f g b v h p q = ext-getD 0 (set (map f states) b v) (map g states) (length-set (map f states) b v) each
   where
@@ -57,7 +57,7 @@ set-state f g b v h p q = ext-getD 0 (set (map f states) b v) (map g states) (le
         go false k =
             getD-set-other (map f states) b i v 0 (eqb-false i b k) ∙ at-state f i small ∙ q i (eqb-false i b k) ∙ sym (at-state g i small)
 
--- what a row adds to one of the seven
+-- what a row adds to one of the seven sets
 added : (e : List ℕ) (rs : List Row) (r : Row) (s : ℕ)
     → bitOr (reach e rs s) (cond (eqb s (r .before) && rowFits e (codeOf r)) (bitAnd (setOf (λ n. n ∈? r .finals)) (setOf (seen stateNotSeen (stateAfterOf e)))) 0)
     ≡ reach e (rs ++ (r ∷ [])) s
@@ -76,7 +76,7 @@ added e rs r s =
     q : ℕ → Bool
     q n = seen stateNotSeen (stateAfterOf e) n
 
--- one row more
+-- one more row
 pub walk-one : (e : List ℕ) (rs : List Row) (r : Row) → r .before < 7
     → withRow e (setOf (seen stateNotSeen (stateAfterOf e))) (codeOf r) (walked e rs) ≡ walked e (rs ++ (r ∷ []))
 unfolding walked withRow
@@ -94,12 +94,12 @@ walk-one e rs r h = set-state (reach e rs) (reach e (rs ++ (r ∷ []))) (r .befo
     elsewhere : (s : ℕ) → s ≢ r .before → bitOr (reach e rs s) 0 ≡ reach e (rs ++ (r ∷ [])) s
     elsewhere s n = ap (λ (t : Bool). bitOr (reach e rs s) (cond (t && rowFits e (codeOf r)) more 0)) (sym (ne-eqb s (r .before) n)) ∙ added e rs r s
 
--- the code reads an event's own bytes and no others
+-- the copied bytes and the event itself give the same answers
 same-bytes : (e : List ℕ) (s s′ : ℕ) (r : Row) → by (eventBytes e) s s′ r ≡ by e s s′ r
 unfolding by rowFits asked answered someTag tagged
 same-bytes e s s′ r = refl
 
--- what `by` says of a row, part by part
+-- what `by` means, part by part
 record Leads (e : List ℕ) (s s′ : ℕ) (r : Row) : Type 0 where
   from : eqb s (r .before) ≡ true
   is-answered : answered e (r .table) (r .answer) ≡ true
@@ -131,7 +131,7 @@ leads e s s′ r h =
       saw = and-right m v mv;
     }
 
--- a row leads there exactly when a step does
+-- some row leads from s to s′ exactly when the event is a step from s to s′
 row-step : (e : List ℕ) (s s′ : ℕ) → any (by e s s′) rows ≡ true → steps e s s′ ≡ true
 unfolding steps someTag
 row-step e s s′ h =
@@ -161,7 +161,7 @@ step-row e s s′ h =
     found-any (by e s s′) (p .inside)
     (and-both (and-both (p .from) (and-both (and-both (p .is-answered) (p .is-asked)) some)) (and-both (p .to) (and-right step last h)))
 
--- after all the rows the seven sets are the sets of the steps
+-- after all rows the seven sets are the sets of the steps
 pub walk-all : (e : List ℕ) → walked (eventBytes e) rows ≡ setsAfter e
 unfolding walked reach setAfter
 walk-all e = ap (λ (f : ℕ → ℕ). map f states) (fun-ext each)
@@ -173,12 +173,12 @@ walk-all e = ap (λ (f : ℕ → ℕ). map f states) (fun-ext each)
         ap (λ (f : Row → Bool). any f rows) (fun-ext (same-bytes e s s′))
         ∙ same-truth (any (by e s s′) rows) (steps e s s′) (row-step e s s′) (step-row e s s′))
 
--- before any row the seven sets are empty
+-- before the first row the seven sets are empty
 pub walk-none : (e : List ℕ) → 0 ∷ 0 ∷ 0 ∷ 0 ∷ 0 ∷ 0 ∷ 0 ∷ [] ≡ walked e []
 unfolding walked reach setOf
 walk-none e = refl
 
--- an element of a list stands in it
+-- element i of a list is in the list
 getD-In : {A : Type 0} (d : A) (xs : List A) (i : ℕ) → i < length xs → In (getD xs i d) xs
 getD-In d [] i h = absurd (not-suc-le-zero h)
 getD-In d (x ∷ xs) zero h = here
@@ -192,7 +192,7 @@ states-before : all (λ r. ltb (r .before) 7) rows ≡ true
 unfolding rows
 states-before = refl
 
--- stands past the end of the printed rows, as the word 0 past the end of the code's
+-- the row past the end, which the word 0 past the end stands for
 no-row : Row
 no-row = row B46 I [] 0 SnpResp-I
 
@@ -200,7 +200,7 @@ no-word : codeOf no-row ≡ rowAt 0
 unfolding no-row rowAt setOf
 no-word = refl
 
--- the column of a table, halved
+-- the key's table part, by table
 unfoldable pub half : Table → ℕ
 half B46 = 0
 half B57 = 0
@@ -208,16 +208,16 @@ half B59 = 1
 half B60 = 1
 half NdErr = 2
 
--- the upper columns of a word are its table's and its answer's
+-- the key of a word is that of its table and answer
 unfoldable pub keyed : ℕ → Bool
 keyed w = eqb (w / 2 ^ at-key) (wireKey (half (rowAt w .table)) (wire (rowAt w .answer)))
 
--- the code's table is the printed one, and the upper columns of each word are as they should be
+-- the code's words encode the printed rows, and each word's key is right
 pub record Printed (ws : List ℕ) : Type 0 where
   pub same : map rowAt ws ≡ map codeOf rows
   pub keys : all keyed ws ≡ true
 
--- word i stands for row i
+-- word i encodes row i
 word-row : {ws : List ℕ} (i : ℕ) → Printed ws → rowAt (getD ws i 0) ≡ codeOf (getD rows i no-row)
 word-row {ws} i h =
     sym (List·getD-map rowAt ws i 0)
@@ -231,7 +231,7 @@ word-before i r h l k =
     subst (λ (x : code.Row). x .before .0 < 7) (sym (k ∙ word-row i h))
     (ltb-true (getD rows i no-row .before) 7 (all-at (λ x. ltb (x .before) 7) states-before (getD-In no-row rows i (subst (λ (n : ℕ). i < n) (sym rows-counted) l))))
 
--- a turn of the walk
+-- one iteration of the loop
 pub walk-turn : (e : List ℕ) {ws : List ℕ} (i : ℕ) (b : List ℕ) (among : ℕ) (r : code.Row) (sets next : List ℕ)
     → Printed ws → i < rowCount → b ≡ eventBytes e → among ≡ setOf (seen stateNotSeen (stateAfterOf b)) → r ≡ rowAt (getD ws i 0)
     → sets ≡ walked (eventBytes e) (take i rows) → next ≡ withRow b among r sets → next ≡ walked (eventBytes e) (take (i + 1) rows)
@@ -250,6 +250,6 @@ walk-turn e i b among r sets next h l hb ha hr hs hn =
         ∙ ap (λ (x : List ℕ). withRow x (setOf (seen stateNotSeen (stateAfterOf (eventBytes e)))) r sets) hb
         ∙ ap₂ (withRow (eventBytes e) (setOf (seen stateNotSeen (stateAfterOf (eventBytes e))))) (hr ∙ word-row i h) hs
 
--- the walk is over
+-- the end of the loop
 pub walk-end : (e : List ℕ) (i : ℕ) (sets : List ℕ) → rowCount ≤ i → sets ≡ walked (eventBytes e) (take i rows) → sets ≡ setsAfter e
 walk-end e i sets h k = k ∙ ap (walked (eventBytes e)) (take-all i rows (subst (λ (n : ℕ). n ≤ i) (sym rows-counted) h)) ∙ walk-all e

@@ -1,4 +1,4 @@
-// What one event can do to a line: the walk along the rows to the states after, and the duty.
+// What one event can do to a line: the states after, found in one loop over the rows, and the duty (definition 6).
 use kinds::ALL_STATES;
 use kinds::Answer;
 use kinds::Channel;
@@ -24,7 +24,7 @@ ghost use Rattle.steps.specs.Code.{tablesOf, messageOf, rowKey, eventKey
 
 mod printed;
 
-// A row: its table, state before, RetToSrc or X, answer, set of states after, and whether DoNotGoToSD forbids it.
+// A row: `ret` is RetToSrc or X, `finals` is the set of states after, and `marked` is the star (definition 5.1, 5.7).
 pub struct Row {
     pub table: Table,
     pub before: LineState,
@@ -34,7 +34,7 @@ pub struct Row {
     pub marked: bool,
 }
 
-// The column at a place of a word.
+// The column of a word that starts at bit `place`.
 fn column(word: u32, place: u32) -> u8
     requires { ⌜ place < 32 ⌝ }
     ensures { λ r. ⌜ r ≡ columnAt word place ⌝ }
@@ -42,7 +42,7 @@ fn column(word: u32, place: u32) -> u8
     ((word >> place) % printed::COLUMN) as u8
 }
 
-// The table of a column.
+// The table with this number in its column.
 fn table_of(number: u8) -> Table
     ensures { λ r. ⌜ r ≡ tableAt number ⌝ }
 {
@@ -55,7 +55,7 @@ fn table_of(number: u8) -> Table
     }
 }
 
-// The answer, by its columns.
+// The answer, from its three columns.
 fn answer_of(message: u8, resp: u8, state: u8) -> Answer
     ensures { λ r. ⌜ r ≡ answerAt message resp state ⌝ }
 {
@@ -67,7 +67,7 @@ fn answer_of(message: u8, resp: u8, state: u8) -> Answer
     }
 }
 
-// The row that a word stands for.
+// The row that a word encodes.
 fn row_of(word: u32) -> Row
     ensures { λ r. ⌜ r ≡ rowAt word ⌝ }
 {
@@ -87,7 +87,7 @@ fn row_of(word: u32) -> Row
     }
 }
 
-// Whether the row is the event's, whatever the state before.
+// Whether the row permits the event, from the row's own state before.
 fn row_fits(e: &[u8; EVENT_BYTES], row: Row) -> bool
     ensures { λ r. ⌜ r ≡ rowFits (now (e .entry)) row ⌝ }
 {
@@ -100,14 +100,14 @@ fn row_fits(e: &[u8; EVENT_BYTES], row: Row) -> bool
     rows::answered(e, table, answer) & rows::some_tag(e, table, before, answer)
 }
 
-// What the row adds to the set of its state before.
+// The states that the row adds to the set of its state before.
 fn row_adds(e: &[u8; EVENT_BYTES], among: u8, row: Row) -> u8
     ensures { λ r. ⌜ r ≡ rowAdds (now (e .entry)) among row ⌝ }
 {
     kinds::choose_byte(row_fits(e, row), row.finals & among, 0)
 }
 
-// The set of the states after that were seen: one, or all where it wasn't seen.
+// The states after that the event may have, as a set: the one that was seen, or all if none was seen.
 fn seen_states(shown: LineState) -> u8
     ensures { λ r. ⌜ r ≡ setOf (seen stateNotSeen (shown .0)) ⌝ }
 {
@@ -116,7 +116,7 @@ fn seen_states(shown: LineState) -> u8
     if at < 8 { weights[at] } else { 0 }
 }
 
-// An event's bytes, read once where they lie so that the walk along the rows doesn't ask for the slice's length again.
+// A copy of the event's 14 bytes, so that the loop over the rows does not check the slice's length again.
 fn event_bytes(event: &[u8]) -> [u8; EVENT_BYTES]
     ensures { λ r. ⌜ r ≡ eventBytes (now (event .entry)) ⌝ }
 {
@@ -130,7 +130,7 @@ fn event_bytes(event: &[u8]) -> [u8; EVENT_BYTES]
     bytes
 }
 
-// The column of the table, halved: B4.59 and B4.60 are for SnpPreferUniqueFwd, and NDERR has rows of its own.
+// The key's table part: the table's number halved. B4.59 and B4.60 share one value, and NDERR has its own.
 fn tables_of(request: u8, error: u8) -> u8
     ensures { λ r. ⌜ r ≡ tablesOf request error ⌝ }
 {
@@ -138,7 +138,7 @@ fn tables_of(request: u8, error: u8) -> u8
     kinds::choose_byte(error == RespErr::NDERR.0, 2, printed)
 }
 
-// The column of the message.
+// The key's message part.
 fn message_of(channel: u8, opcode: u8) -> u8
     ensures { λ r. ⌜ r ≡ messageOf channel opcode ⌝ }
 {
@@ -146,7 +146,7 @@ fn message_of(channel: u8, opcode: u8) -> u8
     kinds::choose_byte(channel == Channel::RSP.0, 0, data)
 }
 
-// The upper columns of a row's word as one number.
+// The key of a row: the upper bits of its word, from KEY_AT on.
 fn row_key(tables: u8, message: u8, resp: u8, forward: u8) -> u32
     ensures { λ r. ⌜ r ≡ rowKey tables message resp forward ⌝ }
 {
@@ -156,7 +156,7 @@ fn row_key(tables: u8, message: u8, resp: u8, forward: u8) -> u32
         + printed::MESSAGE_WEIGHT * message as u32
 }
 
-// The upper columns that a row of the event has, so that every other row is passed over unread.
+// The key of the event. Rows with another key are skipped.
 fn event_key(e: &[u8; EVENT_BYTES]) -> u32
     ensures { λ r. ⌜ r ≡ eventKey (now (e .entry)) ⌝ }
 {
@@ -165,7 +165,7 @@ fn event_key(e: &[u8; EVENT_BYTES]) -> u32
     row_key(tables, message, e[place::RESP], e[place::FWD_STATE])
 }
 
-// For each of the seven states before, the set of states after.
+// For each of the seven states before, the set of states after (definition 6.2).
 pub fn sets_after(event: &[u8]) -> [u8; 7]
     ensures { λ r. ⌜ r ≡ setsAfter (now (event .entry)) ⌝ }
 {
@@ -190,7 +190,7 @@ pub fn sets_after(event: &[u8]) -> [u8; 7]
     sets
 }
 
-// The duty byte of an event that is explained, from the set before.
+// The duty byte of an explained event, given the set before (definition 6.3).
 pub fn duty(event: &[u8], before: u8) -> Duty
     ensures { λ r. ⌜ r .0 ≡ duty (now (event .entry)) before ⌝ }
 {

@@ -1,9 +1,9 @@
-// The table that the judge walks: one line a printed row, in the printed order. A row is a word, the sum of its columns.
+// The rows as the judge reads them: one line per printed row, in the printed order. A row is a word, the sum of its columns.
 use kinds::FwdState;
 use kinds::LineState;
 use kinds::Resp;
 
-// Where the columns stand in a word, four bits each; the set of states after lies below them all.
+// The bit at which each column starts. A column has four bits, and the set of states after lies below them all.
 pub const BEFORE_AT: u32 = 8;
 
 pub const RET_AT: u32 = 12;
@@ -16,10 +16,10 @@ pub const FWD_AT: u32 = 24;
 
 pub const MESSAGE_AT: u32 = 28;
 
-// A column is below this.
+// One more than the highest value of a column.
 pub const COLUMN: u32 = 16;
 
-// From here up lie the columns of table (but for its lowest bit), Resp, FwdState and message, and what each weighs there.
+// The key starts at this bit: table (without its lowest bit), Resp, FwdState and message. The weights are those columns' places in it.
 pub const KEY_AT: u32 = TABLE_AT + 1;
 
 pub const RESP_WEIGHT: u32 = 1 << (RESP_AT - KEY_AT);
@@ -28,7 +28,7 @@ pub const FWD_WEIGHT: u32 = 1 << (FWD_AT - KEY_AT);
 
 pub const MESSAGE_WEIGHT: u32 = 1 << (MESSAGE_AT - KEY_AT);
 
-// The table.
+// The tables.
 const B46: u32 = 0 << TABLE_AT;
 
 const B57: u32 = 1 << TABLE_AT;
@@ -39,7 +39,7 @@ const B60: u32 = 3 << TABLE_AT;
 
 const ND_ERR: u32 = 4 << TABLE_AT;
 
-// The state before.
+// The states before.
 const I: u32 = (LineState::I.0 as u32) << BEFORE_AT;
 
 const UC: u32 = (LineState::UC.0 as u32) << BEFORE_AT;
@@ -54,7 +54,7 @@ const SC: u32 = (LineState::SC.0 as u32) << BEFORE_AT;
 
 const SD: u32 = (LineState::SD.0 as u32) << BEFORE_AT;
 
-// The set of states after, by weight.
+// The sets of states after.
 const TO_I: u32 = 1;
 
 const TO_SC: u32 = 32;
@@ -63,17 +63,17 @@ const SC_OR_I: u32 = 33;
 
 const TO_SD: u32 = 64;
 
-// DoNotGoToSD forbids the row. Below it lies the set of states after.
+// The star: DoNotGoToSD forbids the row. The set of states after lies below this bit.
 pub const MARK: u32 = 128;
 
-// RetToSrc: 0, 1, or it doesn't matter.
+// RetToSrc: 0, 1, or X for both.
 const RET_0: u32 = 0;
 
 const RET_1: u32 = 1 << RET_AT;
 
 const X: u32 = 2 << RET_AT;
 
-// The answer: its message, its Resp, and the state of what it forwards.
+// The parts of an answer: message, Resp, and FwdState.
 const SNP_RESP: u32 = 0;
 
 const SNP_RESP_DATA: u32 = 1 << MESSAGE_AT;
@@ -98,7 +98,7 @@ const FWDED_UD_PD: u32 = (FwdState::UD_PD.0 as u32) << FWD_AT;
 
 const FWDED_SD_PD: u32 = (FwdState::SD_PD.0 as u32) << FWD_AT;
 
-// The answers by their names in the tables.
+// The answers under their names in the tables (definition 2.8).
 const SnpResp_I: u32 = SNP_RESP + RESP_I;
 
 const SnpResp_SC: u32 = SNP_RESP + RESP_SC;
@@ -143,9 +143,10 @@ const SnpRespData_I_Fwded_SD_PD: u32 = SNP_RESP_DATA + RESP_I + FWDED_SD_PD;
 
 const SnpRespData_I_PD_Fwded_SC: u32 = SNP_RESP_DATA + RESP_I_PD + FWDED_SC;
 
-// How many rows there are: 66 printed, and NDERR's for each state.
+// The number of rows: 66 printed ones, and one for NDERR from each state.
 pub const ROW_COUNT: usize = 73;
 
+// All rows, as in specs/Rows.antt of the crate rows.
 pub const ROWS: [u32; ROW_COUNT] = [
     // Table B4.46: SnpClean, SnpShared, SnpNotSharedDirty and SnpPreferUnique
     B46 + I + TO_I + X + SnpResp_I,
@@ -193,7 +194,7 @@ pub const ROWS: [u32; ROW_COUNT] = [
     B57 + SD + TO_I + RET_0 + SnpResp_I_Fwded_SD_PD,
     B57 + SD + TO_I + RET_1 + SnpRespData_I_Fwded_SD_PD,
     B57 + SD + TO_I + X + SnpRespData_I_PD_Fwded_SC,
-    // Table B4.59: SnpPreferUniqueFwd, with excl 1, and with excl 0 too
+    // Table B4.59: SnpPreferUniqueFwd with either excl
     B59 + I + TO_I + X + SnpResp_I,
     B59 + UC + TO_SC + RET_0 + SnpResp_SC_Fwded_SC,
     B59 + UC + TO_SC + RET_1 + SnpRespData_SC_Fwded_SC,
@@ -207,7 +208,7 @@ pub const ROWS: [u32; ROW_COUNT] = [
     B59 + SD + TO_SD + RET_0 + SnpResp_SD_Fwded_SC + MARK,
     B59 + SD + TO_SD + RET_1 + SnpRespData_SD_Fwded_SC + MARK,
     B59 + SD + TO_SC + X + SnpRespData_SC_PD_Fwded_SC,
-    // Table B4.60: SnpPreferUniqueFwd, with excl 0 beside B4.59
+    // Table B4.60: SnpPreferUniqueFwd with excl 0, together with B4.59
     B60 + I + TO_I + X + SnpResp_I,
     B60 + UC + TO_I + X + SnpResp_I_Fwded_UC,
     B60 + UCE + TO_I + X + SnpResp_I,
@@ -217,7 +218,7 @@ pub const ROWS: [u32; ROW_COUNT] = [
     B60 + SC + TO_I + X + SnpResp_I_Fwded_UC,
     B60 + SD + TO_I + X + SnpResp_I_Fwded_UD_PD,
     B60 + SD + TO_I + X + SnpRespData_I_PD,
-    // NDERR: its one row, for every state
+    // NDERR: one row, from every state
     ND_ERR + I + TO_I + X + SnpResp_I,
     ND_ERR + UC + TO_I + X + SnpResp_I,
     ND_ERR + UCE + TO_I + X + SnpResp_I,

@@ -1,19 +1,19 @@
--- Text as bytes, and the bytes that part lines and fields.
+-- Text as bytes, and the bytes that separate fields and end lines (definition 8.1, 8.3).
 use Prim.Native.Nat.{ℕ}
 use Prim.Native.Char.{code}
 use Prim.Native.String.{String, [] as empty, _∷_ as _then_}
 use mathlib.Core.List.{List, [], _∷_}
 
--- the bytes of a text, by their ASCII codes
+-- the bytes of a text, as ASCII codes
 abbrev pub bytes : String → List ℕ
 bytes empty = []
 bytes (c then s) = code c ∷ bytes s
 
--- what parts two fields
+-- separates two fields
 abbrev pub comma : ℕ
 comma = 44
 
--- carriage return and line feed: the two together end a line
+-- CR and LF together end a line
 abbrev pub CR : ℕ
 CR = 13
 

@@ -1,1 +1,1 @@
-// Text as bytes: definitions for the crates of the bench sheet. It has no functions.
+// Text as bytes: definitions for the crates of the bench sheet (definition 8). No functions.

@@ -1,4 +1,4 @@
--- The judge's answer to one event: its number, its sets, and its duty byte for a state before, which is the duty where a step exists and 0 where none does.
+-- The judge's answer to one event: its number, its sets, and its duties: the duty byte if there is a step, and 0 if there is none.
 -- Assumes nothing.
 use mathlib.Core.Path.{_≡_, refl, sym, _∙_, ap, subst}
 use mathlib.Core.Bool.{Bool, true, false, cond}
@@ -21,7 +21,7 @@ pub answer-alone : (e : List ℕ) (b : Bool) → eqb (refusalAlone issueE e) 0 �
 unfolding judgedAlone
 answer-alone e b h = ap (λ (x : Bool). cond x (acceptedAlone e) (refusedAlone (refusalAlone issueE e))) h
 
--- what holds of both answers holds of the one that is given
+-- what holds for both possible answers holds for the answer
 pub by-answer : (e : List ℕ) (P : Judgment → Type 0) → P (acceptedAlone e) → P (refusedAlone (refusalAlone issueE e)) → P (judgedAlone issueE e)
 by-answer e P accepted refused = go (eqb (refusalAlone issueE e) 0) refl
   where
@@ -36,7 +36,7 @@ number-alone e = go (eqb (refusalAlone issueE e) 0) refl
     go true h = ap (λ (j : Judgment). j .refusal .0) (answer-alone e true h) ∙ sym (eqb-true (refusalAlone issueE e) 0 h)
     go false h = ap (λ (j : Judgment). j .refusal .0) (answer-alone e false h)
 
--- what holds of 0 and of every f x holds at each place of a list of them, and past its end
+-- what holds for 0 and for every f x holds for each element of a list of them, and past its end
 pub each-at : (P : ℕ → Type 0) (f : ℕ → ℕ) (xs : List ℕ) → P 0 → ((x : ℕ) → P (f x)) → (s : ℕ) → P (getD (map f xs) s 0)
 each-at P f [] z each s = z
 each-at P f (x ∷ xs) z each zero = each x
@@ -46,7 +46,7 @@ pub set-after-below : (e : List ℕ) (s : ℕ) → setAfter e s < 128
 unfolding setAfter
 set-after-below e s = setOf-below (steps e s)
 
--- a step makes the set after not empty
+-- if there is a step, the set after is not empty
 set-of-step : (e : List ℕ) (s s′ : ℕ) → Step e s s′ → eqb (setAfter e s) 0 ≡ false
 unfolding setAfter
 set-of-step e s s′ p = ne-eqb (setAfter e s) 0 (setOf-holds (steps e s) s′ (permitted-after e (p .tag) s s′ (p .by-rows)) (step-steps e s s′ p))
@@ -56,7 +56,7 @@ duty-of-step e s s′ p =
     at-state (dutyAlone e) s (permitted-before e (p .tag) s s′ (p .by-rows))
     ∙ ap (λ (b : Bool). cond b noDuty (duty e (2 ^ s))) (set-of-step e s s′ p)
 
--- with no step it is empty
+-- if there is no step, the set after is empty
 set-of-none : (e : List ℕ) (s : ℕ) → ((s′ : ℕ) → Step e s s′ → ⊥) → eqb (setAfter e s) 0 ≡ true
 unfolding setAfter
 set-of-none e s none = eq-eqb (setAfter e s) 0 (setOf-empty (steps e s) each)

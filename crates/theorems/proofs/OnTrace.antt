@@ -1,4 +1,4 @@
--- What comes back from an accepted trace, event by event and pair by pair, in terms of the sets that histories leave.
+-- What an accepted trace leaves, event by event and pair by pair, in terms of histories.
 -- Assumes nothing.
 use mathlib.Core.Path.{_≡_, refl, sym, _∙_, ap, subst}
 use mathlib.Core.Logic.{_↔_, _⊎_, ⊎-elim}
@@ -29,11 +29,11 @@ use Rattle.theorems.specs.Duties.{nonDataError, HomeHolds, RequesterHold
 use Rattle.theorems.specs.Traces.{Accepted, verdictAt, dutyAt, afterAt, setAtEnd, pairOf, eventOf, DutySaid, DirtyReaches}
 use Rattle.theorems.proofs.Told.{law, exactly-one, nobody, error-byte, holds-dirty, dirty-held}
 
--- a state of the set of a pair, and a history of that pair that ends in it
+-- a state is in a pair's set exactly when a history of the pair ends in it
 pub set-history : (l : Lent) (p k s : ℕ) → bit (setBefore l p k) s ≡ true ↔ HistoryTo l p k s
 set-history l p k = ends-exact (setIn (l .table) p) (own p (first l k))
 
--- a byte that is a set, read as that set
+-- the same for a byte that is equal to that set
 pub read-set : (l : Lent) (p k s byte : ℕ) → byte ≡ setBefore l p k → bit byte s ≡ true ↔ HistoryTo l p k s
 read-set l p k s byte h = subst (λ m. bit m s ≡ true ↔ HistoryTo l p k s) (sym h) (set-history l p k s)
 
@@ -63,7 +63,7 @@ module _ (l : Lent) (ok : Accepted l) where
   pub after-byte : (k : ℕ) → k < count l → afterAt l k ≡ setBefore l (pairOf l k) (suc k)
   after-byte k h = ap (λ (x : Left). getD (x .afters) k 0) all-left ∙ after-at issueE l good k h
 
-  -- how long each buffer is
+  -- the length of each buffer
   pub lengths : (length (judged issueE l .table) ≡ length (l .table))
       × (length (judged issueE l .verdicts) ≡ count l)
       × (length (judged issueE l .duties) ≡ count l)
@@ -81,13 +81,13 @@ module _ (l : Lent) (ok : Accepted l) where
   pub verdict-row : (k : ℕ) → k < count l → VerdictGiven l k (verdictAt l k)
   verdict-row k h = subst (VerdictGiven l k) (sym (verdicts-left k)) (verdict-given issueE l good k h)
 
-  -- the set of a pair is empty from an unexplained event on
+  -- a pair's set is empty from an unexplained event on
   pub empty-after : (k : ℕ) → k < count l → verdictAt l k ≡ unexplained → (j : ℕ) → k < j → setBefore l (pairOf l k) j ≡ 0
   empty-after k h v j below =
       set-lost l (pairOf l k) (suc k) j below
       (none-ends l (pairOf l k) (suc k) (set-below issueE l good (pairOf l k) (suc k) (pair-in issueE l good k h)) (none-passes (verdict-row k h) v))
 
-  -- an event that nothing reaches isn't judged
+  -- an event that no history reaches is not judged
   pub unreached : (k : ℕ) → k < count l → setBefore l (pairOf l k) k ≡ 0 → verdictAt l k ≡ notJudged
   unreached k h z = verdicts-left k ∙ gives-verdict issueE l good k h (not-reached (λ s. held-some (reached-held l (pairOf l k) k .1 s) z))
 
@@ -104,7 +104,7 @@ module _ (l : Lent) (ok : Accepted l) where
     pub set-byte : afterAt l k ≡ afterSet (eventOf l k) m
     set-byte = ap (λ (x : Left). getD (x .afters) k 0) all-left ∙ byte-at issueE l good afterSet k inside
 
-    -- the duty byte of an explained event, and of any other
+    -- the duty byte of an explained event, and of any other event
     explained-byte : verdictAt l k ≡ explained → dutyAt l k ≡ duty (eventOf l k) m
     explained-byte h = duty-byte ∙ explained-duty (eventOf l k) m (sym verdict-byte ∙ h)
 
@@ -124,7 +124,7 @@ module _ (l : Lent) (ok : Accepted l) where
         came : From (eventOf l k) m s′
         came = record { state = s; inside = set-history l (pairOf l k) k s .1 h; step = p }
 
-    -- DEMAND 2'S CLAUSE in a trace
+    -- DEMAND 2 (definition 1.6) in a trace: exactly one is told
     pub handed-over : (s s′ : ℕ) → HistoryTo l (pairOf l k) k s → Step (eventOf l k) s s′ → dirty s ≡ true → dirty s′ ≡ false → nonDataError (eventOf l k) ≡ false
         → HomeHolds (eventOf l k) (dutyAt l k) ⊎ RequesterHolds (eventOf l k) (dutyAt l k)
     handed-over s s′ h p d d′ n =
@@ -132,7 +132,7 @@ module _ (l : Lent) (ok : Accepted l) where
         (sym (explained-byte (passes-explained s s′ h p)))
         (exactly-one (eventOf l k) (dirty s) (dirty s′) (law (eventOf l k) (p .tag) s s′ (p .by-rows)) d d′ n m)
 
-    -- a non-data error on an explained event: the byte asks whether a history reaches it with a Dirty line
+    -- a non-data error that some history passes: its duty byte is 3 exactly if the set before holds a Dirty state
     error-at : (s s′ : ℕ) → HistoryTo l (pairOf l k) k s → Step (eventOf l k) s s′ → nonDataError (eventOf l k) ≡ true → dutyAt l k ≡ cond (holdsDirty m) lost noDuty
     error-at s s′ h p n = explained-byte (passes-explained s s′ h p) ∙ error-byte (eventOf l k) m (dirty s) (dirty s′) (law (eventOf l k) (p .tag) s s′ (p .by-rows)) n
 
@@ -158,7 +158,7 @@ module _ (l : Lent) (ok : Accepted l) where
         back : DirtyReaches l k → dutyAt l k ≡ lost
         back r = error-at s s′ h p n ∙ ap (λ (x : Bool). cond x lost noDuty) (dirty-before (r .state) (r .history) (r .is-dirty))
 
-    -- nothing told of an explained event: no history gives up a Dirty line there
+    -- a duty byte of 0: no history that passes the event gives up a Dirty line in it
     pub kept-dirty : (s s′ : ℕ) → HistoryTo l (pairOf l k) k s → Step (eventOf l k) s s′ → dutyAt l k ≡ noDuty → dirty s ≡ true → dirty s′ ≡ true
     kept-dirty s s′ h p z d = go (dirty s′) (nonDataError (eventOf l k)) refl refl
       where
@@ -174,7 +174,7 @@ module _ (l : Lent) (ok : Accepted l) where
             (λ w. let wrong : _≡_ {A = ℕ} noDuty Requester = sym z ∙ w .says in absurd (omega arith))
             (handed-over s s′ h p d q r))
 
-    -- a byte of 1 or 2: every history through the event gives up a Dirty line there, without a non-data error
+    -- a duty byte of 1 or 2: every history that passes the event gives up a Dirty line in it, and it is no non-data error
     pub given-up : (s s′ : ℕ) → HistoryTo l (pairOf l k) k s → Step (eventOf l k) s s′ → (dutyAt l k ≡ Home) ⊎ (dutyAt l k ≡ Requester)
         → (dirty s ≡ true) × (dirty s′ ≡ false) × (nonDataError (eventOf l k) ≡ false)
     given-up s s′ h p told = go (dirty s) (dirty s′) (nonDataError (eventOf l k)) refl refl refl

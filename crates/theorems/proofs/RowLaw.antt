@@ -1,4 +1,4 @@
--- The row law: in every permitted step Dirty before is Dirty after, or a duty that leaves, and never two of them.
+-- The row law: in every permitted step, a Dirty line stays Dirty or its duty goes to exactly one place (Home, Requester, or lost).
 -- Assumes nothing.
 use mathlib.Core.Path.{_≡_, refl, sym, _∙_, ap, ap₂}
 use mathlib.Core.Bool.{Bool, true, _&&_}
@@ -20,24 +20,24 @@ use Rattle.rows.specs.Permitted.{permitted}
 use Rattle.rows.proofs.ByRows.{permitted-row, by-rows}
 use Rattle.rows.proofs.Parts.{isNdErr, answered-so}
 
--- what leaves with a step: to Home, to the Requester, or lost, by Resp, FwdState, whether the error is NDERR, and the state before
+-- how many duties leave in a step, by Resp, FwdState, whether RespErr is NDERR, and the state before
 abbrev leaving : ℕ → ℕ → Bool → ℕ → ℕ
 leaving resp fwd nderr s = one (respPD resp) + one (fwdPD fwd) + one (nderr && dirty s)
 
--- what leaves with a step of the row
+-- how many duties leave in a step by this row
 leaves : Row → ℕ
 leaves r = leaving (answerResp (r .answer)) (answerFwd (r .answer)) (isNdErr (r .table)) (r .before)
 
--- Dirty before is Dirty after, or leaves
+-- Dirty before (1 or 0) is Dirty after plus the duties that leave
 keeps : Row → Bool
 keeps r = all (λ s′. eqb (one (dirty (r .before))) (one (dirty s′) + leaves r)) (r .finals)
 
--- one computed fact over all the rows
+-- computed for all rows
 all-keep : all keeps rows ≡ true
 unfolding rows keeps leaves isNdErr
 all-keep = refl
 
--- Dirty before is Dirty after, or the duty that is told to Home, told to the Requester, or lost
+-- Dirty before is Dirty after plus the duties that leave: told to Home, told to the Requester, or lost
 pub row-law : (e : List ℕ) (t s s′ : ℕ) → permitted e t s s′ ≡ true
     → one (dirty s) ≡ one (dirty s′) + (one (respPD (respOf e)) + one (fwdPD (fwdStateOf e)) + one (eqb (respErrOf e) NDERR && dirty s))
 unfolding keeps leaves
@@ -52,7 +52,7 @@ row-law e t s s′ h =
     (ap₂ (λ (x y : ℕ). one (dirty s′) + leaving x y (eqb (respErrOf e) NDERR) s) (says .resp) (says .fwd-state)
     ∙ ap₂ (λ (b : Bool) (x : ℕ). one (dirty s′) + leaving (answerResp (r .answer)) (answerFwd (r .answer)) b x) (says .nderr) from)
 
--- what FwdState tells Home of the forward is what the forwarded data tells the Requester
+-- FwdState and the forwarded data agree about PD
 fwd-told : (a : Answer) → fwdPD (answerFwd a) ≡ eqb (byte (wire a) 4) 1 && fwdPD (byte (wire a) 5)
 fwd-told (SnpResp r NoForward) = refl
 fwd-told (SnpResp r (CompData f)) = refl

@@ -1,5 +1,5 @@
--- The theorems. Whoever believes the checker reads this file, the definitions that it names, and the `ensures` of `event::judge_event`,
--- which says that the judge's answer to any bytes is `judgedAlone issueE` of them.
+-- The theorems about one event alone. If you believe the checker, read this file, the definitions that it names, and the `ensures` of
+-- `event::judge_event`, which says that the judge answers any bytes with `judgedAlone issueE` of them.
 -- Assumes nothing.
 use mathlib.Core.Path.{_≡_, refl, sym, _∙_, ap, subst}
 use mathlib.Core.Logic.{_↔_, _⊎_}
@@ -33,11 +33,11 @@ use Rattle.theorems.specs.Duties.{nonDataError, HomeHolds, RequesterHold
 use Rattle.theorems.proofs.Told.{law, only, only-number, exactly-one, nobody, nobody-alone, lost-alone, byte-exactly}
 use Rattle.theorems.proofs.Judged.{answer-alone, by-answer, number-alone, each-at, set-after-below, duty-of-step, duty-of-none}
 
--- DEMAND 1, ONE EVENT: any two outcomes that the claim of `event::judge_event` allows are equal.
+-- DEMAND 1, ONE EVENT (definition 1.5, 1.8): any two outcomes that the claim of `event::judge_event` allows are equal.
 pub one-outcome : (bytes : List ℕ) (r r′ : Judgment) → r ≡ judgedAlone issueE bytes → r′ ≡ judgedAlone issueE bytes → r ≡ r′
 one-outcome bytes = only (judgedAlone issueE bytes)
 
--- So for every claim that gives the result whole, and for those that give the number of a kind, which is all that the kind holds.
+-- The same for every claim that gives the whole result, and for claims that give the number inside a type with nothing else in it.
 pub one-result : {A : Type 0} (claimed r r′ : A) → r ≡ claimed → r′ ≡ claimed → r ≡ r′
 one-result = only
 
@@ -56,15 +56,15 @@ one-fwd-state = only-number (λ k. k .0) (λ n. record { 0 = n }) (λ k. refl)
 pub one-pair-number : (claimed : ℕ) (r r′ : PairNumber) → r .0 ≡ claimed → r′ .0 ≡ claimed → r ≡ r′
 one-pair-number = only-number (λ k. k .0) (λ n. record { 0 = n }) (λ k. refl)
 
--- The number is the event's refusal.
+-- The refusal number is the one that `refusalAlone` computes (definition 4.3).
 pub number-answer : (e : List ℕ) → judgedAlone issueE e .refusal .0 ≡ refusalAlone issueE e
 number-answer e = number-alone e
 
--- What is accepted is answered with place 1, its seven sets and its seven duties.
+-- An accepted event is answered with place 1, its seven sets and its seven duties (definition 3.1).
 pub accepted-answer : (e : List ℕ) → AcceptedEvent e → judgedAlone issueE e ≡ acceptedAlone e
 accepted-answer e h = answer-alone e true (eq-eqb (refusalAlone issueE e) 0 (sym (number-alone e) ∙ h))
 
--- What is refused is answered with its number, place 0, seven empty sets and duties 0.
+-- A refused event is answered with its number, place 0, seven empty sets and seven duties 0 (definition 3.2).
 pub refused-answer : (e : List ℕ) → (AcceptedEvent e → ⊥) → judgedAlone issueE e ≡ refusedAlone (refusalAlone issueE e)
 refused-answer e h = answer-alone e false (ne-eqb (refusalAlone issueE e) 0 (λ z. h (number-alone e ∙ z)))
 
@@ -72,14 +72,14 @@ refused-answer e h = answer-alone e false (ne-eqb (refusalAlone issueE e) 0 (λ 
 pub seven-answered : (e : List ℕ) → (length (judgedAlone issueE e .sets) ≡ 7) × (length (judgedAlone issueE e .duties) ≡ 7)
 seven-answered e = by-answer e (λ j. (length (j .sets) ≡ 7) × (length (j .duties) ≡ 7)) (refl, refl) (refl, refl)
 
--- Each set holds some of the seven states and nothing more.
+-- Each set holds only states of the seven.
 pub sets-below : (e : List ℕ) (s : ℕ) → setFrom e s < 128
 sets-below e s =
     by-answer e (λ j. getD (j .sets) s 0 < 128)
     (each-at (λ m. m < 128) (setAfter e) states (omega arith) (set-after-below e) s)
     (each-at (λ m. m < 128) (λ n. 0) states (omega arith) (λ x. omega arith) s)
 
--- Where the event is refused each set is empty and each duty 0.
+-- If the event is refused, each set is empty and each duty is 0 (definition 3.2).
 pub refused-empty : (e : List ℕ) → (AcceptedEvent e → ⊥) → (s : ℕ) → (setFrom e s ≡ 0) × (dutyFrom e s ≡ noDuty)
 refused-empty e h s =
     let zero-at = each-at (λ m. m ≡ 0) (λ n. 0) states refl (λ x. refl) s in (
@@ -87,8 +87,8 @@ refused-empty e h s =
       ap (λ (j : Judgment). getD (j .duties) s 0) (refused-answer e h) ∙ zero-at,
     )
 
--- DEMAND 2, THE SETS: a state after is in the set of a state before exactly when a permitted step leads there, under the seen tag state or
--- any of the three, with the seen state after or any.
+-- DEMAND 2, THE SETS (definition 1.6, 6.2): a state after is in the set of a state before exactly when the event is a step between them,
+-- with the tag state and the state after that were seen, or any.
 pub sets-exact : (e : List ℕ) → AcceptedEvent e → (s s′ : ℕ) → s < 7 → s′ < 7 → bit (setFrom e s) s′ ≡ true ↔ Step e s s′
 sets-exact e h s s′ k l =
     (λ b. in-set-step e s s′ k l (sym answered-so ∙ b), λ p. answered-so ∙ step-in-set e s s′ p)
@@ -96,7 +96,7 @@ sets-exact e h s s′ k l =
     answered-so : bit (setFrom e s) s′ ≡ bit (getD (setsAfter e) s 0) s′
     answered-so = ap (λ (j : Judgment). bit (getD (j .sets) s 0) s′) (accepted-answer e h)
 
--- The duty that comes back for a state before is the page's duty byte, judged from that state alone, where a step exists.
+-- The duty for a state before is the duty byte judged from that state alone, if there is a step from it (definition 6.5).
 pub duties-exact : (e : List ℕ) → AcceptedEvent e → (s s′ : ℕ) → Step e s s′ → dutyFrom e s ≡ duty e (2 ^ s)
 duties-exact e h s s′ p = ap (λ (j : Judgment). getD (j .duties) s 0) (accepted-answer e h) ∙ duty-of-step e s s′ p
 
@@ -104,8 +104,8 @@ duties-exact e h s s′ p = ap (λ (j : Judgment). getD (j .duties) s 0) (accept
 pub within-states : (e : List ℕ) (t s s′ : ℕ) → permitted e t s s′ ≡ true → (s < 7) × (s′ < 7)
 within-states e t s s′ h = (permitted-before e t s s′ h, permitted-after e t s s′ h)
 
--- DEMAND 2, THE DUTY: in every step of an accepted event where a Dirty line ends not Dirty, and the answer isn't a non-data error, exactly one
--- of Requester and Home is told that it holds the duty, and the judge's duty byte for the state before says which.
+-- DEMAND 2, THE DUTY (definition 1.6, 6.6): in every step in which a Dirty line ends not Dirty, and which is no non-data error, exactly one
+-- of Home and Requester is told that it has the duty, and the judge's duty byte says which.
 pub duty-clause : (e : List ℕ) → AcceptedEvent e → (s s′ : ℕ) → Step e s s′ → dirty s ≡ true → dirty s′ ≡ false → nonDataError e ≡ false
     → HomeHolds e (dutyFrom e s) ⊎ RequesterHolds e (dutyFrom e s)
 duty-clause e h s s′ p d d′ n =
@@ -119,7 +119,7 @@ duty-converse e h s s′ p k =
     subst (NobodyTold e (dirty s)) (sym (duties-exact e h s s′ p))
     (nobody-alone e s (dirty s′) (law e (p .tag) s s′ (p .by-rows)) (permitted-before e (p .tag) s s′ (p .by-rows)) k)
 
--- Both of any permitted step, whatever the bytes, the tag state and the set before.
+-- Both hold for every permitted step, with any bytes, any tag state and any set before.
 pub duty-permitted : (e : List ℕ) (t s s′ : ℕ) → permitted e t s s′ ≡ true → dirty s ≡ true → dirty s′ ≡ false → nonDataError e ≡ false
     → (before : ℕ) → HomeHolds e (duty e before) ⊎ RequesterHolds e (duty e before)
 duty-permitted e t s s′ h = exactly-one e (dirty s) (dirty s′) (law e t s s′ h)
@@ -128,28 +128,28 @@ pub duty-permitted-converse : (e : List ℕ) (t s s′ : ℕ) → permitted e t 
     → (before : ℕ) → NobodyTold e (holdsDirty before) (duty e before)
 duty-permitted-converse e t s s′ h = nobody e (dirty s) (dirty s′) (law e t s s′ h)
 
--- A non-data error loses the duty of a Dirty line, and of no other.
+-- A non-data error loses the duty of a Dirty line, and of no other line (definition 6.3).
 pub duty-lost : (e : List ℕ) → AcceptedEvent e → (s s′ : ℕ) → Step e s s′ → nonDataError e ≡ true → dutyFrom e s ≡ cond (dirty s) lost noDuty
 duty-lost e h s s′ p n =
     duties-exact e h s s′ p
     ∙ lost-alone e s (dirty s′) (law e (p .tag) s s′ (p .by-rows)) (permitted-before e (p .tag) s s′ (p .by-rows)) n
 
--- In every step the byte is not 0 exactly when the state before is Dirty and the state after isn't.
+-- In every step, the duty byte is not 0 exactly when the state before is Dirty and the state after is not.
 pub duty-exactly : (e : List ℕ) → AcceptedEvent e → (s s′ : ℕ) → Step e s s′ → eqb (dutyFrom e s) noDuty ≡ not (dirty s && not (dirty s′))
 duty-exactly e h s s′ p =
     ap (λ (d : ℕ). eqb d noDuty) (duties-exact e h s s′ p)
     ∙ byte-exactly e s (dirty s′) (law e (p .tag) s s′ (p .by-rows)) (permitted-before e (p .tag) s s′ (p .by-rows))
 
--- Where no step exists it is 0.
+-- If there is no step, the duty byte is 0 (definition 6.5).
 pub duties-silent : (e : List ℕ) (s : ℕ) → s < 7 → ((s′ : ℕ) → Step e s s′ → ⊥) → dutyFrom e s ≡ noDuty
 duties-silent e s k none = by-answer e (λ j. getD (j .duties) s 0 ≡ noDuty) (duty-of-none e s k none) (at-state (λ n. 0) s k)
 
--- ENTRIES a TO n of the notebook, a single list.
+-- ENTRIES a TO n of the notebook, all in one list (definition 9.1).
 pub notebook : all right entries ≡ true
 unfolding setOf bit rows asked answered tagged permitted steps setAfter duty fault refusalAlone judgedAlone
 notebook = refl
 
--- THE WRONG READINGS.
+-- THE WRONG READINGS (definition 9.2): each one is refuted.
 pub data-is-not-duty : DataIsDuty → ⊥
 unfolding bit rows asked answered tagged permitted duty
 data-is-not-duty reading =

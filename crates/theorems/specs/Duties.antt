@@ -1,4 +1,4 @@
--- Who is told of the duty, and the readings of the notebook that are wrong.
+-- Who is told of the duty (definition 6.6), and the wrong readings (definition 9.2).
 use Prim.Native.Nat.{ℕ, _^_}
 use mathlib.Core.Path.{_≡_}
 use mathlib.Core.Bool.{Bool, true, false, cond, _&&_}
@@ -11,11 +11,11 @@ use Rattle.rows.specs.Rows.{rows·B4·60}
 use Rattle.rows.specs.Permitted.{holds, permitted}
 use Rattle.steps.specs.Steps.{duty, noDuty, Home, Requester, lost}
 
--- Home is told that it holds the duty: by the answer's Resp
+-- Home is told that it has the duty: by the answer's Resp
 abbrev pub tellsHome : List ℕ → Bool
 tellsHome e = respPD (respOf e)
 
--- the Requester is told: by the Resp of the data forwarded to it
+-- the Requester is told that it has the duty: by the Resp of the data forwarded to it
 abbrev pub tellsRequester : List ℕ → Bool
 tellsRequester e = eqb (forwardedOf e) 1 && fwdPD (forwardedRespOf e)
 
@@ -23,33 +23,33 @@ tellsRequester e = eqb (forwardedOf e) 1 && fwdPD (forwardedRespOf e)
 abbrev pub nonDataError : List ℕ → Bool
 nonDataError e = eqb (respErrOf e) NDERR
 
--- Home alone is told, and the duty byte d says so
+-- only Home is told, and the duty byte d says so
 pub record HomeHolds (e : List ℕ) (d : ℕ) : Type 0 where
   pub home : tellsHome e ≡ true
   pub not-requester : tellsRequester e ≡ false
   pub says : d ≡ Home
 
--- the Requester alone is told, and the duty byte d says so
+-- only the Requester is told, and the duty byte d says so
 pub record RequesterHolds (e : List ℕ) (d : ℕ) : Type 0 where
   pub not-home : tellsHome e ≡ false
   pub requester : tellsRequester e ≡ true
   pub says : d ≡ Requester
 
--- nobody is told, and the duty byte d is that of a lost duty for a non-data error where the line may have been Dirty, else 0
+-- nobody is told, and the duty byte d is 3 for a non-data error on a line that may have been Dirty, else 0
 pub record NobodyTold (e : List ℕ) (wasDirty : Bool) (d : ℕ) : Type 0 where
   pub not-home : tellsHome e ≡ false
   pub not-requester : tellsRequester e ≡ false
   pub says : d ≡ cond (nonDataError e && wasDirty) lost noDuty
 
--- Wrong: data sent Home is the duty to Home.
+-- Wrong: data sent to Home hands it the duty.
 abbrev pub DataIsDuty : Type 0
 DataIsDuty = (e : List ℕ) (t s s′ : ℕ) → permitted e t s s′ ≡ true → dirty s ≡ true → dirty s′ ≡ false → channelOf e ≡ DAT → duty e (2 ^ s) ≡ Home
 
--- Wrong: SC in the answer, as SC or as SC_PD, is SC kept.
+-- Wrong: SC in the answer (SC or SC_PD) means that SC was kept.
 abbrev pub SCIsKept : ℕ → Type 0
 SCIsKept resp = (e : List ℕ) (t s s′ : ℕ) → permitted e t s s′ ≡ true → respOf e ≡ resp → s′ ≡ SC
 
--- Wrong: B4.60 alone for excl 0.
+-- Wrong: SnpPreferUniqueFwd with excl 0 uses B4.60 alone.
 abbrev pub B60Alone : Type 0
 B60Alone =
     (e : List ℕ) (t s s′ : ℕ) → requestOf e ≡ SnpPreferUniqueFwd → exclOf e ≡ 0 → nonDataError e ≡ false → permitted e t s s′ ≡ true → any (holds e t s s′) rows·B4·60 ≡ true

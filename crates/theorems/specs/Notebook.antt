@@ -1,4 +1,4 @@
--- Entries a to n of the notebook as data, one line an entry.
+-- Entries a to n of the notebook as data, one line per entry (definition 9.1).
 use Prim.Native.Nat.{ℕ}
 use mathlib.Core.Bool.{Bool, _&&_}
 use mathlib.Core.List.{List, [], _∷_}
@@ -14,7 +14,7 @@ use Rattle.event.specs.Refusals.{issueE}
 use Rattle.event.specs.Alone.{judgedAlone}
 use Rattle.theorems.specs.Alone.{setFrom, dutyFrom}
 
--- An event by its fields: request, RetToSrc, DoNotGoToSD, excl, tag state, answer with what it forwards, TagOp, RespErr, state after.
+-- An event from its fields: request, RetToSrc, DoNotGoToSD, excl, tag state, answer with its forward, TagOp, RespErr, state after.
 abbrev pub eventTo : ℕ → ℕ → ℕ → ℕ → ℕ → Answer → ℕ → ℕ → ℕ → List ℕ
 eventTo request ret noSD excl tag a op err stateAfter =
     request ∷
@@ -33,7 +33,7 @@ eventTo request ret noSD excl tag a op err stateAfter =
     stateAfter ∷
     []
 
--- the same where the state after isn't seen
+-- the same with a state after that was not seen
 abbrev pub event : ℕ → ℕ → ℕ → ℕ → ℕ → Answer → ℕ → ℕ → List ℕ
 event request ret noSD excl tag a op err = eventTo request ret noSD excl tag a op err stateNotSeen
 
@@ -79,7 +79,7 @@ entries =
     entry (event SnpClean 0 0 0 tagDirty SnpResp-I opInvalid OK) UC [] noDuty ∷
     []
 
--- the judge accepts the event, and for the state before answers the entry's states after and its duty
+-- the judge accepts the event, and answers for the state before with the entry's states after and its duty
 abbrev pub right : Entry → Bool
 right n =
     eqb (judgedAlone issueE (n .bytes) .refusal .0) 0

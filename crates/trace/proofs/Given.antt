@@ -1,4 +1,4 @@
--- The outcome of a trace is the row of the refusal table that is given, and each row that is given is the outcome.
+-- The outcome of a trace and the row of the refusal table that is given are the same, in both directions (definition 4.1).
 -- Assumes nothing.
 use mathlib.Core.Path.{_≡_, refl, sym, _∙_, ap, ap₂, subst}
 use mathlib.Core.Bool.{Bool, true, false, cond, not, true≢false}
@@ -19,7 +19,7 @@ use Rattle.trace.specs.Refusals.{outcome, lengthsFit, firstFrom, badSetA
 use Rattle.trace.specs.Given.{Fits, SetGood, EventGood, GoodSoFar, Given, accepted, bad-lengths, bad-set, bad-pair, bad-byte, bad-request}
 use Rattle.trace.proofs.Laws.{fits, fit, refused-lengths, refused-set, left-to-events, refused-event, no-event}
 
--- The first number that passes: nothing before it passes, it passes where it is one of them, and no other number is so.
+-- The first number that passes a test: none before it passes, it passes if it is one of the n, and no other number is like that.
 before-first : (p : ℕ → Bool) (i n j : ℕ) → i ≤ j → j < firstFrom p i n → p j ≡ false
 before-first p i zero j h k = absurd (omega arith)
 before-first p i (suc n) j h k = go (p i) refl k (before-first p (suc i) n j)
@@ -70,12 +70,12 @@ first-none p i (suc n) none =
     ∙ first-none p (suc i) n (λ j a b. none j (omega arith) (omega arith))
     ∙ omega arith
 
--- a test that doesn't hold
+-- a test that is not true is false
 not-so : (b : Bool) → (b ≡ true → ⊥) → b ≡ false
 not-so true n = absurd (n refl)
 not-so false n = refl
 
--- The refusal of one event, by the three tests.
+-- The refusal number of one event, from the three tests.
 module _ (issue : Issue) (l : Lent) (k : ℕ) where
   abbrev faultOf : ℕ
   faultOf = faultAt issue (l .events) (l .pairs) (l .table) k
@@ -124,18 +124,18 @@ module _ (issue : Issue) (l : Lent) where
   abbrev firstBad : ℕ
   firstBad = firstBadEvent issue (l .events) (l .pairs) (l .table)
 
-  -- an event that isn't bad is good, and a good one isn't bad
+  -- an event that is not bad is good, and a good one is not bad
   good-of : (k : ℕ) → bad k ≡ false → EventGood issue l k
   good-of k h = event-good issue l k (eqb-true (faultOf issue l k) 0 (not-false (eqb (faultOf issue l k) 0) h))
 
   good-not-bad : (k : ℕ) → EventGood issue l k → bad k ≡ false
   good-not-bad k g = ap (λ (n : ℕ). not (eqb n 0)) (good-event issue l k g)
 
-  -- a set that isn't bad is good
+  -- a set that is not bad is good
   set-of : (p : ℕ) → badSetAt (l .table) p ≡ false → SetGood l p
   set-of p h = ltb-false allStates (setIn (l .table) p) h
 
-  -- THE ROW OF THE OUTCOME: it is given.
+  -- THE ROW OF THE OUTCOME is given.
   pub given : Given issue l (outcomeOf issue l .refusal .0) (outcomeOf issue l .place)
   given = go (lengthsFit l) (ltb (lowestBadSet (l .table)) (length (l .table))) (ltb firstBad (length (l .pairs))) refl refl refl
     where
@@ -176,13 +176,13 @@ module _ (issue : Issue) (l : Lent) where
           (no-event issue (l .events) (l .pairs) (l .table) firstBad refl k))
           (accepted (reached (count l) f q (omega (arith, f .pairs-fit))))
 
-  -- the events are reached: no set is bad
+  -- once the events are reached, no set is bad
   table-good : {k : ℕ} → GoodSoFar issue l k → lowestBadSet (l .table) ≡ length (l .table)
   table-good r =
       first-none (badSetAt (l .table)) 0 (length (l .table)) (λ p a b. le-ltb allStates (setIn (l .table) p) (r .sets-good p (omega arith)))
       ∙ zero-add (length (l .table))
 
-  -- event k is the first that is refused
+  -- event k is the first one that is refused
   event-row : (k number : ℕ) → GoodSoFar issue l k → k < count l → faultOf issue l k ≡ number → not (eqb number 0) ≡ true → outcome number k ≡ outcomeOf issue l
   event-row k number r h e n =
       let is : firstBad ≡ k =

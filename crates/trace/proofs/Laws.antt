@@ -1,4 +1,4 @@
--- Laws of the refusals of a trace, over plain variables: the first number that passes a test, and the outcome by its parts.
+-- Laws about the refusals of a trace, over plain variables: the first number that passes a test, and the outcome from its parts.
 -- Assumes nothing.
 use mathlib.Core.Path.{_≡_, refl, sym, _∙_, ap, ap₂}
 use mathlib.Core.Bool.{Bool, true, false, cond, not, _&&_}
@@ -22,15 +22,15 @@ use Rattle.trace.specs.Judged.{accepts, acceptedLeft, refusedLeft, judge
 use Rattle.trace.specs.Code.{Room, AllJudged}
 use Rattle.trace.specs.Refusals.{outcome, lengthsFit, firstFrom, badSet, lowestBadSet, faultAt, firstBadEvent, byEvents, outcomeOf}
 
--- one less is left
+-- k below n: one number fewer is left after k
 pub minus-suc : (n k : ℕ) → k < n → n - k ≡ suc (n - suc k)
 minus-suc n k h = omega arith
 
--- nothing is left
+-- k not below n: no number is left
 pub minus-end : (n k : ℕ) → n ≤ k → n - k ≡ 0
 minus-end n k h = omega arith
 
--- the first of n numbers that passes the test is not below k
+-- the search for the first number that passes has come to k, and found none below it
 pub record First (p : ℕ → Bool) (n k : ℕ) : Type 0 where
   pub within : k ≤ n
   pub same : firstFrom p k (n - k) ≡ firstFrom p 0 n
@@ -38,7 +38,7 @@ pub record First (p : ℕ → Bool) (n k : ℕ) : Type 0 where
 pub first-start : (p : ℕ → Bool) (n : ℕ) → First p n 0
 first-start p n = record { within = omega arith; same = ap (firstFrom p 0) (sub-zero n) }
 
--- what is left begins with k
+-- the search goes on with k
 ahead : (p : ℕ → Bool) (n k : ℕ) → k < n → firstFrom p k (n - k) ≡ cond (p k) k (firstFrom p (suc k) (n - suc k))
 ahead p n k h = ap (firstFrom p k) (minus-suc n k h)
 
@@ -58,7 +58,7 @@ first-next {p} {n} {k} f h t =
 pub first-end : {p : ℕ → Bool} {n k : ℕ} → First p n k → n ≤ k → k ≡ firstFrom p 0 n
 first-end {p} {n} {k} f h = sym (ap (firstFrom p k) (minus-end n k h)) ∙ f .same
 
--- the lengths fit, as a test and as facts
+-- the test that the lengths fit, and what it means
 module _ (l : Lent) where
   pub fits : lengthsFit l ≡ true → Fits l
   unfolding lengthsFit
@@ -99,7 +99,7 @@ module _ (l : Lent) where
       (eq-eqb (length (l .duties)) (count l) (f .duties-fit)))
       (eq-eqb (length (l .afters)) (count l) (f .afters-fit))
 
--- the refusal of one event, by its parts
+-- the refusal number of one event, from its parts
 pub fault-chain : (issue : Issue) (events pairs table : List ℕ) (k p : ℕ) (inside : Bool) (e : List ℕ) (f x : ℕ) → p ≡ pairIn pairs k → inside ≡ ltb p (length table)
     → e ≡ eventIn events k → f ≡ fault issue e → x ≡ cond inside f 3 → x ≡ faultAt issue events pairs table k
 unfolding faultAt
@@ -107,11 +107,11 @@ fault-chain issue events pairs table k p inside e f x h₁ h₂ h₃ h₄ h₅ =
     h₅
     ∙ ap₂ (λ (b : Bool) (n : ℕ). cond b n 3) (h₂ ∙ ap (λ (n : ℕ). ltb n (length table)) h₁) (h₄ ∙ ap (fault issue) h₃)
 
--- what is found of a set that was read is so of the set
+-- testing the set that was read is testing the set in the table
 pub set-tested : (x n : ℕ) (b found : Bool) → x ≡ n → b ≡ badSet x → b ≡ found → badSet n ≡ found
 set-tested x n b found h k t = ap badSet (sym h) ∙ sym k ∙ t
 
--- an event is bad where its refusal isn't 0
+-- an event is bad if its refusal number is not 0
 pub bad : (x n : ℕ) → x ≡ n → (x ≡ 0 → ⊥) → not (eqb n 0) ≡ true
 bad x n h k = ap not (ne-eqb n 0 (λ z. k (h ∙ z)))
 
@@ -161,14 +161,14 @@ module _ (issue : Issue) (l : Lent) where
       e
       ∙ sym (by-stages true false (sym h ∙ not-false fit k) (ap (λ (i : ℕ). ltb i (length (l .table))) (sym q) ∙ le-ltb p (length (l .table)) b))
 
-  -- there are few pairs and few events where the lengths fit
+  -- if the lengths fit, there are at most 4,096 pairs and at most 4,096 events
   pub few-sets : (fit-test : Bool) → fit-test ≡ lengthsFit l → not fit-test ≡ false → length (l .table) ≤ mostPairs
   few-sets fit-test h k = fits l (sym h ∙ not-false fit-test k) .few-pairs
 
   pub few-pair-numbers : (fit-test : Bool) → fit-test ≡ lengthsFit l → not fit-test ≡ false → length (l .pairs) ≤ mostEvents
   few-pair-numbers fit-test h k = let f = fits l (sym h ∙ not-false fit-test k) in omega (arith, f .pairs-fit, f .few-events)
 
-  -- an accepted trace has lengths that fit
+  -- if a trace is accepted, its lengths fit
   pub accepted-fits : outcomeOf issue l .refusal .0 ≡ 0 → lengthsFit l ≡ true
   accepted-fits h = go (lengthsFit l) refl
     where
@@ -182,7 +182,7 @@ module _ (issue : Issue) (l : Lent) where
   abbrev leftBy : Bool → Left
   leftBy b = cond b (acceptedLeft (outcomeOf issue l) l) (refusedLeft (outcomeOf issue l) l)
 
-  -- what is left of a refused trace, and of an accepted one
+  -- what a refused trace leaves, and what an accepted one leaves
   pub left-refused : (o : Outcome) → o ≡ outcomeOf issue l → (o .refusal .0 ≡ 0 → ⊥) → refusedLeft o l ≡ judged issue l
   unfolding judged accepts
   left-refused o h k =
@@ -205,7 +205,7 @@ module _ (issue : Issue) (l : Lent) where
       after : List TraceEvent → Left
       after es = left o (run (l .table) es) (outputs verdict (l .table) es) (outputs dutyByte (l .table) es) (outputs afterSet (l .table) es)
 
-  -- there is room for every event
+  -- the output buffers of an accepted trace have one byte for each event
   pub room : outcomeOf issue l .refusal .0 ≡ 0 → Room (l .pairs) (l .verdicts) (l .duties) (l .afters)
   room h =
       let f = fits l (accepted-fits h) in

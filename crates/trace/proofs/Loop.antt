@@ -1,4 +1,4 @@
--- One turn of the judging, over plain variables: what event k adds to the table and to each output, and what all of them leave.
+-- One iteration of the judging loop, over plain variables, and what all of them leave.
 -- Assumes nothing.
 use mathlib.Core.Path.{_≡_, refl, sym, _∙_, ap, ap₂}
 use mathlib.Core.List.{List, _++_, append-nil}
@@ -15,14 +15,14 @@ use Rattle.trace.specs.Events.{eventAt, eventsFrom, moved, run, outputs}
 use Rattle.trace.specs.Code.{Room, OnTable, OneJudged, AllJudged}
 use Rattle.trace.proofs.Laws.{minus-suc, minus-end}
 
--- one event on the table, by the parts of its judging
+-- one event on the table, from the parts of its judging
 pub on-table : (events pairs : List ℕ) (k : ℕ) (t t′ : List ℕ) (p m : ℕ) (e : List ℕ) (f : Finding)
     → p ≡ pairIn pairs k → m ≡ setIn t p → e ≡ eventIn events k → f ≡ finding e m → t′ ≡ set t p (f .after) → OnTable events pairs k t f t′
 on-table events pairs k t t′ p m e f h₁ h₂ h₃ h₄ h₅ =
     let is : f ≡ finding (eventIn events k) (setIn t (pairIn pairs k)) = h₄ ∙ ap₂ finding h₃ (h₂ ∙ ap (setIn t) h₁) in
     record { is-found = is; in-table = h₅ ∙ ap₂ (λ (x : ℕ) (g : Finding). set t x (g .after)) h₁ is }
 
--- the four buffers after it
+-- the four buffers after one event
 pub one-judged : {events pairs : List ℕ} {k : ℕ} {t : List ℕ} {f : Finding} {t′ : List ℕ} (v d a v′ d′ a′ : List ℕ) → OnTable events pairs k t f t′
     → v′ ≡ set v k (f .verdict .0) → d′ ≡ set d k (f .duty .0) → a′ ≡ set a k (f .after) → OneJudged events pairs k t v d a t′ v′ d′ a′
 one-judged {k = k} v d a v′ d′ a′ on h₁ h₂ h₃ =
@@ -33,7 +33,7 @@ one-judged {k = k} v d a v′ d′ a′ on h₁ h₂ h₃ =
       in-afters = h₃ ∙ ap (λ (g : Finding). set a k (g .after)) (on .is-found);
     }
 
--- one output after k events: what is put so far, and what the rest will put, is the whole
+-- one output buffer after k events: its first k bytes and the bytes still to come are the whole output
 pub record Filled (f : List ℕ → ℕ → ℕ) (events pairs t₀ : List ℕ) (k : ℕ) (t out : List ℕ) : Type 0 where
   pub so-far : take k out ++ outputs f t (eventsFrom events pairs k (length pairs - k)) ≡ outputs f t₀ (eventsFrom events pairs 0 (length pairs))
   pub long : length out ≡ length pairs

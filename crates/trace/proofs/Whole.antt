@@ -1,4 +1,4 @@
--- What is left of a trace, refused or accepted, and what an accepted one is known to be.
+-- What a trace leaves, refused or accepted, and what is known about an accepted one.
 -- Assumes nothing.
 use mathlib.Core.Path.{_≡_, refl, ap}
 use mathlib.Core.Bool.{Bool, true, false, cond}
@@ -17,7 +17,7 @@ module _ (issue : Issue) (l : Lent) where
   unfolding judged
   by-acceptance b h = ap (λ (x : Bool). cond x (acceptedLeft (outcomeOf issue l) l) (refusedLeft (outcomeOf issue l) l)) h
 
-  -- the answer is the outcome, either way
+  -- the result is the outcome, accepted or refused
   pub judged-outcome : judged issue l .outcome ≡ outcomeOf issue l
   judged-outcome = go (accepts issue l) refl
     where
@@ -33,7 +33,7 @@ module _ (issue : Issue) (l : Lent) where
   unfolding accepts
   judged-refused h = by-acceptance false (ne-eqb (outcomeOf issue l .refusal .0) 0 h)
 
-  -- number 0 is given by no other row
+  -- number 0 is given only for an accepted trace
   row-0 : {number place : ℕ} → Given issue l number place → number ≡ 0 → GoodSoFar issue l (count l)
   row-0 (accepted r) h = r
   row-0 (bad-lengths n) h = absurd (omega arith)

@@ -1,4 +1,4 @@
--- What the code's own parts leave. Nobody has to believe this file: the claims above it don't name it.
+-- What private functions compute. No public claim names this file.
 use Prim.Native.Nat.{ℕ, _≤_}
 use mathlib.Core.Path.{_≡_}
 use mathlib.Core.List.{List}
@@ -8,19 +8,19 @@ use Rattle.verdicts.specs.Verdicts.{afterSet, verdict, dutyByte, finding}
 use Rattle.verdicts.specs.declared.Finding.{Finding}
 use Rattle.trace.specs.Events.{eventAt, eventsFrom, moved, run, outputs}
 
--- room for a byte of each event
+-- the three output buffers have one byte for each event
 pub record Room (pairs verdicts duties afters : List ℕ) : Type 0 where
   pub few : length pairs ≤ mostEvents
   pub verdicts-fit : length verdicts ≡ length pairs
   pub duties-fit : length duties ≡ length pairs
   pub afters-fit : length afters ≡ length pairs
 
--- event k judged on the table: what is found, and the table moved
+-- event k judged: what is found, and the table after it
 pub record OnTable (events pairs : List ℕ) (k : ℕ) (table : List ℕ) (found : Finding) (table′ : List ℕ) : Type 0 where
   pub is-found : found ≡ finding (eventIn events k) (setIn table (pairIn pairs k))
   pub in-table : table′ ≡ moved table (eventAt events pairs k)
 
--- the four buffers after event k: the table moved, and the event's byte in each of the others
+-- the four buffers after event k: the new table, and one byte in each of the others
 pub record OneJudged (events pairs : List ℕ) (k : ℕ) (table verdicts duties afters table′ verdicts′ duties′ afters′ : List ℕ) : Type 0 where
   pub in-table : table′ ≡ moved table (eventAt events pairs k)
   pub in-verdicts : verdicts′ ≡ set verdicts k (verdict (eventIn events k) (setIn table (pairIn pairs k)))

@@ -1,11 +1,11 @@
--- What is lent to the judge of a whole trace, and what comes back.
+-- What is lent to the judge of a whole trace, and what it leaves (definition 3.3, 3.4).
 use Prim.Native.Nat.{ℕ, _/_}
 use mathlib.Core.List.{List}
 use lib.ListN.{length}
 use Rattle.kinds.specs.Places.{eventLength}
 use Rattle.trace.specs.declared.Outcome.{Outcome}
 
--- the six buffers as they are lent
+-- the six buffers as they are lent (definition 3.3)
 pub record Lent : Type 0 where
   pub events : List ℕ
   pub pairs : List ℕ
@@ -14,12 +14,12 @@ pub record Lent : Type 0 where
   pub duties : List ℕ
   pub afters : List ℕ
 
--- the six in the order of the call
+-- the six buffers, in the order of the call's arguments
 abbrev pub lent : List ℕ → List ℕ → List ℕ → List ℕ → List ℕ → List ℕ → Lent
 lent events pairs table verdicts duties afters =
     record { events = events; pairs = pairs; table = table; verdicts = verdicts; duties = duties; afters = afters }
 
--- the answer, and the four buffers that may be written, as they are left
+-- the result, and the four buffers that the call may write, as they are left
 pub record Left : Type 0 where
   pub outcome : Outcome
   pub table : List ℕ
@@ -27,10 +27,10 @@ pub record Left : Type 0 where
   pub duties : List ℕ
   pub afters : List ℕ
 
--- the answer, then the four in the order of the call
+-- the result, then the four buffers in the order of the call's arguments
 abbrev pub left : Outcome → List ℕ → List ℕ → List ℕ → List ℕ → Left
 left outcome table verdicts duties afters = record { outcome = outcome; table = table; verdicts = verdicts; duties = duties; afters = afters }
 
--- how many events there are: n
+-- n, the number of events
 abbrev pub count : Lent → ℕ
 count l = length (l .events) / eventLength

@@ -1,4 +1,4 @@
-// A whole trace judged: whatever is lent, its refusal with every buffer as it came, or every event's verdict, duty and set.
+// A whole trace judged, whatever is lent (definition 3.3 to 3.5).
 use kinds::ALL_STATES;
 use kinds::EVENT_BYTES;
 use kinds::EventNumber;
@@ -17,13 +17,13 @@ ghost use Rattle.trace.specs.Refusals.{lengthsFit, badSet, lowestBadSet,
 ghost use Rattle.trace.specs.Judged.{judged};
 ghost use Rattle.trace.specs.Code.{Room, OnTable, OneJudged, AllJudged};
 
-// A number of the refusal table, and its place: how many events there are, 0 for the lengths, the pair of a set, or the event.
+// A refusal number and its place (definition 4.1).
 pub struct Outcome {
     pub refusal: Refusal,
     pub place: usize,
 }
 
-// Whether the buffers are as long as they have to be.
+// Whether all buffers have the right lengths (refusal 1).
 fn lengths_fit(
     events: &[u8],
     pairs: &[u16],
@@ -46,14 +46,14 @@ fn lengths_fit(
         & (afters.len() == n)
 }
 
-// Whether a set is above 127, that of all seven states. The empty set isn't: that pair is already lost.
+// Whether a set is above 127 (refusal 2). The empty set is allowed (definition 4.4).
 fn bad_set(states: u8) -> bool
     ensures { λ r. ⌜ r ≡ badSet states ⌝ }
 {
     states > ALL_STATES
 }
 
-// The lowest pair whose set is bad, or how many pairs there are.
+// The lowest pair with a bad set; the number of pairs if there is none.
 fn lowest_bad_set(table: &[u8]) -> usize
     requires { ⌜ length (now table) ≤ mostPairs ⌝ }
     ensures { λ r. ⌜ r ≡ lowestBadSet (now (table .entry)) ⌝ }
@@ -69,7 +69,7 @@ fn lowest_bad_set(table: &[u8]) -> usize
     p
 }
 
-// The refusal of event k in a trace: 3, then the fault of its bytes.
+// The refusal number of event k in a trace: 3, then 4, then 5 (definition 4.2).
 fn fault_at(k: EventNumber, events: &[u8], pairs: &[u16], table: &[u8]) -> Refusal
     ensures { λ r. ⌜ r .0 ≡ faultAt issueE (now (events .entry)) (now (pairs .entry)) (now (table .entry)) (k .0) ⌝ }
 {
@@ -80,7 +80,7 @@ fn fault_at(k: EventNumber, events: &[u8], pairs: &[u16], table: &[u8]) -> Refus
     Refusal(kinds::choose_byte(inside, number, Refusal::PAIR.0))
 }
 
-// The first event that is refused, or how many events there are.
+// The first event that is refused; the number of events if there is none.
 fn first_bad_event(events: &[u8], pairs: &[u16], table: &[u8]) -> EventNumber
     requires { ⌜ length (now pairs) ≤ mostEvents ⌝ }
     ensures { λ r. ⌜ r .0 ≡ firstBadEvent issueE (now (events .entry)) (now (pairs .entry)) (now (table .entry)) ⌝ }
@@ -97,7 +97,7 @@ fn first_bad_event(events: &[u8], pairs: &[u16], table: &[u8]) -> EventNumber
     EventNumber(k)
 }
 
-// The outcome of the events, where the lengths fit and the table is good.
+// The outcome of the events, if the lengths fit and no set is bad.
 fn by_events(events: &[u8], pairs: &[u16], table: &[u8]) -> Outcome
     requires { ⌜ length (now pairs) ≤ mostEvents ⌝ }
     ensures { λ r. ⌜ r ≡ byEvents issueE (now (events .entry)) (now (pairs .entry)) (now (table .entry)) ⌝ }
@@ -115,7 +115,7 @@ fn by_events(events: &[u8], pairs: &[u16], table: &[u8]) -> Outcome
     }
 }
 
-// The outcome: 1, then 2 over the table, then the events.
+// The outcome: 1 first, then 2 over the whole table, then event by event (definition 4.2).
 fn outcome_of(
     events: &[u8],
     pairs: &[u16],
@@ -144,7 +144,7 @@ fn outcome_of(
     by_events(events, pairs, table)
 }
 
-// Event k judged on the table: its pair's set becomes the set after.
+// Judges event k on the set of its pair, and writes the set after into the table.
 fn judge_on_table(k: EventNumber, events: &[u8], pairs: &[u16], table: &mut [u8]) -> Finding
     ensures { λ r. ⌜ OnTable (now (events .entry)) (now (pairs .entry)) (k .0) (now (table .entry)) r (now (table .exit)) ⌝ }
 {
@@ -156,7 +156,7 @@ fn judge_on_table(k: EventNumber, events: &[u8], pairs: &[u16], table: &mut [u8]
     found
 }
 
-// Event k judged: the table moves, and the event's verdict, duty and set after are put at its place.
+// Judges event k, and writes its verdict, duty byte and after-set at index k.
 fn judge_one(
     k: EventNumber,
     events: &[u8],
@@ -176,7 +176,7 @@ fn judge_one(
     k.put_in(afters, found.after);
 }
 
-// Every event judged, one after another.
+// Judges all events, one after another.
 fn judge_all(
     events: &[u8],
     pairs: &[u16],
@@ -204,8 +204,8 @@ fn judge_all(
     }
 }
 
-// The whole trace judged: the outcome, and for an accepted trace the table as its events leave it and a verdict, a duty and a set after
-// for each of them. A refused one leaves every buffer as it came.
+// Judges a whole trace. An accepted trace leaves the table of sets at the end, and a verdict, a duty byte and an after-set for each event
+// (definition 3.4). A refused trace leaves all buffers as they were (definition 3.5).
 pub fn judge_trace(
     events: &[u8],
     pairs: &[u16],

@@ -1,17 +1,17 @@
-// One event judged on the set of its pair.
+// One event judged on the set of its pair (definition 7.3, 6.3).
 use kinds::Duty;
 use kinds::Verdict;
 ghost use mathlib.Core.Path.{_≡_};
 ghost use Rattle.verdicts.specs.Verdicts.{finding};
 
-// What an event does to the set of its pair: the set after, the verdict, and who holds the duty.
+// What an event does to its pair: the set after, the verdict, and the duty byte.
 pub struct Finding {
     pub after: u8,
     pub verdict: Verdict,
     pub duty: Duty,
 }
 
-// The event judged on a set.
+// Judges an event, given the set of its pair before it.
 pub fn judge(event: &[u8], before: u8) -> Finding
     ensures { λ r. ⌜ r ≡ finding (now (event .entry)) before ⌝ }
 {
