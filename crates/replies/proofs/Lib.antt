@@ -3,4 +3,4 @@ pub mod Decimal
 pub mod Parts
 pub mod States
 pub mod Laws
-pub mod Page
+pub mod Example

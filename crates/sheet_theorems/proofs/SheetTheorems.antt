@@ -32,7 +32,7 @@ use Rattle.sheet.specs.declared.Carried.{Carried}
 use Rattle.sheet.specs.Pieces.{Held, sure, ready, eaten, total}
 use Rattle.sheet.specs.Runs.{emptied, withPiece, Run, SomeRun, start}
 use Rattle.sheet.specs.Turns.{enough, answerWith, begunWith, begun, inFront, endedBy, carriedOf, turnLeftBy, turned, Turns, SomeTurns}
-use Rattle.sheet_theorems.specs.Pages.{exampleIn, exampleOut, cases, asSaid}
+use Rattle.sheet_theorems.specs.Examples.{exampleIn, exampleOut, cases, asSaid}
 use Rattle.sheet_theorems.specs.Good.{eventOn, eventsOf, good, AllGood, foundBehind, answerLines, names}
 use Rattle.sheet_theorems.specs.Refused.{RefusedWith, LineIs, SheetSays}
 use Rattle.sheet_theorems.specs.SheetHistories.{pairOn, ReachesIn, PassesTo, VerdictOn, DutyOn}
@@ -50,9 +50,9 @@ use Rattle.sheet_theorems.proofs.Refused.{refused-told, line-is, one-nu
 use Rattle.sheet_theorems.proofs.AsTrace.{judged-so, spelled-so}
 
 -- THE EXAMPLE (definition 8.11): the whole input gives the whole output, byte for byte.
-pub page-example : sheetOut exampleIn ≡ exampleOut
+pub example-answered : sheetOut exampleIn ≡ exampleOut
 unfolding setOf bit rows asked answered tagged permitted steps duty afterSet verdict dutyByte codeOf requestNames flagNames tagNames responses responseNames namedAnswers tagOpNames respErrNames forwardNames finalNames isPair readDecimal pairOf columns wellFormed eventOf parsed decimalText verdictText dutyText statesText headerLine answerLine refusedLine header onLine startTable
-page-example = refl
+example-answered = refl
 
 -- THE REFUSALS BY EXAMPLES (definition 8.7, 8.8): each input gives exactly the output that the case says.
 pub refusal-cases : all asSaid cases ≡ true

@@ -1,4 +1,4 @@
-pub mod Pages
+pub mod Examples
 pub mod Good
 pub mod SheetHistories
 pub mod Refused

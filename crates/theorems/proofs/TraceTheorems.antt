@@ -176,13 +176,13 @@ same-events-same-bytes l l′ ok ok′ k k′ h h′ start events same =
     )
 
 -- THE EXAMPLE SHEET (definition 8.11): explained and Home, explained, unexplained, not judged; {I, SC} twice, then the empty set.
-pub page-sheet : judged issueE sheet
+pub example-as-trace : judged issueE sheet
     ≡ left (outcome 0 4) (0 ∷ [])
     (explained ∷ explained ∷ unexplained ∷ notJudged ∷ [])
     (Home ∷ noDuty ∷ noDuty ∷ noDuty ∷ [])
     (33 ∷ 33 ∷ 0 ∷ 0 ∷ [])
 unfolding setOf bit rows asked answered tagged permitted steps duty fault afterSet verdict dutyByte lengthsFit faultAt byEvents outcomeOf accepts judged
-page-sheet = refl
+example-as-trace = refl
 
 -- THE ORDER OF THE REFUSALS (definition 4.2), in cases to which more than one row applies.
 pub refusal-order : all inOrder orders ≡ true

@@ -20,7 +20,7 @@ abbrev pub I-SC : ℕ
 I-SC = 33
 
 -- the output of the example: its header and its four lines
-pub page :
+pub example :
     headerLine
     ++ answerLine 0 (found explained Home I-SC)
     ++ answerLine 1 (found explained noDuty I-SC)
@@ -32,7 +32,7 @@ pub page :
     ++ bytes "2,unexplained,none," ++ eol
     ++ bytes "3,not judged,none," ++ eol
 unfolding headerLine answerLine decimalText verdictText dutyText statesText bit
-page = refl
+example = refl
 
 -- two late events: all seven states with the duty on the Requester, and a lost duty
 pub all-states :

@@ -9,14 +9,14 @@ use Rattle.text.specs.Text.{bytes, CR, LF, eol}
 use Rattle.sheet.specs.Sheet.{sheetOut}
 
 -- lines of text, each with its CR LF
-abbrev pub page : List String → List ℕ
-page [] = []
-page (line ∷ lines) = bytes line ++ (eol ++ page lines)
+abbrev pub textOf : List String → List ℕ
+textOf [] = []
+textOf (line ∷ lines) = bytes line ++ (eol ++ textOf lines)
 
 -- the example's whole input (definition 8.11)
 abbrev pub exampleIn : List ℕ
 exampleIn =
-    page
+    textOf
     ("pair,request,RetToSrc,DoNotGoToSD,excl,tag,response,TagOp,RespErr,forward,final" ∷
     "0,SnpShared,0,0,0,Invalid,SnpRespData_SC_PD,Invalid,OK,-,?" ∷
     "0,SnpShared,1,0,0,Invalid,SnpRespData_SC,Invalid,OK,-,?" ∷
@@ -27,7 +27,7 @@ exampleIn =
 -- the example's whole output
 abbrev pub exampleOut : List ℕ
 exampleOut =
-    page
+    textOf
     ("event,verdict,duty,states" ∷
     "0,explained,Home,I SC" ∷
     "1,explained,none,I SC" ∷
@@ -42,7 +42,7 @@ pub record Case : Type 0 where
 
 -- an input as bytes, with the lines that must follow the output's header
 abbrev given : List ℕ → List String → Case
-given input answers = record { input = input; output = page ("event,verdict,duty,states" ∷ answers) }
+given input answers = record { input = input; output = textOf ("event,verdict,duty,states" ∷ answers) }
 
 -- the header of the input (definition 8.2)
 abbrev headerText : String
@@ -57,27 +57,27 @@ goodAnswer = "0,explained,Home,I SC"
 
 -- a sheet with one line after the header
 abbrev second : String → String → Case
-second line answer = given (page (headerText ∷ line ∷ [])) (answer ∷ [])
+second line answer = given (textOf (headerText ∷ line ∷ [])) (answer ∷ [])
 
 -- the same, with the line given as bytes
 abbrev secondBytes : List ℕ → String → Case
-secondBytes line answer = given (page (headerText ∷ []) ++ (line ++ eol)) (answer ∷ [])
+secondBytes line answer = given (textOf (headerText ∷ []) ++ (line ++ eol)) (answer ∷ [])
 
 abbrev pub cases : List Case
 cases =
     -- 6, only on line 1: no input, an empty line, a header without its last letter, with one letter more, with a capital, with one CR more
     given [] ("refused,6,1" ∷ []) ∷
-    given (page ("" ∷ [])) ("refused,6,1" ∷ []) ∷
-    given (page ("pair,request,RetToSrc,DoNotGoToSD,excl,tag,response,TagOp,RespErr,forward,fina" ∷ goodText ∷ [])) ("refused,6,1" ∷ []) ∷
-    given (page ("pair,request,RetToSrc,DoNotGoToSD,excl,tag,response,TagOp,RespErr,forward,finals" ∷ goodText ∷ [])) ("refused,6,1" ∷ []) ∷
-    given (page ("Pair,request,RetToSrc,DoNotGoToSD,excl,tag,response,TagOp,RespErr,forward,final" ∷ goodText ∷ [])) ("refused,6,1" ∷ []) ∷
+    given (textOf ("" ∷ [])) ("refused,6,1" ∷ []) ∷
+    given (textOf ("pair,request,RetToSrc,DoNotGoToSD,excl,tag,response,TagOp,RespErr,forward,fina" ∷ goodText ∷ [])) ("refused,6,1" ∷ []) ∷
+    given (textOf ("pair,request,RetToSrc,DoNotGoToSD,excl,tag,response,TagOp,RespErr,forward,finals" ∷ goodText ∷ [])) ("refused,6,1" ∷ []) ∷
+    given (textOf ("Pair,request,RetToSrc,DoNotGoToSD,excl,tag,response,TagOp,RespErr,forward,final" ∷ goodText ∷ [])) ("refused,6,1" ∷ []) ∷
     given (bytes headerText ++ (CR ∷ eol)) ("refused,6,1" ∷ []) ∷
     -- 6 and not 7 or 8: line 1 too long, a good line in place of the header
     given (replicate 161 120) ("refused,6,1" ∷ []) ∷
-    given (page (goodText ∷ [])) ("refused,6,1" ∷ []) ∷
+    given (textOf (goodText ∷ [])) ("refused,6,1" ∷ []) ∷
     -- only the header, without its CR LF and with it: no output lines
     given (bytes headerText) [] ∷
-    given (page (headerText ∷ [])) [] ∷
+    given (textOf (headerText ∷ [])) [] ∷
     -- 8: an empty line, ten fields, twelve fields
     second "" "refused,8,2" ∷
     second "0,SnpShared,0,0,0,Invalid,SnpRespData_SC_PD,Invalid,OK,-" "refused,8,2" ∷
@@ -109,7 +109,7 @@ cases =
     second "4096,SnpUnique,0,0,0,Invalid,SnpRespData_SC_PD,Invalid,OK,-,?" "refused,8,2" ∷
     -- 7 before 8: a line of 161 bytes, with its CR LF and without; a line of 160 bytes is 8
     secondBytes (replicate 161 120) "refused,7,2" ∷
-    given (page (headerText ∷ []) ++ replicate 161 120) ("refused,7,2" ∷ []) ∷
+    given (textOf (headerText ∷ []) ++ replicate 161 120) ("refused,7,2" ∷ []) ∷
     secondBytes (replicate 160 120) "refused,8,2" ∷
     -- a CR alone and an LF alone are ordinary bytes, and end no line
     secondBytes (bytes "0,SnpShared" ++ (CR ∷ bytes ",0,0,0,Invalid,SnpRespData_SC_PD,Invalid,OK,-,?")) "refused,8,2" ∷
@@ -118,12 +118,12 @@ cases =
     secondBytes (bytes goodText ++ (LF ∷ bytes goodText)) "refused,8,2" ∷
     secondBytes (bytes goodText ++ (LF ∷ CR ∷ bytes goodText)) "refused,8,2" ∷
     -- a bad line after a good one: the good one's output stands, and nothing follows the refusal
-    given (page (headerText ∷ goodText ∷ "" ∷ goodText ∷ [])) (goodAnswer ∷ "refused,8,3" ∷ []) ∷
+    given (textOf (headerText ∷ goodText ∷ "" ∷ goodText ∷ [])) (goodAnswer ∷ "refused,8,3" ∷ []) ∷
     -- two pairs: the second one starts with all seven states too
-    given (page (headerText ∷ "0,SnpClean,0,0,0,?,SnpResp_SC,Invalid,DERR,-,?" ∷ "1,SnpShared,0,0,0,Invalid,SnpRespData_SC_PD,Invalid,OK,-,?" ∷ []))
+    given (textOf (headerText ∷ "0,SnpClean,0,0,0,?,SnpResp_SC,Invalid,DERR,-,?" ∷ "1,SnpShared,0,0,0,Invalid,SnpRespData_SC_PD,Invalid,OK,-,?" ∷ []))
     ("0,unexplained,none," ∷ "1,explained,Home,I SC" ∷ []) ∷
     -- without its CR LF, the last line is answered all the same
-    given (page (headerText ∷ []) ++ bytes goodText) (goodAnswer ∷ []) ∷
+    given (textOf (headerText ∷ []) ++ bytes goodText) (goodAnswer ∷ []) ∷
     []
 
 -- the output is as the case says
