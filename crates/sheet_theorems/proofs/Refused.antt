@@ -107,7 +107,10 @@ one-number r r′ = sym (its-number r) ∙ its-number r′
 pub header-passes : (lines : List (List ℕ)) → answers 0 startTable (header ∷ lines) ≡ answers 1 startTable lines
 unfolding onLine
 header-passes lines =
-    ap (λ b. cond b (told [] startTable true) (refuse 6 0 startTable) .text ++ cond (cond b (told [] startTable true) (refuse 6 0 startTable) .goes) (answers 1 (cond b (told [] startTable true) (refuse 6 0 startTable) .table) lines) []) (same-self header)
+    ap (λ (b : Bool). written (cond b (told [] startTable true) (refuse 6 0 startTable))) (same-self header)
+  where
+    written : Told → List ℕ
+    written t = t .text ++ cond (t .goes) (answers 1 (t .table) lines) []
 
 -- nothing is written after a refusal
 refused-ends : {k : ℕ} {line : List ℕ} {n : ℕ} (table : List ℕ) (more : List (List ℕ)) → RefusedWith k line n → answers k table (line ∷ more) ≡ refusedLine n (k + 1)

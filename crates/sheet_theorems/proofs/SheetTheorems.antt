@@ -51,12 +51,16 @@ use Rattle.sheet_theorems.proofs.AsTrace.{judged-so, spelled-so}
 
 -- THE EXAMPLE (definition 8.11): the whole input gives the whole output, byte for byte.
 pub example-answered : sheetOut exampleIn ≡ exampleOut
-unfolding setOf bit rows asked answered tagged permitted steps duty afterSet verdict dutyByte codeOf requestNames flagNames tagNames responses responseNames namedAnswers tagOpNames respErrNames forwardNames finalNames isPair readDecimal pairOf columns wellFormed eventOf parsed decimalText verdictText dutyText statesText headerLine answerLine refusedLine header onLine startTable
+unfolding setOf bit rows asked answered tagged permitted steps duty afterSet verdict dutyByte
+    codeOf requestNames flagNames tagNames responses responseNames namedAnswers tagOpNames respErrNames forwardNames finalNames
+    isPair readDecimal pairOf columns wellFormed eventOf parsed decimalText verdictText dutyText statesText headerLine answerLine refusedLine header onLine startTable
 example-answered = refl
 
 -- THE REFUSALS BY EXAMPLES (definition 8.7, 8.8): each input gives exactly the output that the case says.
 pub refusal-cases : all asSaid cases ≡ true
-unfolding setOf bit rows asked answered tagged permitted steps duty afterSet verdict dutyByte codeOf requestNames flagNames tagNames responses responseNames namedAnswers tagOpNames respErrNames forwardNames finalNames isPair readDecimal pairOf columns wellFormed eventOf parsed decimalText verdictText dutyText statesText headerLine answerLine refusedLine header onLine startTable
+unfolding setOf bit rows asked answered tagged permitted steps duty afterSet verdict dutyByte
+    codeOf requestNames flagNames tagNames responses responseNames namedAnswers tagOpNames respErrNames forwardNames finalNames
+    isPair readDecimal pairOf columns wellFormed eventOf parsed decimalText verdictText dutyText statesText headerLine answerLine refusedLine header onLine startTable
 refusal-cases = refl
 
 -- THE REFUSAL TABLE OF THE SHEET (definition 8.7): a line to which a row applies ends the run with the row's number and the line's own.

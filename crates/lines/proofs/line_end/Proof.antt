@@ -34,7 +34,11 @@ loop-less : tie.Need-loop-less Inv-loop μ-loop
 loop-less c = omega arith
 
 loop-again : tie.Need-loop-again Inv-loop μ-loop
-loop-again c = looked-next (c .before .before .before .loop .inv) (c .before .before .loop-test .taken) (none-here (now (c .before .before .before .before .before .before .before .args .text)) (c .before .before .before .loop .at) (omega (arith, c .before .before .before .loop .inv .inside)) (c .if2 .taken))
+loop-again c =
+    let loop = c .before .before .before .loop in
+    let args = c .before .before .before .before .before .before .before .args in
+    looked-next (loop .inv) (c .before .before .loop-test .taken)
+    (none-here (now (args .text)) (loop .at) (omega (arith, loop .inv .inside)) (c .if2 .taken))
 
 ends-line-requires : tie.Need-ends-line-requires Inv-loop μ-loop
 ends-line-requires c κs = search needs
