@@ -63,7 +63,8 @@ impl Refusal {
     /// Reads a result of the library: the place if it is accepted, else the refusal.
     pub(crate) fn unless_accepted(result: u64) -> Result<u64, Refusal> {
         let number = (result % 256) as u8;
-        let place = result / 256;
+        // the upper 32 bits are what more a call answers, not part of the place
+        let place = result % (1 << 32) / 256;
         let event = EventNumber(place);
         match number {
             0 => Ok(place),
@@ -116,6 +117,7 @@ mod tests {
         let read = Refusal::unless_accepted;
         assert_eq!(read(0), Ok(0));
         assert_eq!(read(4_096 * 256), Ok(4_096));
+        assert_eq!(read((29 << 32) + 256), Ok(1));
         assert_eq!(read(1), Err(Refusal::Lengths));
         assert_eq!(read(4_095 * 256 + 2), Err(Refusal::Set(PairNumber(4_095))));
         assert_eq!(
@@ -130,7 +132,7 @@ mod tests {
     #[test]
     fn results_not_known() {
         for number in 6..=255 {
-            for place in [0, 1, 255, 4_096, u64::MAX / 256] {
+            for place in [0, 1, 255, 4_096, (1 << 24) - 1] {
                 let refusal =
                     Refusal::unless_accepted(place * 256 + u64::from(number)).unwrap_err();
                 assert_eq!(refusal, Refusal::Unknown { number, place });
