@@ -100,7 +100,8 @@ fn judge_parsed(
     requires { ⌜ Roomy (now out) at ⌝ }
     requires { ⌜ 0 < lines ⌝ }
     requires { ⌜ lines < mostLines ⌝ }
-    ensures { λ r. ⌜ AnswersOn (onParsed lines (now (table .entry)) parsed) (now (out .entry)) at r (now (out .exit)) (now (table .exit)) ⌝ }
+    ensures { λ r. ⌜ AnswersOn (onParsed lines (now (table .entry)) parsed)
+        (now (out .entry)) at r (now (out .exit)) (now (table .exit)) ⌝ }
 {
     let number = parsed.refusal.0;
     if number != Refusal::ACCEPTED.0 {
