@@ -7,7 +7,6 @@
 #include <string.h>
 #include <sys/mman.h>
 #include <unistd.h>
-#include "made.h"
 #include "traces.h"
 
 /* Room for the events and the pair numbers of a trace, of which one more than allowed is tried. */
@@ -41,9 +40,6 @@ static struct lent lent;
 /* The names of the buffers. */
 static const char *const buffer_names[BUFFERS] = {"table", "verdicts", "duties", "after-sets"};
 
-/* The largest good value of each byte of an event. */
-static const uint8_t largest[EVENT_BYTES] = {22, 1, 1, 1, 3, 1, 31, 7, 7, 3, 3, 1, 7, 7};
-
 /* The ends of the memory that events and pair numbers are lent from, behind which nothing can be read. */
 static uint8_t *events_end, *numbers_end;
 
@@ -51,7 +47,7 @@ static uint8_t *events_end, *numbers_end;
 static const char *volatile sweep = "";
 
 /* How many traces and events were compared, and how many of each outcome there were. */
-static unsigned long traces, events, refusals[REFUSALS], verdicts[VERDICTS], duties[DUTIES];
+static unsigned long traces, events, refusals[TRACE_REFUSALS], verdicts[VERDICTS], duties[DUTIES];
 
 /* The judge that is at work. */
 static const char *volatile at_work = "";
@@ -158,7 +154,7 @@ static void count(const struct left *left)
 {
     unsigned refusal = (unsigned)(left->result % 256);
     events += lent.numbers_len;
-    refusals[refusal < REFUSALS ? refusal : 0]++;
+    refusals[refusal < TRACE_REFUSALS ? refusal : 0]++;
     for (size_t k = 0; refusal == ACCEPTED && k < lent.numbers_len; k++) {
         verdicts[left->area[start_of(VERDICT_BYTES) + k] % VERDICTS]++;
         duties[left->area[start_of(DUTY_BYTES) + k] % DUTIES]++;
@@ -193,15 +189,21 @@ static void fit(size_t n, size_t pairs)
     lent.lens[VERDICT_BYTES] = lent.lens[DUTY_BYTES] = lent.lens[AFTER_BYTES] = n;
 }
 
-/* Makes the trace at hand a good one of so many events over so many pairs. */
-static void make_good(size_t n, size_t pairs)
+/* Makes the trace at hand the one of a seed, of so many events over so many pairs. */
+static void make_seeded(size_t n, size_t pairs, uint64_t seed)
 {
     static struct trace trace;
-    make_trace(&trace, n, pairs, draw());
+    make_trace(&trace, n, pairs, seed);
     fit(n, pairs);
     memcpy(lent.events, trace.events, lent.events_len);
     memcpy(lent.numbers, trace.numbers, n * sizeof trace.numbers[0]);
     memcpy(lent.table, trace.start, pairs);
+}
+
+/* Makes the trace at hand a good one of so many events over so many pairs. */
+static void make_good(size_t n, size_t pairs)
+{
+    make_seeded(n, pairs, draw());
 }
 
 /* Puts a drawn number below a limit into a byte. */
@@ -219,13 +221,8 @@ static uint8_t draw_set(void)
 /* The measured traces. */
 static void measured(void)
 {
-    static struct trace trace;
     for (unsigned n = 0; n < SIZES; n++) {
-        make_trace(&trace, sizes[n].n, sizes[n].pairs, SEED);
-        fit(trace.n, trace.pairs);
-        memcpy(lent.events, trace.events, lent.events_len);
-        memcpy(lent.numbers, trace.numbers, sizeof trace.numbers);
-        memcpy(lent.table, trace.start, trace.pairs);
+        make_seeded(sizes[n].n, sizes[n].pairs, SEED);
         compare();
     }
 }
@@ -312,7 +309,7 @@ static void start_sweep(void)
 static struct drawn numbered(unsigned n)
 {
     unsigned rest = n / (8 * TAGS * TAG_OPS * RESP_ERRS);
-    struct drawn drawn = {.request = rest % REQUESTS, .excl = n & 1, .final = STATE_NOT_SEEN};
+    struct drawn drawn = {.request = rest % REQUESTS, .excl = n & 1, .state_after = STATE_NOT_SEEN};
     drawn.event = (struct event){
         .ret_to_src = n >> 1 & 1, .do_not_go_to_sd = n >> 2 & 1, .tag = n >> 3 & 3, .tag_op = n >> 5 & 3, .resp_err = n >> 7 & 3,
         .response = (unsigned char)(rest / REQUESTS % RESPONSES), .forward = (unsigned char)(rest / REQUESTS / RESPONSES),
@@ -332,7 +329,7 @@ static void answers(void)
         if (state < STATES)
             lent.table[k] = (uint8_t)ONLY(state);
         else
-            drawn.final = below(STATES + 1);
+            drawn.state_after = below(STATES + 1);
         put_event(lent.events + k * EVENT_BYTES, &drawn);
         if (k == 63)
             compare();
@@ -434,7 +431,7 @@ void check_judges(void)
     }
     signal(SIGSEGV, SIG_DFL);
     signal(SIGBUS, SIG_DFL);
-    all_came("refusal", refusals, REFUSALS);
+    all_came("refusal", refusals, TRACE_REFUSALS);
     all_came("verdict", verdicts, VERDICTS);
     all_came("duty", duties, DUTIES);
     printf("check: the judges agree on %lu traces with %lu events; refusals 0 to 5: %lu %lu %lu %lu %lu %lu\n", traces, events,

@@ -11,7 +11,7 @@ struct drawn {
     unsigned pair;
     unsigned request;
     unsigned excl;
-    unsigned final;
+    unsigned state_after;
     struct event event;
 };
 
@@ -49,16 +49,6 @@ static inline unsigned state_of(unsigned set)
     return state;
 }
 
-/* The states in which an event leaves a pair with this set. */
-static inline unsigned states_left(const struct drawn *drawn, unsigned set)
-{
-    unsigned after = 0;
-    for (const struct row *row = rows; row < rows + ROWS; row++)
-        if (set & ONLY(row->before) && permits(row, &drawn->event))
-            after |= row->after;
-    return drawn->final == STATE_NOT_SEEN ? after : after & ONLY(drawn->final);
-}
-
 /* Draws a request and its flags. */
 static inline void draw_request(struct drawn *drawn)
 {
@@ -79,7 +69,7 @@ static inline struct drawn draw_anything(void)
     drawn.event.tag_op = (unsigned char)below(TAG_OPS);
     drawn.event.resp_err = (unsigned char)below(RESP_ERRS);
     drawn.event.forward = (unsigned char)below(FORWARDS);
-    drawn.final = below(STATES + 1);
+    drawn.state_after = below(STATES + 1);
     return drawn;
 }
 
@@ -96,7 +86,7 @@ static inline int try_permitted(struct drawn *drawn, unsigned state, unsigned wa
     drawn->event.tag = likely_tags[below(sizeof likely_tags)];
     drawn->event.resp_err = (unsigned char)(comes(13, 16) ? OK : comes(2, 3) ? DERR : NDERR);
     for (const struct row *row = rows; row < rows + ROWS; row++) {
-        if (row->before != state || !(row->after & wanted))
+        if (row->before != state || !(row->states_after & wanted))
             continue;
         drawn->event.response = row->response;
         drawn->event.forward = row->forward;
@@ -104,7 +94,7 @@ static inline int try_permitted(struct drawn *drawn, unsigned state, unsigned wa
             drawn->event.tag_op = (unsigned char)tag_op;
             if (permits(row, &drawn->event)) {
                 fitting[count] = drawn->event;
-                after[count++] = (unsigned char)(row->after & wanted);
+                after[count++] = (unsigned char)(row->states_after & wanted);
             }
         }
     }
@@ -112,7 +102,7 @@ static inline int try_permitted(struct drawn *drawn, unsigned state, unsigned wa
         return 0;
     unsigned chosen = below(count);
     drawn->event = fitting[chosen];
-    drawn->final = below(2) ? STATE_NOT_SEEN : state_of(after[chosen]);
+    drawn->state_after = below(2) ? STATE_NOT_SEEN : state_of(after[chosen]);
     return 1;
 }
 
@@ -163,7 +153,7 @@ static inline struct drawn draw_next(unsigned char *sets, unsigned pairs, unsign
     else
         drawn = draw_lively(set, comes(2, events_a_pair));
     drawn.pair = pair;
-    sets[pair] = (unsigned char)states_left(&drawn, set);
+    sets[pair] = (unsigned char)finding_by_rows(&drawn.event, set, allowed_by(drawn.state_after)).after_set;
     return drawn;
 }
 

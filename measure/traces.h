@@ -1,9 +1,12 @@
-/* What the two halves of the benchmark of whole traces share: the judges, and the traces that are measured. */
+/* What the check and the measurement of whole traces share: the judges, and traces that are drawn. */
 
 #ifndef TRACES_H
 #define TRACES_H
 
+#include <string.h>
+#include "draws.h"
 #include "judges.h"
+#include "wire.h"
 
 /* A judge and its name. */
 struct judge {
@@ -11,11 +14,11 @@ struct judge {
     judge_of_traces *judge;
 };
 
-/* How many judges there are. */
+/* How many judges are compared. */
 #define JUDGES 3
 
-/* The judges, the proved one first. */
-extern const struct judge judges[JUDGES];
+/* The judges, the proved one first, and last one that does nothing, for what stands around a call. */
+extern const struct judge judges[JUDGES + 1];
 
 /* How many events and pairs a measured trace has. */
 struct size {
@@ -32,7 +35,49 @@ extern const struct size sizes[SIZES];
 /* The seed that the measured traces are drawn from. */
 #define SEED 1
 
-/* Compares the judges on the measured traces and on many others, tells what was compared, and ends the program where they differ. */
+/* A trace whose lengths fit, with the sets that its pairs start from. */
+struct trace {
+    size_t n;
+    size_t pairs;
+    uint8_t events[MOST * EVENT_BYTES];
+    uint16_t numbers[MOST];
+    uint8_t start[MOST];
+};
+
+/* Writes a drawn event as its bytes. */
+static inline void put_event(uint8_t *bytes, const struct drawn *drawn)
+{
+    const struct event *event = &drawn->event;
+    bytes[REQUEST_AT] = request_codes[drawn->request];
+    bytes[RET_TO_SRC_AT] = event->ret_to_src;
+    bytes[DO_NOT_GO_TO_SD_AT] = event->do_not_go_to_sd;
+    bytes[EXCL_AT] = (uint8_t)drawn->excl;
+    bytes[TAG_AT] = event->tag;
+    memcpy(bytes + CHANNEL_AT, response_codes[event->response], sizeof response_codes[0]);
+    bytes[TAG_OP_AT] = event->tag_op;
+    bytes[RESP_ERR_AT] = event->resp_err;
+    bytes[FORWARDED_AT] = event->forward != NO_FORWARD;
+    bytes[FORWARDED_RESP_AT] = forward_codes[event->forward];
+    bytes[STATE_AFTER_AT] = (uint8_t)drawn->state_after;
+}
+
+/* Draws a trace of so many events over so many pairs, each from any of the seven states, in which most events are explained. */
+static inline void make_trace(struct trace *trace, size_t n, size_t pairs, uint64_t seed)
+{
+    unsigned char sets[MOST];
+    source = seed;
+    trace->n = n;
+    trace->pairs = pairs;
+    memset(trace->start, ALL_STATES, pairs);
+    memset(sets, ALL_STATES, pairs);
+    for (size_t k = 0; k < n; k++) {
+        struct drawn drawn = draw_next(sets, (unsigned)pairs, events_of_a_pair(n, (unsigned)pairs));
+        trace->numbers[k] = (uint16_t)drawn.pair;
+        put_event(trace->events + k * EVENT_BYTES, &drawn);
+    }
+}
+
+/* Compares the judges on the measured traces and on many others, and ends the program where they differ. */
 void check_judges(void);
 
 #endif
