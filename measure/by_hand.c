@@ -3,6 +3,7 @@
 #include <errno.h>
 #include <stdio.h>
 #include <unistd.h>
+#include "lookup.h"
 #include "read_line.h"
 
 /* How many bytes are read or written at a time. */

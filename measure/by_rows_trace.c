@@ -19,28 +19,6 @@ static struct event read_event(const uint8_t *bytes)
     };
 }
 
-/* The refusal of an event's bytes, if any. */
-static unsigned fault_of(const uint8_t *bytes)
-{
-    for (unsigned at = 0; at < EVENT_BYTES; at++)
-        if (bytes[at] > largest[at])
-            return OUT_OF_RANGE;
-    return request_of(bytes[REQUEST_AT]) == REQUESTS ? OTHER_REQUEST : ACCEPTED;
-}
-
-/* The first refusal of the events in their order, or their number. */
-static uint64_t test_events(const uint8_t *events, const uint16_t *pairs, size_t n, size_t table_len)
-{
-    for (size_t k = 0; k < n; k++) {
-        if (pairs[k] >= table_len)
-            return result_of(NO_PAIR, k);
-        unsigned fault = fault_of(events + k * EVENT_BYTES);
-        if (fault)
-            return result_of(fault, k);
-    }
-    return result_of(ACCEPTED, n);
-}
-
 uint64_t by_rows_trace(LENT)
 {
     size_t n = events_len / EVENT_BYTES;
@@ -49,7 +27,7 @@ uint64_t by_rows_trace(LENT)
     for (size_t pair = 0; pair < table_len; pair++)
         if (table[pair] > ALL_STATES)
             return result_of(NO_SET, pair);
-    uint64_t tested = test_events(events, pairs, n, table_len);
+    uint64_t tested = test_from(0, events, pairs, n, table_len);
     if (tested % 256 != ACCEPTED)
         return tested;
     for (size_t k = 0; k < n; k++) {

@@ -1,9 +1,7 @@
 /* A whole trace judged by a program written for speed: events are tested eight at a time, then looked up in tables made from the rows. */
 
-#include <string.h>
-#ifdef __SSE2__
 #include <emmintrin.h>
-#endif
+#include <string.h>
 #include "judges.h"
 #include "lookup.h"
 #include "rows.h"
@@ -11,10 +9,6 @@
 
 /* How many events are tested at a time. */
 #define BLOCK 8u
-
-/* The codes of the requests as a set of bits. */
-#define REQUEST_BIT(name, code, kind) | 1u << (code)
-#define REQUEST_BITS (0 REQUEST_LIST(REQUEST_BIT))
 
 /* What the first six bytes of an event are multiplied by for the highest bits to tell what was asked; found by trial, like the next. */
 #define ASKED_FACTOR 0x1108020400800000u
@@ -70,20 +64,6 @@ static inline size_t rest_index(uint64_t back)
     return (size_t)((back >> 16) * REST_FACTOR >> (64 - REST_BITS));
 }
 
-/* The refusal of one event, if any. */
-static inline unsigned fault_of(const uint8_t *event, size_t pair, size_t table_len)
-{
-    const unsigned back = EVENT_BYTES - 8;
-    if (pair >= table_len)
-        return NO_PAIR;
-    if ((load(event) & ~load(largest)) | (load(event + back) & ~load(largest + back)))
-        return OUT_OF_RANGE;
-    unsigned request = event[REQUEST_AT];
-    return request < 32 && REQUEST_BITS >> request & 1 ? ACCEPTED : OTHER_REQUEST;
-}
-
-#ifdef __SSE2__
-
 /* What the bytes of eight events are tested with: the bits that none in range has, and where the requests are. */
 static _Alignas(16) uint8_t tested_with[2][BLOCK * EVENT_BYTES];
 
@@ -122,36 +102,13 @@ static inline int block_is_good(const uint8_t *events, const uint16_t *pairs, si
     return _mm_movemask_epi8(good) == 0xffff;
 }
 
-#else
-
-/* There is nothing to fill in where events are tested one by one. */
-static void put_tested_with(void)
-{
-}
-
-/* Whether eight events are all good. */
-static inline int block_is_good(const uint8_t *events, const uint16_t *pairs, size_t table_len)
-{
-    unsigned faults = 0;
-    for (unsigned k = 0; k < BLOCK; k++)
-        faults |= fault_of(events + k * EVENT_BYTES, pairs[k], table_len);
-    return faults == ACCEPTED;
-}
-
-#endif
-
-/* The first refusal of the events in their order, or their number. */
+/* The result of testing the events, eight at a time as long as they are good. */
 static uint64_t test_events(const uint8_t *events, const uint16_t *pairs, size_t n, size_t table_len)
 {
     size_t k = 0;
     while (n - k >= BLOCK && block_is_good(events + k * EVENT_BYTES, pairs + k, table_len))
         k += BLOCK;
-    for (; k < n; k++) {
-        unsigned fault = fault_of(events + k * EVENT_BYTES, pairs[k], table_len);
-        if (fault)
-            return result_of(fault, k);
-    }
-    return result_of(ACCEPTED, n);
+    return test_from(k, events, pairs, n, table_len);
 }
 
 /* The refusal of the lowest set above 127, or 0. */

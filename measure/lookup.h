@@ -1,4 +1,4 @@
-/* What the two judges that look events up share: what the rows make of an event, and bytes read eight at a time. */
+/* What the rows make of an event, for the two judges that look events up. */
 
 #ifndef LOOKUP_H
 #define LOOKUP_H
@@ -39,13 +39,6 @@ static inline struct finding finding_by_effect(const struct effect *effect, unsi
 {
     unsigned after = set & effect->from ? effect->after & allowed : 0;
     return finding_of(set, after, effect->duty, effect->lost_from);
-}
-
-/* Eight bytes as a number, the first as its lowest digits. */
-static inline uint64_t load(const unsigned char *bytes)
-{
-    return (uint64_t)bytes[0] | (uint64_t)bytes[1] << 8 | (uint64_t)bytes[2] << 16 | (uint64_t)bytes[3] << 24
-        | (uint64_t)bytes[4] << 32 | (uint64_t)bytes[5] << 40 | (uint64_t)bytes[6] << 48 | (uint64_t)bytes[7] << 56;
 }
 
 #endif

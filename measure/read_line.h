@@ -4,7 +4,7 @@
 #define READ_LINE_H
 
 #include <string.h>
-#include "lookup.h"
+#include "load.h"
 #include "sheet.h"
 
 /* The most bytes of an answer's name. */

@@ -3,6 +3,7 @@
 #ifndef WIRE_H
 #define WIRE_H
 
+#include "load.h"
 #include "rows.h"
 
 /* Where each field stands in an event. */
@@ -57,6 +58,29 @@ static inline unsigned forward_of(unsigned there, unsigned resp)
     FORWARD_LIST(FORWARD_CASE)
     default: return FORWARDS;
     }
+}
+
+/* The refusal of one event, if any. */
+static inline unsigned fault_of(const uint8_t *event, size_t pair, size_t table_len)
+{
+#define REQUEST_BIT(name, code, kind) | 1u << code
+    const unsigned requests = 0 REQUEST_LIST(REQUEST_BIT), request = event[REQUEST_AT], back = EVENT_BYTES - 8;
+    if (pair >= table_len)
+        return NO_PAIR;
+    if ((load(event) & ~load(largest)) | (load(event + back) & ~load(largest + back)))
+        return OUT_OF_RANGE;
+    return request < 32 && requests >> request & 1 ? ACCEPTED : OTHER_REQUEST;
+}
+
+/* The result of testing the events from the k-th on, one after another. */
+static inline uint64_t test_from(size_t k, const uint8_t *events, const uint16_t *pairs, size_t n, size_t table_len)
+{
+    for (; k < n; k++) {
+        unsigned fault = fault_of(events + k * EVENT_BYTES, pairs[k], table_len);
+        if (fault)
+            return result_of(fault, k);
+    }
+    return result_of(ACCEPTED, n);
 }
 
 #endif
