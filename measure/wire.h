@@ -63,13 +63,12 @@ static inline unsigned forward_of(unsigned there, unsigned resp)
 /* The refusal of one event, if any. */
 static inline unsigned fault_of(const uint8_t *event, size_t pair, size_t table_len)
 {
-#define REQUEST_BIT(name, code, kind) | 1u << code
-    const unsigned requests = 0 REQUEST_LIST(REQUEST_BIT), request = event[REQUEST_AT], back = EVENT_BYTES - 8;
+    const unsigned back = EVENT_BYTES - 8;
     if (pair >= table_len)
         return NO_PAIR;
     if ((load(event) & ~load(largest)) | (load(event + back) & ~load(largest + back)))
         return OUT_OF_RANGE;
-    return request < 32 && requests >> request & 1 ? ACCEPTED : OTHER_REQUEST;
+    return request_of(event[REQUEST_AT]) == REQUESTS ? OTHER_REQUEST : ACCEPTED;
 }
 
 /* The result of testing the events from the k-th on, one after another. */
