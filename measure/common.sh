@@ -57,9 +57,9 @@ native=''
 [ "$(uname -m)" != x86_64 ] || native=yes
 
 # compiles C for speed: compile COMPILER ARGS ..
-# on x86-64 no branch crosses a 32-byte boundary: some processors are slow there, and chance would decide the times
+# where the assembler can, no branch crosses 32 bytes: some processors are slow there, and chance would decide the times
 compile() {
-    if [ "$native" ]; then "$@" -O3 -Wa,-mbranches-within-32B-boundaries; else "$@" -O3; fi
+    "$@" -O3 -Wa,-mbranches-within-32B-boundaries 2>/dev/null || "$@" -O3
 }
 
 # what counts instructions here, or why nothing does
