@@ -9,7 +9,7 @@
 /* How many bytes are read or written at a time. */
 #define BUFFER_BYTES 65536u
 
-/* How many bytes have to be at hand before a line is looked at, unless the input has ended. */
+/* How many bytes are read ahead of a line, unless the input has ended. */
 #define LOOK_AHEAD 192u
 
 /* The most bytes of a line without its CRLF. */
@@ -27,7 +27,7 @@ struct reply {
     uint8_t length;
 };
 
-/* An event's number as written, first digit lowest, what counts its last digit on, and what that stays below. */
+/* An event's number as text in a number, first digit lowest; what adds one to its last digit, and what it stays below. */
 struct count {
     uint64_t digits;
     uint64_t one;
@@ -141,7 +141,7 @@ static void write_out(const unsigned char *bytes, size_t length)
     }
 }
 
-/* Brings the rest of the input at hand to the front, reads until there is enough or no more, and gives the new end. */
+/* Moves the rest of the input to the front of the buffer, reads until there is enough, and gives the new end. */
 static const unsigned char *read_more(const unsigned char *rest, const unsigned char *end, int *ended)
 {
     size_t length = (size_t)(end - rest);
@@ -172,7 +172,7 @@ static unsigned fault_of(const unsigned char *at)
     return TOO_LONG;
 }
 
-/* Carries on from a last digit that has gone past 9. */
+/* Carries where the last digit has gone past 9. */
 static void carry(struct count *count)
 {
     uint64_t one = count->one;
@@ -191,7 +191,7 @@ static void carry(struct count *count)
     count->length++;
 }
 
-/* Judges a line, moves its pair's set, writes the answer here, and gives where the next one goes. */
+/* Judges a line, moves its pair's set, writes the answer, and gives where the next answer goes. */
 static inline unsigned char *answer(const struct line *line, struct count *count, unsigned char *out)
 {
     struct finding finding = judge(line, sets[line->pair]);

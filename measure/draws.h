@@ -15,10 +15,10 @@ struct drawn {
     struct event event;
 };
 
-/* What the next draw comes from. */
+/* The state of the random generator. */
 static uint64_t source;
 
-/* The next drawn number. */
+/* The next random number. */
 static inline uint64_t draw(void)
 {
     uint64_t mixed = source += 0x9e3779b97f4a7c15u;
@@ -27,13 +27,13 @@ static inline uint64_t draw(void)
     return mixed ^ mixed >> 31;
 }
 
-/* A drawn number below a limit. */
+/* A random number below a limit. */
 static inline unsigned below(unsigned limit)
 {
     return (unsigned)((draw() >> 32) * limit >> 32);
 }
 
-/* Whether something comes to pass that does so this often out of that many times. */
+/* True so often out of so many times. */
 static inline int comes(uint64_t often, uint64_t out_of)
 {
     return draw() % out_of < often;
@@ -73,7 +73,7 @@ static inline struct drawn draw_anything(void)
     return drawn;
 }
 
-/* Tries to draw an event that a row permits from a state, and after which it can be one of the states wanted. */
+/* Tries to draw an event that some row permits from a state and that can leave one of the states wanted. */
 static inline int try_permitted(struct drawn *drawn, unsigned state, unsigned wanted)
 {
     static const unsigned char likely_tags[] = {
@@ -106,7 +106,7 @@ static inline int try_permitted(struct drawn *drawn, unsigned state, unsigned wa
     return 1;
 }
 
-/* Draws an event that a row permits from a state, and after which it can be one of the states wanted. */
+/* Draws an event that some row permits from a state and that can leave one of the states wanted. */
 static inline struct drawn draw_permitted(unsigned state, unsigned wanted)
 {
     struct drawn drawn = {0};
@@ -115,7 +115,7 @@ static inline struct drawn draw_permitted(unsigned state, unsigned wanted)
     return drawn;
 }
 
-/* Draws an event that a row permits from a state of a set, and that keeps the copy unless the pair may lose it. */
+/* Draws an event that some row permits from a state of a set, and that keeps the copy unless the pair may lose it. */
 static inline struct drawn draw_lively(unsigned set, int may_leave)
 {
     static const unsigned char kept[STATES] = {
@@ -129,13 +129,13 @@ static inline struct drawn draw_lively(unsigned set, int may_leave)
     return draw_permitted(state, kept[state]);
 }
 
-/* About how many events a pair has, where so many events are drawn over so many pairs. */
+/* About how many events each pair gets. */
 static inline unsigned long events_of_a_pair(unsigned long events, unsigned pairs)
 {
     return events / pairs + 4;
 }
 
-/* Draws the next event over the first so many pairs, whose sets it moves as a judge would. */
+/* Draws the next event over so many pairs, and moves their sets as a judge would. */
 static inline struct drawn draw_next(unsigned char *sets, unsigned pairs, unsigned long events_a_pair)
 {
     unsigned pair, set;
@@ -144,7 +144,7 @@ static inline struct drawn draw_next(unsigned char *sets, unsigned pairs, unsign
         set = sets[pair];
     } while ((set == 0 || set == ONLY(I)) && !comes(1, 8));
 
-    /* A pair can't go back up, so in all the events it has it may leave its state twice on the whole. */
+    /* A pair can't go back up, so over all its events it may leave its state about twice. */
     struct drawn drawn;
     if (set == 0)
         drawn = comes(1, 8) ? draw_anything() : draw_permitted(below(STATES), ALL_STATES);

@@ -1,4 +1,4 @@
-/* Writes a bench sheet of mostly explained events: make_sheet LINES PAIRS SEED, with the header not among the LINES. */
+/* Writes a bench sheet of mostly explained events: make_sheet LINES PAIRS SEED; the header is not one of the LINES. */
 
 #include <stdint.h>
 #include <stdio.h>
@@ -10,7 +10,7 @@
 /* The sets of the pairs as a judge would know them. */
 static unsigned char sets[MOST];
 
-/* The number that a word is, or the end of the program where it is none from least to most. */
+/* The number that an argument says; ends the program where it says none from least to most. */
 static unsigned long number(const char *word, unsigned long least, unsigned long most)
 {
     char *end;
@@ -37,7 +37,7 @@ int main(int count, char **words)
     printf(SHEET_HEADER "\r\n");
     for (unsigned long line = 0; line < lines; line++) {
         struct drawn drawn = draw_next(sets, pairs, events_of_a_pair(lines, pairs));
-        /* The numbers of few pairs are spread over all the numbers that a pair can have. */
+        /* Few pairs are spread over all the numbers that a pair can have. */
         const struct event *event = &drawn.event;
         printf("%u,%s,%u,%u,%u,%s,%s,%s,%s,%s,%s\r\n", drawn.pair * (MOST / pairs), request_names[drawn.request],
                event->ret_to_src, event->do_not_go_to_sd, drawn.excl, tag_names[event->tag],

@@ -34,7 +34,7 @@ static struct trace traces[SIZES];
 /* The buffers that a judge writes. */
 static uint8_t table[MOST], verdicts[MOST], duties[MOST], afters[MOST];
 
-/* Judges a trace so many times, each time from the sets that it starts from; what the outputs hold is left as it is. */
+/* Judges a trace so many times, each time from its starting sets; the outputs are not cleared. */
 static void repeat(const struct judge *judge, const struct trace *trace, unsigned long times)
 {
     judge_of_traces *volatile call = judge->judge;
@@ -61,7 +61,7 @@ static double nanoseconds(const struct judge *judge, const struct trace *trace, 
     return now() - start;
 }
 
-/* The nanoseconds that a call takes, measured over so many calls, or over more where those don't last. */
+/* The nanoseconds that a call takes, measured over so many calls, or over more where those end too soon. */
 static double call_time(const struct judge *judge, const struct trace *trace, unsigned long *times)
 {
     double lasted = nanoseconds(judge, trace, *times);
@@ -72,7 +72,7 @@ static double call_time(const struct judge *judge, const struct trace *trace, un
     return lasted / (double)*times;
 }
 
-/* Measures and prints what a call of each judge takes on each trace. A round goes over all traces, so that the rounds lie far apart. */
+/* Measures and prints the time of a call of each judge on each trace; a round goes over all traces, so that rounds lie far apart. */
 static void print_times(void)
 {
     enum { CELLS = SIZES * (JUDGES + 1) };
@@ -129,7 +129,7 @@ static void measure(void)
     print_times();
 }
 
-/* Calls one judge so many times and no other, for its instructions to be counted. */
+/* Calls one judge so many times, for its instructions to be counted. */
 static int repeat_one(char **words)
 {
     make_trace(&traces[0], strtoul(words[1], 0, 10), strtoul(words[2], 0, 10), SEED);
@@ -144,7 +144,7 @@ static int repeat_one(char **words)
     return 2;
 }
 
-/* Does as it is told. */
+/* Checks, measures or repeats, as the arguments say. */
 int main(int count, char **words)
 {
     if (count == 6 && strcmp(words[1], "repeat") == 0)

@@ -17,7 +17,7 @@ struct judge {
 /* How many judges are compared. */
 #define JUDGES 3
 
-/* The judges, the proved one first, and last one that does nothing, for what stands around a call. */
+/* The judges, the proved one first; the last does nothing, and measures what stands around a call. */
 extern const struct judge judges[JUDGES + 1];
 
 /* How many events and pairs a measured trace has. */
@@ -61,7 +61,7 @@ static inline void put_event(uint8_t *bytes, const struct drawn *drawn)
     bytes[STATE_AFTER_AT] = (uint8_t)drawn->state_after;
 }
 
-/* Draws a trace of so many events over so many pairs, each from any of the seven states, in which most events are explained. */
+/* Draws a trace of mostly explained events, its pairs starting from any of the seven states. */
 static inline void make_trace(struct trace *trace, size_t n, size_t pairs, uint64_t seed)
 {
     unsigned char sets[MOST];
