@@ -6,7 +6,6 @@
 #include <string.h>
 #include <time.h>
 #include "../include/korehyumo.h"
-#include "made.h"
 #include "traces.h"
 
 /* How many rounds are measured, of which the least counts. */
@@ -15,7 +14,17 @@
 /* How many nanoseconds a measurement lasts at least. */
 #define SHORTEST 50000000.0
 
-const struct judge judges[JUDGES] = {{"proved", korehyumo_trace}, {"by_table", by_table_trace}, {"by_rows", by_rows_trace}};
+/* Does nothing with a trace, so that what stands around a call can be measured by itself. */
+static uint64_t nothing(LENT)
+{
+    (void)events, (void)pairs, (void)table, (void)verdicts, (void)duties, (void)afters;
+    (void)events_len, (void)pairs_len, (void)table_len, (void)verdicts_len, (void)duties_len, (void)afters_len;
+    return 0;
+}
+
+const struct judge judges[JUDGES + 1] = {
+    {"proved", korehyumo_trace}, {"by_table", by_table_trace}, {"by_rows", by_rows_trace}, {"around", nothing},
+};
 
 const struct size sizes[SIZES] = {{64, 64}, {512, 64}, {4096, 64}, {4096, 512}, {4096, 4096}, {0, 4096}};
 
@@ -25,22 +34,7 @@ static struct trace traces[SIZES];
 /* The buffers that a judge writes. */
 static uint8_t table[MOST], verdicts[MOST], duties[MOST], afters[MOST];
 
-/* Does nothing with a trace, so that what stands around a call can be measured by itself. */
-static uint64_t nothing(const uint8_t *events, size_t events_len, const uint16_t *pairs, size_t pairs_len, uint8_t *sets,
-                        size_t sets_len, uint8_t *verdict_bytes, size_t verdicts_len, uint8_t *duty_bytes, size_t duties_len,
-                        uint8_t *after_bytes, size_t afters_len)
-{
-    (void)events, (void)pairs, (void)sets, (void)verdict_bytes, (void)duty_bytes, (void)after_bytes;
-    (void)events_len, (void)pairs_len, (void)sets_len, (void)verdicts_len, (void)duties_len, (void)afters_len;
-    return 0;
-}
-
-/* What is measured: the judges, and last what stands around a call. */
-static const struct judge measured[JUDGES + 1] = {
-    {"proved", korehyumo_trace}, {"by_table", by_table_trace}, {"by_rows", by_rows_trace}, {"around", nothing},
-};
-
-/* Judges a trace so many times, each time from the sets that it starts from; what the outputs hold is left as it is. */
+/* Judges a trace so many times, each time from its starting sets; the outputs are not cleared. */
 static void repeat(const struct judge *judge, const struct trace *trace, unsigned long times)
 {
     judge_of_traces *volatile call = judge->judge;
@@ -67,7 +61,7 @@ static double nanoseconds(const struct judge *judge, const struct trace *trace, 
     return now() - start;
 }
 
-/* The nanoseconds that a call takes, measured over so many calls, or over more where those don't last. */
+/* The nanoseconds that a call takes, measured over so many calls, or over more where those end too soon. */
 static double call_time(const struct judge *judge, const struct trace *trace, unsigned long *times)
 {
     double lasted = nanoseconds(judge, trace, *times);
@@ -78,7 +72,7 @@ static double call_time(const struct judge *judge, const struct trace *trace, un
     return lasted / (double)*times;
 }
 
-/* Measures and prints what a call of each judge takes on each trace. A round goes over all traces, so that the rounds lie far apart. */
+/* Measures and prints the time of a call of each judge on each trace; a round goes over all traces, so that rounds lie far apart. */
 static void print_times(void)
 {
     enum { CELLS = SIZES * (JUDGES + 1) };
@@ -87,13 +81,13 @@ static void print_times(void)
     for (unsigned turn = 0; turn < ROUNDS * CELLS; turn++) {
         unsigned cell = turn % CELLS;
         times[cell] += times[cell] == 0;
-        double call = call_time(&measured[cell % (JUDGES + 1)], &traces[cell / (JUDGES + 1)], &times[cell]);
+        double call = call_time(&judges[cell % (JUDGES + 1)], &traces[cell / (JUDGES + 1)], &times[cell]);
         if (turn < CELLS || call < least[cell])
             least[cell] = call;
     }
     for (unsigned cell = 0; cell < CELLS; cell++) {
         const struct trace *trace = &traces[cell / (JUDGES + 1)];
-        printf("time %s %zu %zu %.3f\n", measured[cell % (JUDGES + 1)].name, trace->n, trace->pairs, least[cell]);
+        printf("time %s %zu %zu %.3f\n", judges[cell % (JUDGES + 1)].name, trace->n, trace->pairs, least[cell]);
     }
 }
 
@@ -113,10 +107,8 @@ static void all_occur(const struct trace *trace)
     unsigned requests = 0, responses = 0;
     for (size_t k = 0; k < trace->n; k++) {
         const uint8_t *bytes = trace->events + k * EVENT_BYTES;
-        for (unsigned n = 0; n < REQUESTS; n++)
-            requests |= (unsigned)(request_codes[n] == bytes[REQUEST_AT]) << n;
-        for (unsigned n = 0; n < RESPONSES; n++)
-            responses |= (unsigned)(memcmp(response_codes[n], bytes + CHANNEL_AT, sizeof response_codes[n]) == 0) << n;
+        requests |= 1u << request_of(bytes[REQUEST_AT]);
+        responses |= 1u << response_of(bytes[CHANNEL_AT], bytes[OPCODE_AT], bytes[RESP_AT], bytes[FWD_STATE_AT]);
     }
     if (requests == (1u << REQUESTS) - 1 && responses == (1u << RESPONSES) - 1)
         return;
@@ -137,22 +129,22 @@ static void measure(void)
     print_times();
 }
 
-/* Calls one judge so many times and no other, for its instructions to be counted. */
+/* Calls one judge so many times, for its instructions to be counted. */
 static int repeat_one(char **words)
 {
     make_trace(&traces[0], strtoul(words[1], 0, 10), strtoul(words[2], 0, 10), SEED);
     if (strcmp(words[0], "by_table") == 0)
         judges_ready();
     for (unsigned n = 0; n <= JUDGES; n++)
-        if (strcmp(words[0], measured[n].name) == 0) {
-            repeat(&measured[n], &traces[0], strtoul(words[3], 0, 10));
+        if (strcmp(words[0], judges[n].name) == 0) {
+            repeat(&judges[n], &traces[0], strtoul(words[3], 0, 10));
             return 0;
         }
     fprintf(stderr, "measure_traces: there is no judge %s\n", words[0]);
     return 2;
 }
 
-/* Does as it is told. */
+/* Checks, measures or repeats, as the arguments say. */
 int main(int count, char **words)
 {
     if (count == 6 && strcmp(words[1], "repeat") == 0)

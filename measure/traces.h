@@ -1,12 +1,39 @@
-/* Drawn events as an event's bytes, and the traces that are measured. */
+/* What the check and the measurement of whole traces share: the judges, and traces that are drawn. */
 
-#ifndef MADE_H
-#define MADE_H
+#ifndef TRACES_H
+#define TRACES_H
 
 #include <string.h>
 #include "draws.h"
 #include "judges.h"
 #include "wire.h"
+
+/* A judge and its name. */
+struct judge {
+    const char *name;
+    judge_of_traces *judge;
+};
+
+/* How many judges are compared. */
+#define JUDGES 3
+
+/* The judges, the proved one first; the last does nothing, and measures what stands around a call. */
+extern const struct judge judges[JUDGES + 1];
+
+/* How many events and pairs a measured trace has. */
+struct size {
+    size_t n;
+    size_t pairs;
+};
+
+/* How many traces are measured. */
+#define SIZES 6
+
+/* The sizes of the measured traces. */
+extern const struct size sizes[SIZES];
+
+/* The seed that the measured traces are drawn from. */
+#define SEED 1
 
 /* A trace whose lengths fit, with the sets that its pairs start from. */
 struct trace {
@@ -31,10 +58,10 @@ static inline void put_event(uint8_t *bytes, const struct drawn *drawn)
     bytes[RESP_ERR_AT] = event->resp_err;
     bytes[FORWARDED_AT] = event->forward != NO_FORWARD;
     bytes[FORWARDED_RESP_AT] = forward_codes[event->forward];
-    bytes[FINAL_AT] = (uint8_t)drawn->final;
+    bytes[STATE_AFTER_AT] = (uint8_t)drawn->state_after;
 }
 
-/* Makes a trace of so many events over so many pairs, each from any of the seven states, in which most events are explained. */
+/* Draws a trace of mostly explained events, its pairs starting from any of the seven states. */
 static inline void make_trace(struct trace *trace, size_t n, size_t pairs, uint64_t seed)
 {
     unsigned char sets[MOST];
@@ -49,5 +76,8 @@ static inline void make_trace(struct trace *trace, size_t n, size_t pairs, uint6
         put_event(trace->events + k * EVENT_BYTES, &drawn);
     }
 }
+
+/* Compares the judges on the measured traces and on many others, and ends the program where they differ. */
+void check_judges(void);
 
 #endif

@@ -1,28 +1,14 @@
-/* A whole trace judged by a program written by hand for speed: all events are tested eight at a time, then each is looked up in tables
- * that are made from the rows. */
+/* A whole trace judged by a program written for speed: events are tested eight at a time, then looked up in tables made from the rows. */
 
-#include <stdio.h>
-#include <stdlib.h>
-#include <string.h>
-#ifdef __SSE2__
 #include <emmintrin.h>
-#endif
+#include <string.h>
 #include "judges.h"
+#include "lookup.h"
 #include "rows.h"
 #include "wire.h"
 
 /* How many events are tested at a time. */
 #define BLOCK 8u
-
-/* The bits that no good byte of an event has, the request's left out: every range ends at a power of two. */
-static const uint8_t never_set[EVENT_BYTES] = {0, 254, 254, 254, 252, 254, 224, 248, 248, 252, 252, 254, 248, 248};
-
-/* The same over the first eight bytes and the last eight, first byte lowest. */
-#define NEVER_SET_IN_FRONT 0xf8e0fefcfefefe00u
-#define NEVER_SET_IN_BACK 0xf8f8fefcfcf8f8e0u
-
-/* The codes of the requests as a set of bits. */
-#define REQUEST_BITS (1u << 1 | 1u << 2 | 1u << 4 | 1u << 18 | 1u << 20 | 1u << 21 | 1u << 22)
 
 /* What the first six bytes of an event are multiplied by for the highest bits to tell what was asked; found by trial, like the next. */
 #define ASKED_FACTOR 0x1108020400800000u
@@ -45,23 +31,15 @@ enum { RESTS = 32, SEEN = 4, ENDINGS = RESTS * SEEN };
 /* Room for lines of effects, and for the effects. */
 enum { LINES = 64, EFFECTS = 32 };
 
-/* What an event does: the states it is permitted from, those it leaves, who takes the duty, and the states from which it is lost. */
-struct effect {
-    uint8_t from;
-    uint8_t after;
-    uint8_t duty;
-    uint8_t lost_from;
-};
-
 /* All that is looked up, in one place so that one address leads to it. */
 static struct {
-    /* What was asked and the channel, by the highest bits of the first product, as a place among the lines. */
+    /* What was asked and the channel, by the highest bits of the first product, as an offset into line. */
     uint16_t asked[1 << ASKED_BITS];
 
     /* The message without its channel, by opcode and Resp times 256, 0 where no row has it. */
     uint8_t message[8 * 256];
 
-    /* The place of the line of effects by what was asked and the message. */
+    /* The offset of the line of effects by what was asked and the message. */
     uint16_t line[ASKED * MESSAGES];
 
     /* The place in a line, by the highest bits of the second product, 0 where no row permits anything. */
@@ -74,46 +52,26 @@ static struct {
     uint32_t finding[(ALL_STATES + 1) * EFFECTS];
 } at;
 
-/* Eight bytes as a number, the first as its lowest digits. */
-static inline uint64_t load(const uint8_t *bytes)
-{
-    return (uint64_t)bytes[0] | (uint64_t)bytes[1] << 8 | (uint64_t)bytes[2] << 16 | (uint64_t)bytes[3] << 24
-        | (uint64_t)bytes[4] << 32 | (uint64_t)bytes[5] << 40 | (uint64_t)bytes[6] << 48 | (uint64_t)bytes[7] << 56;
-}
-
-/* The place in at.asked by the first eight bytes, of which the last two don't matter: the factor ends in 16 zeros. */
-static inline size_t asked_place(uint64_t front)
+/* The index in at.asked by the first eight bytes, of which the last two don't matter: the factor ends in 16 zeros. */
+static inline size_t asked_index(uint64_t front)
 {
     return (size_t)(front * ASKED_FACTOR >> (64 - ASKED_BITS));
 }
 
-/* The place in at.ending by the last eight bytes, of which the first two are left out. */
-static inline size_t rest_place(uint64_t back)
+/* The index in at.ending by the last eight bytes, of which the first two are left out. */
+static inline size_t rest_index(uint64_t back)
 {
     return (size_t)((back >> 16) * REST_FACTOR >> (64 - REST_BITS));
 }
 
-/* The refusal of one event, if any. */
-static inline unsigned fault_of(const uint8_t *event, size_t pair, size_t table_len)
-{
-    if (pair >= table_len)
-        return NO_PAIR;
-    if ((load(event) & NEVER_SET_IN_FRONT) | (load(event + EVENT_BYTES - 8) & NEVER_SET_IN_BACK))
-        return OUT_OF_RANGE;
-    unsigned request = event[REQUEST_AT];
-    return request < 32 && REQUEST_BITS >> request & 1 ? ACCEPTED : OTHER_REQUEST;
-}
-
-#ifdef __SSE2__
-
-/* What the bytes of eight events are tested with, sixteen bytes at a time: bits that no good byte has, and where the requests are. */
+/* What the bytes of eight events are tested with: the bits that none in range has, and where the requests are. */
 static _Alignas(16) uint8_t tested_with[2][BLOCK * EVENT_BYTES];
 
 /* Fills in what eight events are tested with. */
 static void put_tested_with(void)
 {
     for (unsigned byte = 0; byte < BLOCK * EVENT_BYTES; byte++) {
-        tested_with[0][byte] = never_set[byte % EVENT_BYTES];
+        tested_with[0][byte] = (uint8_t)~largest[byte % EVENT_BYTES];
         tested_with[1][byte] = byte % EVENT_BYTES == REQUEST_AT ? 255 : 0;
     }
 }
@@ -128,7 +86,7 @@ static inline __m128i known(__m128i requests)
     return _mm_or_si128(_mm_or_si128(two_or_four, unique), _mm_cmpeq_epi16(requests, _mm_set1_epi16(1)));
 }
 
-/* Whether eight events are all good. The eight requests stand two bytes apart, since sixteen bytes are an event and two more. */
+/* Whether eight events are all good; the requests come to stand two bytes apart, since sixteen bytes are an event and two more. */
 static inline int block_is_good(const uint8_t *events, const uint16_t *pairs, size_t table_len)
 {
     if (table_len == 0)
@@ -144,36 +102,13 @@ static inline int block_is_good(const uint8_t *events, const uint16_t *pairs, si
     return _mm_movemask_epi8(good) == 0xffff;
 }
 
-#else
-
-/* There is nothing to fill in where events are tested one by one. */
-static void put_tested_with(void)
-{
-}
-
-/* Whether eight events are all good. */
-static inline int block_is_good(const uint8_t *events, const uint16_t *pairs, size_t table_len)
-{
-    unsigned faults = 0;
-    for (unsigned k = 0; k < BLOCK; k++)
-        faults |= fault_of(events + k * EVENT_BYTES, pairs[k], table_len);
-    return faults == ACCEPTED;
-}
-
-#endif
-
-/* The first refusal of the events in their order, or their number. */
+/* The result of testing the events, eight at a time as long as they are good. */
 static uint64_t test_events(const uint8_t *events, const uint16_t *pairs, size_t n, size_t table_len)
 {
     size_t k = 0;
     while (n - k >= BLOCK && block_is_good(events + k * EVENT_BYTES, pairs + k, table_len))
         k += BLOCK;
-    for (; k < n; k++) {
-        unsigned fault = fault_of(events + k * EVENT_BYTES, pairs[k], table_len);
-        if (fault)
-            return k * 256 + fault;
-    }
-    return n * 256;
+    return test_from(k, events, pairs, n, table_len);
 }
 
 /* The refusal of the lowest set above 127, or 0. */
@@ -187,7 +122,7 @@ static uint64_t test_table(const uint8_t *table, size_t table_len)
     size_t lowest = 0;
     while (table[lowest] <= ALL_STATES)
         lowest++;
-    return lowest * 256 + NO_SET;
+    return result_of(NO_SET, lowest);
 }
 
 /* Judges good events one after another; apart from its caller, whose values would take registers from it. */
@@ -197,8 +132,8 @@ static void judge_events(const uint8_t *restrict events, const uint16_t *restric
 {
     for (size_t k = 0; k < n; k++, events += EVENT_BYTES) {
         uint64_t front = load(events), back = load(events + EVENT_BYTES - 8);
-        size_t line = at.line[(size_t)at.asked[asked_place(front)] + at.message[back & 0xffff]];
-        size_t effect = at.effect[line + at.ending[rest_place(back)]];
+        size_t line = at.line[(size_t)at.asked[asked_index(front)] + at.message[back & 0xffff]];
+        size_t effect = at.effect[line + at.ending[rest_index(back)]];
         uint8_t *set = &table[pairs[k]];
         uint32_t finding = at.finding[(size_t)*set * EFFECTS + effect];
         *set = (uint8_t)finding;
@@ -208,20 +143,17 @@ static void judge_events(const uint8_t *restrict events, const uint16_t *restric
     }
 }
 
-uint64_t by_table_trace(const uint8_t *events, size_t events_len, const uint16_t *pairs, size_t pairs_len, uint8_t *table,
-                        size_t table_len, uint8_t *verdicts, size_t verdicts_len, uint8_t *duties, size_t duties_len,
-                        uint8_t *afters, size_t afters_len)
+uint64_t by_table_trace(LENT)
 {
     size_t n = events_len / EVENT_BYTES;
-    if (events_len != n * EVENT_BYTES || n > MOST || table_len > MOST || pairs_len != n || verdicts_len != n || duties_len != n
-        || afters_len != n)
-        return WRONG_LENGTH;
-    uint64_t outcome = test_table(table, table_len);
-    if (outcome == 0)
-        outcome = test_events(events, pairs, n, table_len);
-    if (outcome % 256 == ACCEPTED)
+    if (!lengths_fit(events_len, pairs_len, table_len, verdicts_len, duties_len, afters_len))
+        return result_of(WRONG_LENGTH, 0);
+    uint64_t result = test_table(table, table_len);
+    if (result == 0)
+        result = test_events(events, pairs, n, table_len);
+    if (result % 256 == ACCEPTED)
         judge_events(events, pairs, n, table, verdicts, duties, afters);
-    return outcome;
+    return result;
 }
 
 /* The rest of an answer: what is forwarded, the tag operation, the error field. */
@@ -246,32 +178,33 @@ static struct effect effects[EFFECTS];
 /* How many of each there are so far. */
 static unsigned rest_count = 1, seen_count = 1, message_count = 1, effect_count = 1, line_count;
 
-/* Ends the program where the rows don't fit the tables. */
-static void must(int holds, const char *what)
-{
-    if (holds)
-        return;
-    fprintf(stderr, "by_table: %s\n", what);
-    exit(1);
-}
-
-/* The place of what was asked among all that can be, where Clean tags permit what Invalid ones do. */
+/* The number of what was asked among all that can be, where Clean tags permit what Invalid ones do. */
 static unsigned asked_number(unsigned request, unsigned flags, unsigned tag, unsigned channel)
 {
     unsigned kind = kind_of(request, flags >> 2);
     return (kind * 4 + (flags & 3)) * 8 + (tag == TAG_CLEAN ? TAG_INVALID : tag) * 2 + channel;
 }
 
-/* Fills in the place of what was asked for each request, flags, tag state and channel. */
+/* The event of a thing asked, an answer and its rest. */
+static struct event event_of(unsigned asked, unsigned response, const struct rest *rest)
+{
+    return (struct event){
+        .kind = (unsigned char)(asked >> 5), .ret_to_src = asked >> 3 & 1, .do_not_go_to_sd = asked >> 4 & 1, .tag = asked >> 1 & 3,
+        .response = (unsigned char)response, .tag_op = (unsigned char)rest->tag_op, .resp_err = (unsigned char)rest->resp_err,
+        .forward = (unsigned char)rest->forward,
+    };
+}
+
+/* Fills in the offset of what was asked for each request, flags, tag state and channel. */
 static void put_asked(void)
 {
     memset(at.asked, 255, sizeof at.asked);
     for (unsigned n = 0; n < REQUESTS * 64; n++) {
         unsigned request = n / 64, flags = n & 7, tag = n >> 3 & 3, channel = n >> 5 & 1;
         uint8_t bytes[8] = {request_codes[request], flags & 1, flags >> 1 & 1, (uint8_t)(flags >> 2), (uint8_t)tag, (uint8_t)channel};
-        uint16_t *asked = &at.asked[asked_place(load(bytes))];
+        uint16_t *asked = &at.asked[asked_index(load(bytes))];
         unsigned number = asked_number(request, flags, tag, channel) * MESSAGES;
-        must(*asked == 0xffff || *asked == number, "two things asked have one place");
+        must(*asked == 0xffff || *asked == number, "two things asked have one index");
         *asked = (uint16_t)number;
     }
 }
@@ -294,16 +227,12 @@ static void put_messages(void)
 /* Whether some row permits the rest of an answer, whatever else there is. */
 static int some_row_permits(const struct rest *rest)
 {
-    for (unsigned n = 0; n < ROWS * KINDS * 4 * TAGS; n++) {
-        const struct row *row = &rows[n / (KINDS * 4 * TAGS)];
-        struct event event = {
-            .kind = n / (4 * TAGS) % KINDS, .ret_to_src = n & 1, .do_not_go_to_sd = n >> 1 & 1, .tag = n >> 2 & 3,
-            .response = row->response, .tag_op = (unsigned char)rest->tag_op, .resp_err = (unsigned char)rest->resp_err,
-            .forward = (unsigned char)rest->forward,
-        };
-        if (permits(row, &event))
-            return 1;
-    }
+    for (const struct row *row = rows; row < rows + ROWS; row++)
+        for (unsigned asked = 0; asked < ASKED; asked++) {
+            struct event event = event_of(asked, row->response, rest);
+            if (permits(row, &event))
+                return 1;
+        }
     return 0;
 }
 
@@ -324,7 +253,7 @@ static void put_seen(void)
 {
     unsigned left = 0;
     for (const struct row *row = rows; row < rows + ROWS; row++)
-        left |= row->after;
+        left |= row->states_after;
     for (unsigned state = 0; state < STATES; state++)
         if (left & ONLY(state)) {
             must(seen_count < SEEN, "too many states after");
@@ -335,14 +264,15 @@ static void put_seen(void)
 /* The place in a line of the last six bytes of an event, 0 where no row permits them. */
 static unsigned ending_of(const uint8_t *bytes)
 {
-    unsigned rest = 1, final = 0;
+    unsigned forward = forward_of(bytes[3], bytes[4]), rest = 1, state = 0;
+    if (forward == FORWARDS || bytes[0] != forward_codes[forward])
+        return 0;
     while (rest < rest_count
-           && (bytes[0] != forward_codes[rests[rest].forward] || bytes[1] != rests[rest].tag_op || bytes[2] != rests[rest].resp_err
-               || bytes[3] != (rests[rest].forward != NO_FORWARD) || bytes[4] != forward_codes[rests[rest].forward]))
+           && (forward != rests[rest].forward || bytes[1] != rests[rest].tag_op || bytes[2] != rests[rest].resp_err))
         rest++;
-    while (final < seen_count && bytes[5] != seen[final])
-        final++;
-    return rest < rest_count && final < seen_count ? rest * SEEN + final : 0;
+    while (state < seen_count && bytes[5] != seen[state])
+        state++;
+    return rest < rest_count && state < seen_count ? rest * SEEN + state : 0;
 }
 
 /* Fills in the places in a line for all that the last six bytes can be. */
@@ -352,10 +282,10 @@ static void put_endings(void)
     for (unsigned n = 0; n < 1u << REST_BITS; n++) {
         uint8_t bytes[8] = {0, 0, n & 7, n >> 3 & 3, n >> 5 & 3, n >> 7 & 1, n >> 8 & 7, (uint8_t)(n >> 11)};
         unsigned ending = ending_of(bytes + 2);
-        size_t place = rest_place(load(bytes));
-        must(!filled[place] || at.ending[place] == ending, "two endings have one place");
-        filled[place] = 1;
-        at.ending[place] = (uint8_t)ending;
+        size_t index = rest_index(load(bytes));
+        must(!filled[index] || at.ending[index] == ending, "two endings have one index");
+        filled[index] = 1;
+        at.ending[index] = (uint8_t)ending;
     }
 }
 
@@ -373,47 +303,19 @@ static unsigned effect_number(struct effect effect)
     return n;
 }
 
-/* What an event does whose state after was not seen; the rows leave the same states from each state before. */
-static struct effect effect_of(const struct event *event)
-{
-    struct effect effect = {0, 0, (uint8_t)duty_of(event->response), event->resp_err == NDERR ? DIRTY_STATES : 0};
-    for (const struct row *row = rows; row < rows + ROWS; row++)
-        if (permits(row, event)) {
-            must(effect.from == 0 || effect.after == row->after, "an event leaves different states");
-            effect.from |= (uint8_t)ONLY(row->before);
-            effect.after = row->after;
-        }
-    return effect;
-}
-
-/* The answer of a channel, a message and what is forwarded, or RESPONSES where there is none. */
-static unsigned response_of(unsigned channel, unsigned message, unsigned forward)
-{
-    unsigned n = 0;
-    while (n < RESPONSES
-           && (response_codes[n][0] != channel || response_codes[n][1] != messages[message][0]
-               || response_codes[n][2] != messages[message][1] || response_codes[n][3] != forward_codes[forward]))
-        n++;
-    return n;
-}
-
 /* Fills in one rest of a line of effects: the effect for each state after that can be seen. */
 static void put_effects(uint8_t *four, unsigned asked, unsigned message, const struct rest *rest)
 {
-    unsigned response = response_of(asked & 1, message, rest->forward);
-    struct event event = {
-        .kind = (unsigned char)(asked >> 5), .ret_to_src = asked >> 3 & 1, .do_not_go_to_sd = asked >> 4 & 1, .tag = asked >> 1 & 3,
-        .response = (unsigned char)response, .tag_op = (unsigned char)rest->tag_op, .resp_err = (unsigned char)rest->resp_err,
-        .forward = (unsigned char)rest->forward,
-    };
-    if (response == RESPONSES)
-        return;
-    struct effect any = effect_of(&event);
-    for (unsigned final = 0; final < seen_count; final++) {
+    unsigned response = response_of(asked & 1, messages[message][0], messages[message][1], forward_codes[rest->forward]);
+    struct event event = event_of(asked, response, rest);
+    struct effect any = {0};
+    for (const struct row *row = rows; row < rows + ROWS; row++)
+        if (permits(row, &event))
+            add_row(&any, row, &event);
+    for (unsigned n = 0; n < seen_count; n++) {
         struct effect effect = any;
-        if (seen[final] != STATE_NOT_SEEN)
-            effect.after &= (uint8_t)ONLY(seen[final]);
-        four[final] = (uint8_t)effect_number(effect);
+        effect.after &= (uint8_t)allowed_by(seen[n]);
+        four[n] = (uint8_t)effect_number(effect);
     }
 }
 
@@ -434,17 +336,12 @@ static void put_lines(void)
     }
 }
 
-/* Fills in what each effect leaves of each set. */
+/* Fills in what each effect makes of each set. */
 static void put_findings(void)
 {
     for (unsigned n = 0; n < (ALL_STATES + 1) * EFFECTS; n++) {
-        unsigned set = n / EFFECTS;
-        const struct effect *effect = &effects[n % EFFECTS];
-        if (set & effect->from)
-            at.finding[n] = effect->after | (unsigned)EXPLAINED << 8
-                | (unsigned)(set & effect->lost_from ? DUTY_LOST : effect->duty) << 16;
-        else
-            at.finding[n] = (unsigned)(set ? UNEXPLAINED : NOT_JUDGED) << 8;
+        struct finding finding = finding_by_effect(&effects[n % EFFECTS], n / EFFECTS, ALL_STATES);
+        at.finding[n] = finding.after_set | finding.verdict << 8 | finding.duty << 16;
     }
 }
 

@@ -7,13 +7,12 @@
 #include <string.h>
 #include <sys/mman.h>
 #include <unistd.h>
-#include "made.h"
 #include "traces.h"
 
-/* Room for the events and the pair numbers of a trace, of which one more than allowed is tried. */
+/* Room for the events and the pair numbers of a trace; more than allowed are tried. */
 enum { EVENTS_ROOM = (MOST + 4) * EVENT_BYTES, NUMBERS_ROOM = MOST + 4 };
 
-/* Room for each buffer that is written, and the bytes before and behind it that must stay. */
+/* Room for each buffer that is written, and for the bytes around it, which must not change. */
 enum { BUFFER_ROOM = MOST + 4, GUARD = 32, AREA = 4 * (BUFFER_ROOM + 2 * GUARD) };
 
 /* The buffers that are written. */
@@ -29,7 +28,7 @@ struct lent {
     uint8_t table[BUFFER_ROOM];
 };
 
-/* What a judge gave back: its result and all that was around and in the four buffers. */
+/* What a judge gave back: its result, and the four buffers with the bytes around them. */
 struct left {
     uint64_t result;
     uint8_t area[AREA];
@@ -41,17 +40,14 @@ static struct lent lent;
 /* The names of the buffers. */
 static const char *const buffer_names[BUFFERS] = {"table", "verdicts", "duties", "after-sets"};
 
-/* The largest good value of each byte of an event. */
-static const uint8_t largest[EVENT_BYTES] = {22, 1, 1, 1, 3, 1, 31, 7, 7, 3, 3, 1, 7, 7};
-
-/* The ends of the memory that events and pair numbers are lent from, behind which nothing can be read. */
+/* Where the memory of the events and of the pair numbers ends; what follows can't be read. */
 static uint8_t *events_end, *numbers_end;
 
 /* What is being compared, for a message. */
 static const char *volatile sweep = "";
 
 /* How many traces and events were compared, and how many of each outcome there were. */
-static unsigned long traces, events, refusals[REFUSALS], verdicts[VERDICTS], duties[DUTIES];
+static unsigned long traces, events, refusals[TRACE_REFUSALS], verdicts[VERDICTS], duties[DUTIES];
 
 /* The judge that is at work. */
 static const char *volatile at_work = "";
@@ -67,7 +63,7 @@ static void past_the_end(int number)
     _exit(1);
 }
 
-/* Memory of so many bytes with a page behind it that can't be touched, by its end. */
+/* The end of so many bytes of memory that a page follows which can't be touched. */
 static uint8_t *fenced(size_t bytes)
 {
     size_t page = (size_t)sysconf(_SC_PAGESIZE), whole = (bytes + page - 1) / page * page;
@@ -88,7 +84,7 @@ static size_t start_of(unsigned buffer)
     return at;
 }
 
-/* The area as it is before a call: the table lent, and bytes that no answer has elsewhere. */
+/* The area as it is before a call: the table lent, and elsewhere bytes that are in no answer. */
 static void lay_out(uint8_t *area)
 {
     size_t used = start_of(BUFFERS);
@@ -158,7 +154,7 @@ static void count(const struct left *left)
 {
     unsigned refusal = (unsigned)(left->result % 256);
     events += lent.numbers_len;
-    refusals[refusal < REFUSALS ? refusal : 0]++;
+    refusals[refusal < TRACE_REFUSALS ? refusal : 0]++;
     for (size_t k = 0; refusal == ACCEPTED && k < lent.numbers_len; k++) {
         verdicts[left->area[start_of(VERDICT_BYTES) + k] % VERDICTS]++;
         duties[left->area[start_of(DUTY_BYTES) + k] % DUTIES]++;
@@ -193,24 +189,30 @@ static void fit(size_t n, size_t pairs)
     lent.lens[VERDICT_BYTES] = lent.lens[DUTY_BYTES] = lent.lens[AFTER_BYTES] = n;
 }
 
-/* Makes the trace at hand a good one of so many events over so many pairs. */
-static void make_good(size_t n, size_t pairs)
+/* Makes the trace at hand the one drawn from a seed. */
+static void make_seeded(size_t n, size_t pairs, uint64_t seed)
 {
     static struct trace trace;
-    make_trace(&trace, n, pairs, draw());
+    make_trace(&trace, n, pairs, seed);
     fit(n, pairs);
     memcpy(lent.events, trace.events, lent.events_len);
     memcpy(lent.numbers, trace.numbers, n * sizeof trace.numbers[0]);
     memcpy(lent.table, trace.start, pairs);
 }
 
-/* Puts a drawn number below a limit into a byte. */
+/* Makes the trace at hand another good one. */
+static void make_good(size_t n, size_t pairs)
+{
+    make_seeded(n, pairs, draw());
+}
+
+/* Puts a random number below a limit into a byte. */
 static void put_below(uint8_t *byte, unsigned limit)
 {
     *byte = (uint8_t)below(limit);
 }
 
-/* A set: one state alone half of the time, now and then none, else any. */
+/* A random set: half of the time one state alone, now and then none. */
 static uint8_t draw_set(void)
 {
     return (uint8_t)(comes(1, 2) ? ONLY(below(STATES)) : comes(1, 16) ? 0 : below(ALL_STATES + 1));
@@ -219,13 +221,8 @@ static uint8_t draw_set(void)
 /* The measured traces. */
 static void measured(void)
 {
-    static struct trace trace;
     for (unsigned n = 0; n < SIZES; n++) {
-        make_trace(&trace, sizes[n].n, sizes[n].pairs, SEED);
-        fit(trace.n, trace.pairs);
-        memcpy(lent.events, trace.events, lent.events_len);
-        memcpy(lent.numbers, trace.numbers, sizeof trace.numbers);
-        memcpy(lent.table, trace.start, trace.pairs);
+        make_seeded(sizes[n].n, sizes[n].pairs, SEED);
         compare();
     }
 }
@@ -298,7 +295,7 @@ static void lengths(void)
     }
 }
 
-/* Starts a trace of sixty-four events, each on a pair of its own with a drawn set. */
+/* Starts a trace of sixty-four events, each on a pair of its own with a random set. */
 static void start_sweep(void)
 {
     fit(64, 64);
@@ -308,11 +305,11 @@ static void start_sweep(void)
     }
 }
 
-/* The event of a number: every request, flag, tag state, answer, forward, tag operation and error field together. */
+/* The n-th event of all that differ in request, flags, tag state, answer, forward, tag operation or error field. */
 static struct drawn numbered(unsigned n)
 {
     unsigned rest = n / (8 * TAGS * TAG_OPS * RESP_ERRS);
-    struct drawn drawn = {.request = rest % REQUESTS, .excl = n & 1, .final = STATE_NOT_SEEN};
+    struct drawn drawn = {.request = rest % REQUESTS, .excl = n & 1, .state_after = STATE_NOT_SEEN};
     drawn.event = (struct event){
         .ret_to_src = n >> 1 & 1, .do_not_go_to_sd = n >> 2 & 1, .tag = n >> 3 & 3, .tag_op = n >> 5 & 3, .resp_err = n >> 7 & 3,
         .response = (unsigned char)(rest / REQUESTS % RESPONSES), .forward = (unsigned char)(rest / REQUESTS / RESPONSES),
@@ -320,7 +317,7 @@ static struct drawn numbered(unsigned n)
     return drawn;
 }
 
-/* Every row and all that nearly is one, from each state alone, and from a drawn set with a drawn state after. */
+/* Each of those events from each state alone, and from a random set with a random state after. */
 static void answers(void)
 {
     unsigned all = REQUESTS * 8 * TAGS * RESPONSES * FORWARDS * TAG_OPS * RESP_ERRS;
@@ -332,14 +329,14 @@ static void answers(void)
         if (state < STATES)
             lent.table[k] = (uint8_t)ONLY(state);
         else
-            drawn.final = below(STATES + 1);
+            drawn.state_after = below(STATES + 1);
         put_event(lent.events + k * EVENT_BYTES, &drawn);
         if (k == 63)
             compare();
     }
 }
 
-/* Every channel, opcode, Resp and FwdState with every forward, as the answer of an event that a row permits but for that. */
+/* Every channel, opcode, Resp and FwdState with every forward, in events that some row permits but for that. */
 static void messages(void)
 {
     for (unsigned n = 0; n < 2 * 32 * 8 * 8 * 2 * 8; n++) {
@@ -359,7 +356,7 @@ static void messages(void)
     }
 }
 
-/* Damages the trace at hand in one drawn way. */
+/* Damages the trace at hand in a random way. */
 static void damage(void)
 {
     unsigned k = below((unsigned)lent.numbers_len), pairs = (unsigned)lent.lens[TABLE];
@@ -386,7 +383,7 @@ static void damage(void)
     }
 }
 
-/* Drawn short traces over few pairs, with bytes changed within their ranges, of which one in four is damaged besides. */
+/* Short traces over few pairs with bytes changed within their ranges, one in four also damaged. */
 static void drawn_traces(void)
 {
     for (unsigned n = 0; n < 40000; n++) {
@@ -434,7 +431,7 @@ void check_judges(void)
     }
     signal(SIGSEGV, SIG_DFL);
     signal(SIGBUS, SIG_DFL);
-    all_came("refusal", refusals, REFUSALS);
+    all_came("refusal", refusals, TRACE_REFUSALS);
     all_came("verdict", verdicts, VERDICTS);
     all_came("duty", duties, DUTIES);
     printf("check: the judges agree on %lu traces with %lu events; refusals 0 to 5: %lu %lu %lu %lu %lu %lu\n", traces, events,

@@ -1,16 +1,16 @@
-/* Writes a bench sheet of mostly explained events: make_sheet LINES PAIRS SEED, with the header not among the LINES. */
+/* Writes a bench sheet of mostly explained events: make_sheet LINES PAIRS SEED; the header is not one of the LINES. */
 
 #include <stdint.h>
 #include <stdio.h>
 #include <stdlib.h>
 #include <string.h>
 #include "draws.h"
-#include "rows.h"
+#include "sheet.h"
 
 /* The sets of the pairs as a judge would know them. */
-static unsigned char sets[PAIRS];
+static unsigned char sets[MOST];
 
-/* The number that a word is, or the end of the program where it is none from least to most. */
+/* The number that an argument says; ends the program where it says none from least to most. */
 static unsigned long number(const char *word, unsigned long least, unsigned long most)
 {
     char *end;
@@ -30,19 +30,19 @@ int main(int count, char **words)
         return 2;
     }
     unsigned long lines = number(words[1], 0, 1000000000);
-    unsigned pairs = (unsigned)number(words[2], 1, PAIRS);
+    unsigned pairs = (unsigned)number(words[2], 1, MOST);
     source = number(words[3], 0, 1000000000);
     memset(sets, ALL_STATES, pairs);
 
     printf(SHEET_HEADER "\r\n");
     for (unsigned long line = 0; line < lines; line++) {
         struct drawn drawn = draw_next(sets, pairs, events_of_a_pair(lines, pairs));
-        /* The numbers of few pairs are spread over all the numbers that a pair can have. */
+        /* Few pairs are spread over all the numbers that a pair can have. */
         const struct event *event = &drawn.event;
-        printf("%u,%s,%u,%u,%u,%s,%s,%s,%s,%s,%s\r\n", drawn.pair * (PAIRS / pairs), request_names[drawn.request],
+        printf("%u,%s,%u,%u,%u,%s,%s,%s,%s,%s,%s\r\n", drawn.pair * (MOST / pairs), request_names[drawn.request],
                event->ret_to_src, event->do_not_go_to_sd, drawn.excl, tag_names[event->tag],
                response_names[event->response], tag_op_names[event->tag_op], resp_err_names[event->resp_err],
-               forward_names[event->forward], state_names[drawn.final]);
+               forward_names[event->forward], state_names[drawn.state_after]);
     }
     return fflush(stdout) == 0 && !ferror(stdout) ? 0 : 1;
 }

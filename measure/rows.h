@@ -1,10 +1,12 @@
-/* The names of a bench sheet, the rows of the tables as they are printed, and whether a row permits an answer. */
+/* The words and rows of the printed tables, and what they say of an event. */
 
 #ifndef ROWS_H
 #define ROWS_H
 
-/* The line states in table order. */
-enum { I, UC, UCE, UD, UDP, SC, SD, STATES };
+#include "judges.h"
+
+/* The line states in table order, and one that was not seen. */
+enum { I, UC, UCE, UD, UDP, SC, SD, STATES, STATE_NOT_SEEN = STATES };
 
 /* The set that holds one state alone. */
 #define ONLY(state) (1u << (state))
@@ -15,19 +17,7 @@ enum { I, UC, UCE, UD, UDP, SC, SD, STATES };
 /* The states in which a cache owes somebody its data. */
 #define DIRTY_STATES (ONLY(UD) | ONLY(UDP) | ONLY(SD))
 
-/* The requests in the order of their codes. */
-enum {
-    SnpShared, SnpClean, SnpNotSharedDirty, SnpCleanFwd, SnpNotSharedDirtyFwd, SnpPreferUnique, SnpPreferUniqueFwd,
-    REQUESTS
-};
-
-/* What a request is to the tables, an exclusive sequence being told apart for SnpPreferUniqueFwd alone. */
-enum { PLAIN, FORWARDING, PREFERRING, PREFERRING_EXCL, KINDS };
-
-/* The tables that rows stand in, and the one row of NDERR as a table of its own. */
-enum { B4_46, B4_57, B4_59, B4_60, NDERR_ROW };
-
-/* The tag states and how one that was not seen is coded. */
+/* The tag states, and one that was not seen. */
 enum { TAG_INVALID, TAG_CLEAN, TAG_DIRTY, TAG_NOT_SEEN, TAGS };
 
 /* The tag operations. */
@@ -36,69 +26,59 @@ enum { OP_INVALID, OP_TRANSFER, OP_UPDATE, OP_MATCH, TAG_OPS };
 /* The error fields. */
 enum { OK, EXOK, DERR, NDERR, RESP_ERRS };
 
-/* The data forwarded, or none. */
-enum { NO_FORWARD, CompData_SC, CompData_UC, CompData_UD_PD, CompData_SD_PD, FORWARDS };
+/* What a request is to the tables; an exclusive sequence matters to SnpPreferUniqueFwd alone. */
+enum { PLAIN, FORWARDING, PREFERRING, PREFERRING_EXCL, KINDS };
 
-/* Who holds the duty to write the data back. */
-enum { DUTY_NONE, DUTY_HOME, DUTY_REQUESTER, DUTY_LOST, DUTIES };
+/* The tables that rows stand in, and the one row of NDERR as a table of its own. */
+enum { B4_46, B4_57, B4_59, B4_60, NDERR_ROW };
 
-/* The answers to Home. */
-enum {
-    SnpResp_I, SnpResp_SC,
-    SnpRespData_I, SnpRespData_SC, SnpRespData_SD, SnpRespData_I_PD, SnpRespData_SC_PD, SnpRespDataPtl_I_PD,
-    SnpResp_I_Fwded_SC, SnpResp_SC_Fwded_SC, SnpResp_SD_Fwded_SC,
-    SnpResp_I_Fwded_SD_PD, SnpResp_SC_Fwded_SD_PD, SnpResp_I_Fwded_UC, SnpResp_I_Fwded_UD_PD,
-    SnpRespData_I_Fwded_SC, SnpRespData_SC_Fwded_SC, SnpRespData_SD_Fwded_SC,
-    SnpRespData_I_Fwded_SD_PD, SnpRespData_SC_Fwded_SD_PD,
-    SnpRespData_I_PD_Fwded_SC, SnpRespData_SC_PD_Fwded_SC,
-    RESPONSES
-};
+/* The requests: name, code, kind. */
+#define REQUEST_LIST(each) \
+    each(SnpShared,            1,  PLAIN) \
+    each(SnpClean,             2,  PLAIN) \
+    each(SnpNotSharedDirty,    4,  PLAIN) \
+    each(SnpCleanFwd,          18, FORWARDING) \
+    each(SnpNotSharedDirtyFwd, 20, FORWARDING) \
+    each(SnpPreferUnique,      21, PLAIN) \
+    each(SnpPreferUniqueFwd,   22, PREFERRING)
 
-/* The state that stands for one not seen. */
-#define STATE_NOT_SEEN STATES
+/* The data forwarded: name, Resp. */
+#define FORWARD_LIST(each) \
+    each(CompData_SC,    1) \
+    each(CompData_UC,    2) \
+    each(CompData_UD_PD, 6) \
+    each(CompData_SD_PD, 7)
 
-/* The first line of a sheet without its CRLF. */
-#define SHEET_HEADER "pair,request,RetToSrc,DoNotGoToSD,excl,tag,response,TagOp,RespErr,forward,final"
+/* The answers to Home: name, channel (1 with data), opcode, Resp, FwdState, who takes the duty over. */
+#define RESPONSE_LIST(each) \
+    each(SnpResp_I,                  0, 1, 0, 0, DUTY_NONE) \
+    each(SnpResp_SC,                 0, 1, 1, 0, DUTY_NONE) \
+    each(SnpRespData_I,              1, 1, 0, 0, DUTY_NONE) \
+    each(SnpRespData_SC,             1, 1, 1, 0, DUTY_NONE) \
+    each(SnpRespData_SD,             1, 1, 3, 0, DUTY_NONE) \
+    each(SnpRespData_I_PD,           1, 1, 4, 0, DUTY_HOME) \
+    each(SnpRespData_SC_PD,          1, 1, 5, 0, DUTY_HOME) \
+    each(SnpRespDataPtl_I_PD,        1, 5, 4, 0, DUTY_HOME) \
+    each(SnpResp_I_Fwded_SC,         0, 9, 0, 1, DUTY_NONE) \
+    each(SnpResp_SC_Fwded_SC,        0, 9, 1, 1, DUTY_NONE) \
+    each(SnpResp_SD_Fwded_SC,        0, 9, 3, 1, DUTY_NONE) \
+    each(SnpResp_I_Fwded_SD_PD,      0, 9, 0, 7, DUTY_REQUESTER) \
+    each(SnpResp_SC_Fwded_SD_PD,     0, 9, 1, 7, DUTY_REQUESTER) \
+    each(SnpResp_I_Fwded_UC,         0, 9, 0, 2, DUTY_NONE) \
+    each(SnpResp_I_Fwded_UD_PD,      0, 9, 0, 6, DUTY_REQUESTER) \
+    each(SnpRespData_I_Fwded_SC,     1, 6, 0, 1, DUTY_NONE) \
+    each(SnpRespData_SC_Fwded_SC,    1, 6, 1, 1, DUTY_NONE) \
+    each(SnpRespData_SD_Fwded_SC,    1, 6, 3, 1, DUTY_NONE) \
+    each(SnpRespData_I_Fwded_SD_PD,  1, 6, 0, 7, DUTY_REQUESTER) \
+    each(SnpRespData_SC_Fwded_SD_PD, 1, 6, 1, 7, DUTY_REQUESTER) \
+    each(SnpRespData_I_PD_Fwded_SC,  1, 6, 4, 1, DUTY_HOME) \
+    each(SnpRespData_SC_PD_Fwded_SC, 1, 6, 5, 1, DUTY_HOME)
 
-/* The first line of the output without its CRLF. */
-#define OUTPUT_HEADER "event,verdict,duty,states"
-
-/* How many pairs there are. */
-#define PAIRS 4096u
-
-/* The names of the states, and last how one not seen is written. */
-static const char *const state_names[STATES + 1] = {"I", "UC", "UCE", "UD", "UDP", "SC", "SD", "?"};
-
-/* The names of the requests. */
-static const char *const request_names[REQUESTS] = {
-    "SnpShared", "SnpClean", "SnpNotSharedDirty", "SnpCleanFwd", "SnpNotSharedDirtyFwd", "SnpPreferUnique",
-    "SnpPreferUniqueFwd",
-};
-
-/* The names of the tag states, and last how one not seen is written. */
-static const char *const tag_names[TAGS] = {"Invalid", "Clean", "Dirty", "?"};
-
-/* The names of the tag operations. */
-static const char *const tag_op_names[TAG_OPS] = {"Invalid", "Transfer", "Update", "Match"};
-
-/* The names of the error fields. */
-static const char *const resp_err_names[RESP_ERRS] = {"OK", "EXOK", "DERR", "NDERR"};
-
-/* The names of the data forwarded. */
-static const char *const forward_names[FORWARDS] = {
-    "-", "CompData_SC", "CompData_UC", "CompData_UD_PD", "CompData_SD_PD",
-};
-
-/* The names of the answers to Home. */
-static const char *const response_names[RESPONSES] = {
-    "SnpResp_I", "SnpResp_SC",
-    "SnpRespData_I", "SnpRespData_SC", "SnpRespData_SD", "SnpRespData_I_PD", "SnpRespData_SC_PD", "SnpRespDataPtl_I_PD",
-    "SnpResp_I_Fwded_SC", "SnpResp_SC_Fwded_SC", "SnpResp_SD_Fwded_SC",
-    "SnpResp_I_Fwded_SD_PD", "SnpResp_SC_Fwded_SD_PD", "SnpResp_I_Fwded_UC", "SnpResp_I_Fwded_UD_PD",
-    "SnpRespData_I_Fwded_SC", "SnpRespData_SC_Fwded_SC", "SnpRespData_SD_Fwded_SC",
-    "SnpRespData_I_Fwded_SD_PD", "SnpRespData_SC_Fwded_SD_PD",
-    "SnpRespData_I_PD_Fwded_SC", "SnpRespData_SC_PD_Fwded_SC",
-};
+/* The first column of a list. */
+#define NAME(name, ...) name,
+enum { REQUEST_LIST(NAME) REQUESTS };
+enum { NO_FORWARD, FORWARD_LIST(NAME) FORWARDS };
+enum { RESPONSE_LIST(NAME) RESPONSES };
 
 /* The RetToSrc of a row that takes either. */
 #define X 2
@@ -110,7 +90,7 @@ struct row {
     unsigned char ret_to_src;
     unsigned char forward;
     unsigned char response;
-    unsigned char after;
+    unsigned char states_after;
     unsigned char not_with_do_not_go_to_sd;
 };
 
@@ -201,7 +181,7 @@ static const struct row rows[] = {
 /* How many rows there are. */
 #define ROWS (sizeof rows / sizeof rows[0])
 
-/* What a sheet's line says of the snoop and its answer, the pair and the state after apart. */
+/* What is known of a snoop and its answer, the pair and the state after apart. */
 struct event {
     unsigned char kind;
     unsigned char ret_to_src;
@@ -216,14 +196,10 @@ struct event {
 /* What a request is to the tables. */
 static inline unsigned kind_of(unsigned request, unsigned excl)
 {
+#define KIND_CASE(name, code, kind) case name: return kind == PREFERRING && excl ? PREFERRING_EXCL : kind;
     switch (request) {
-    case SnpCleanFwd:
-    case SnpNotSharedDirtyFwd:
-        return FORWARDING;
-    case SnpPreferUniqueFwd:
-        return excl ? PREFERRING_EXCL : PREFERRING;
-    default:
-        return PLAIN;
+    REQUEST_LIST(KIND_CASE)
+    default: return PLAIN;
     }
 }
 
@@ -247,28 +223,30 @@ static inline int in_use(unsigned table, unsigned kind)
 /* Whether an answer brings data to Home. */
 static inline int has_data(unsigned response)
 {
-    return (response >= SnpRespData_I && response <= SnpRespDataPtl_I_PD) || response >= SnpRespData_I_Fwded_SC;
+#define DATA_BIT(name, channel, ...) | (unsigned)channel << name
+    return (0 RESPONSE_LIST(DATA_BIT)) >> response & 1;
 }
 
-/* Who takes the duty over with an answer, as far as its name tells. */
+/* Who takes the duty over with an answer, as far as its name tells; nobody with one that no row has. */
 static inline unsigned duty_of(unsigned response)
 {
+#define DUTY_CASE(name, channel, opcode, resp, fwd_state, duty) case name: return duty;
     switch (response) {
-    case SnpRespData_I_PD:
-    case SnpRespData_SC_PD:
-    case SnpRespDataPtl_I_PD:
-    case SnpRespData_I_PD_Fwded_SC:
-    case SnpRespData_SC_PD_Fwded_SC:
-        return DUTY_HOME;
-    case SnpResp_I_Fwded_SD_PD:
-    case SnpResp_SC_Fwded_SD_PD:
-    case SnpResp_I_Fwded_UD_PD:
-    case SnpRespData_I_Fwded_SD_PD:
-    case SnpRespData_SC_Fwded_SD_PD:
-        return DUTY_REQUESTER;
-    default:
-        return DUTY_NONE;
+    RESPONSE_LIST(DUTY_CASE)
+    default: return DUTY_NONE;
     }
+}
+
+/* The states from which an error field tells that the duty is lost. */
+static inline unsigned lost_from(unsigned resp_err)
+{
+    return resp_err == NDERR ? DIRTY_STATES : 0;
+}
+
+/* The states that what was seen of the state after allows. */
+static inline unsigned allowed_by(unsigned state_after)
+{
+    return state_after == STATE_NOT_SEEN ? ALL_STATES : ONLY(state_after);
 }
 
 /* Whether a row takes an error field. */
@@ -293,7 +271,7 @@ static inline int takes_tag_op(const struct row *row, unsigned tag, unsigned tag
     if (row->table == B4_46)
         return tag_op != OP_MATCH;
     if (tag == TAG_DIRTY)
-        return tag_op == (row->after == ONLY(SD) ? OP_TRANSFER : OP_UPDATE);
+        return tag_op == (row->states_after == ONLY(SD) ? OP_TRANSFER : OP_UPDATE);
     return tag_op == OP_INVALID || (tag_op == OP_TRANSFER && row->before != UDP);
 }
 
@@ -312,6 +290,32 @@ static inline int permits(const struct row *row, const struct event *event)
         return takes_tag_op(row, event->tag, event->tag_op);
     return takes_tag_op(row, TAG_INVALID, event->tag_op) || takes_tag_op(row, TAG_CLEAN, event->tag_op)
         || takes_tag_op(row, TAG_DIRTY, event->tag_op);
+}
+
+/* The states in which the rows leave a line that was in this state. */
+static inline unsigned left_from(const struct event *event, unsigned state)
+{
+    unsigned after = 0;
+    for (const struct row *row = rows; row < rows + ROWS; row++)
+        if (row->before == state && permits(row, event))
+            after |= row->states_after;
+    return after;
+}
+
+/* The states in which the rows leave a line that was in one of these. */
+static inline unsigned left_by_rows(const struct event *event, unsigned set)
+{
+    unsigned after = 0;
+    for (unsigned state = 0; state < STATES; state++)
+        if (set & ONLY(state))
+            after |= left_from(event, state);
+    return after;
+}
+
+/* What the rows say of an event on a set, where these states after are allowed. */
+static inline struct finding finding_by_rows(const struct event *event, unsigned set, unsigned allowed)
+{
+    return finding_of(set, left_by_rows(event, set) & allowed, duty_of(event->response), lost_from(event->resp_err));
 }
 
 #endif

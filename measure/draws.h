@@ -11,14 +11,14 @@ struct drawn {
     unsigned pair;
     unsigned request;
     unsigned excl;
-    unsigned final;
+    unsigned state_after;
     struct event event;
 };
 
-/* What the next draw comes from. */
+/* The state of the random generator. */
 static uint64_t source;
 
-/* The next drawn number. */
+/* The next random number. */
 static inline uint64_t draw(void)
 {
     uint64_t mixed = source += 0x9e3779b97f4a7c15u;
@@ -27,13 +27,13 @@ static inline uint64_t draw(void)
     return mixed ^ mixed >> 31;
 }
 
-/* A drawn number below a limit. */
+/* A random number below a limit. */
 static inline unsigned below(unsigned limit)
 {
     return (unsigned)((draw() >> 32) * limit >> 32);
 }
 
-/* Whether something comes to pass that does so this often out of that many times. */
+/* True so often out of so many times. */
 static inline int comes(uint64_t often, uint64_t out_of)
 {
     return draw() % out_of < often;
@@ -47,16 +47,6 @@ static inline unsigned state_of(unsigned set)
         state = below(STATES);
     while (!(set & ONLY(state)));
     return state;
-}
-
-/* The states in which an event leaves a pair with this set. */
-static inline unsigned states_left(const struct drawn *drawn, unsigned set)
-{
-    unsigned after = 0;
-    for (const struct row *row = rows; row < rows + ROWS; row++)
-        if (set & ONLY(row->before) && permits(row, &drawn->event))
-            after |= row->after;
-    return drawn->final == STATE_NOT_SEEN ? after : after & ONLY(drawn->final);
 }
 
 /* Draws a request and its flags. */
@@ -79,11 +69,11 @@ static inline struct drawn draw_anything(void)
     drawn.event.tag_op = (unsigned char)below(TAG_OPS);
     drawn.event.resp_err = (unsigned char)below(RESP_ERRS);
     drawn.event.forward = (unsigned char)below(FORWARDS);
-    drawn.final = below(STATES + 1);
+    drawn.state_after = below(STATES + 1);
     return drawn;
 }
 
-/* Tries to draw an event that a row permits from a state, and after which it can be one of the states wanted. */
+/* Tries to draw an event that some row permits from a state and that can leave one of the states wanted. */
 static inline int try_permitted(struct drawn *drawn, unsigned state, unsigned wanted)
 {
     static const unsigned char likely_tags[] = {
@@ -96,7 +86,7 @@ static inline int try_permitted(struct drawn *drawn, unsigned state, unsigned wa
     drawn->event.tag = likely_tags[below(sizeof likely_tags)];
     drawn->event.resp_err = (unsigned char)(comes(13, 16) ? OK : comes(2, 3) ? DERR : NDERR);
     for (const struct row *row = rows; row < rows + ROWS; row++) {
-        if (row->before != state || !(row->after & wanted))
+        if (row->before != state || !(row->states_after & wanted))
             continue;
         drawn->event.response = row->response;
         drawn->event.forward = row->forward;
@@ -104,7 +94,7 @@ static inline int try_permitted(struct drawn *drawn, unsigned state, unsigned wa
             drawn->event.tag_op = (unsigned char)tag_op;
             if (permits(row, &drawn->event)) {
                 fitting[count] = drawn->event;
-                after[count++] = (unsigned char)(row->after & wanted);
+                after[count++] = (unsigned char)(row->states_after & wanted);
             }
         }
     }
@@ -112,11 +102,11 @@ static inline int try_permitted(struct drawn *drawn, unsigned state, unsigned wa
         return 0;
     unsigned chosen = below(count);
     drawn->event = fitting[chosen];
-    drawn->final = below(2) ? STATE_NOT_SEEN : state_of(after[chosen]);
+    drawn->state_after = below(2) ? STATE_NOT_SEEN : state_of(after[chosen]);
     return 1;
 }
 
-/* Draws an event that a row permits from a state, and after which it can be one of the states wanted. */
+/* Draws an event that some row permits from a state and that can leave one of the states wanted. */
 static inline struct drawn draw_permitted(unsigned state, unsigned wanted)
 {
     struct drawn drawn = {0};
@@ -125,7 +115,7 @@ static inline struct drawn draw_permitted(unsigned state, unsigned wanted)
     return drawn;
 }
 
-/* Draws an event that a row permits from a state of a set, and that keeps the copy unless the pair may lose it. */
+/* Draws an event that some row permits from a state of a set, and that keeps the copy unless the pair may lose it. */
 static inline struct drawn draw_lively(unsigned set, int may_leave)
 {
     static const unsigned char kept[STATES] = {
@@ -139,13 +129,13 @@ static inline struct drawn draw_lively(unsigned set, int may_leave)
     return draw_permitted(state, kept[state]);
 }
 
-/* About how many events a pair has, where so many events are drawn over so many pairs. */
+/* About how many events each pair gets. */
 static inline unsigned long events_of_a_pair(unsigned long events, unsigned pairs)
 {
     return events / pairs + 4;
 }
 
-/* Draws the next event over the first so many pairs, whose sets it moves as a judge would. */
+/* Draws the next event over so many pairs, and moves their sets as a judge would. */
 static inline struct drawn draw_next(unsigned char *sets, unsigned pairs, unsigned long events_a_pair)
 {
     unsigned pair, set;
@@ -154,7 +144,7 @@ static inline struct drawn draw_next(unsigned char *sets, unsigned pairs, unsign
         set = sets[pair];
     } while ((set == 0 || set == ONLY(I)) && !comes(1, 8));
 
-    /* A pair can't go back up, so in all the events it has it may leave its state twice on the whole. */
+    /* A pair can't go back up, so over all its events it may leave its state about twice. */
     struct drawn drawn;
     if (set == 0)
         drawn = comes(1, 8) ? draw_anything() : draw_permitted(below(STATES), ALL_STATES);
@@ -163,7 +153,7 @@ static inline struct drawn draw_next(unsigned char *sets, unsigned pairs, unsign
     else
         drawn = draw_lively(set, comes(2, events_a_pair));
     drawn.pair = pair;
-    sets[pair] = (unsigned char)states_left(&drawn, set);
+    sets[pair] = (unsigned char)finding_by_rows(&drawn.event, set, allowed_by(drawn.state_after)).after_set;
     return drawn;
 }
 

@@ -1,0 +1,135 @@
+# common.sh: what measure/sheet and measure/traces share; both source it
+# shellcheck shell=sh
+set -eu
+
+# ends the run with a status and says why
+fail() {
+    status=$1
+    shift
+    echo "measure/${0##*/}: $*" >&2
+    exit "$status"
+}
+
+# ends the run where a command is missing, and names the call that installs it
+needed() {
+    command -v "$1" >/dev/null 2>&1 || fail 2 "$1 is missing; scripts/need $1=$2 installs it"
+}
+
+# prints the comment at the head of the script
+usage() {
+    sed -n '2,/^[^#]/s/^# \{0,1\}//p' "$0"
+}
+
+# goes to the root and reads the words of the call; the proved code is the file that is named, else FILE, which BUILD builds:
+# read_words FILE BUILD WORDS ..
+read_words() {
+    cd "$(dirname "$(readlink -f "$0")")/.."
+    proved=$PWD/$1
+    build=$2
+    check=''
+    where=''
+    shift 2
+    for word in "$@"; do
+        case "$word" in
+            --check) check=yes ;;
+            --where) where=yes ;;
+            -h|--help) usage; exit 0 ;;
+            -*) usage >&2; exit 2 ;;
+            /*) proved=$word ;;
+            *) proved=$OLDPWD/$word ;;
+        esac
+    done
+    [ -f "$proved" ] || fail 2 "$proved is missing; $build builds it"
+}
+
+# ends the run after the check where no more is asked for
+checked() {
+    [ -z "$check" ] || exit 0
+}
+
+# where everything is built and measured, gone at the end
+work=$(mktemp -d)
+trap 'rm -rf "$work"' EXIT
+trap 'exit 130' INT TERM
+
+# whether the proved code, which is for x86-64, runs here as itself
+native=''
+[ "$(uname -m)" != x86_64 ] || native=yes
+
+# compiles C for speed: compile COMPILER ARGS ..
+# where the assembler can, no branch crosses 32 bytes: some processors are slow there, and chance would decide the times
+compile() {
+    "$@" -O3 -Wa,-mbranches-within-32B-boundaries 2>/dev/null || "$@" -O3
+}
+
+# what counts instructions here, or why nothing does
+counter=''
+uncounted=''
+if [ -z "$native" ]; then
+    uncounted="this processor is not an x86-64: the proved code ran under the emulator, and there are times only"
+elif perf stat -x, -e instructions:u true 2>&1 | grep -Eq '^[0-9]+,'; then
+    counter=perf
+elif command -v valgrind >/dev/null 2>&1; then
+    counter=callgrind
+else
+    uncounted="valgrind is missing (scripts/need valgrind=valgrind installs it): there are times only"
+fi
+
+# says what the instructions are of, or why there are none
+print_counter() {
+    if [ "$counter" ]; then echo "instructions: by $counter, $1"; else echo "$uncounted"; fi
+}
+
+# runs a command under callgrind, its output thrown away
+callgrind() {
+    valgrind --tool=callgrind --log-file=/dev/null --callgrind-out-file="$work/count" "$@" >/dev/null
+}
+
+# prints the instructions of a command
+instructions() {
+    if [ "$counter" = perf ]; then
+        perf stat -x, -e instructions:u -o "$work/count" -- "$@" >/dev/null
+        awk -F, '/instructions/ { print $1 }' "$work/count"
+    else
+        callgrind "$@"
+        awk '/^(summary|totals):/ { print $2; exit }' "$work/count"
+    fi
+}
+
+# whether --where is asked for and can be told
+where_asked() {
+    [ "$where" ] || return 1
+    if [ -z "$native" ]; then
+        echo "where: told on an x86-64 only"
+        return 1
+    fi
+    needed callgrind_annotate valgrind
+}
+
+# notes the instructions of a command by function, each number after this sign: by_function SIGN COMMAND ..
+by_function() {
+    sign=$1
+    shift
+    callgrind "$@"
+    callgrind_annotate --threshold=100 "$work/count" 2>/dev/null |
+        awk -v sign="$sign" '!/PROGRAM TOTALS/ && match($0, /^ *[0-9,]+ *\([ 0-9.]*%\) */) {
+            count = substr($0, 1, RLENGTH)
+            name = substr($0, RLENGTH + 1)
+            sub(/\(.*/, "", count)
+            gsub(/[ ,]/, "", count)
+            sub(/ \[[^]]*\]$/, "", name)
+            sub(/^\?\?\?:/, "", name)
+            print sign count "\t" name
+        }' >>"$work/functions"
+}
+
+# prints the twelve dearest functions noted, their instructions divided by a number of lines or events
+print_functions() {
+    awk -F '\t' -v each="$1" '
+        { count[$2] += $1; all += $1 }
+        END {
+            for (name in count)
+                if (count[name] >= each / 20)
+                    printf "%10.1f%8.1f%%  %s\n", count[name] / each, 100 * count[name] / all, name
+        }' "$work/functions" | sort -rn | head -n 12
+}

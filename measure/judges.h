@@ -1,0 +1,74 @@
+/* What every judge here answers, and two judges of whole traces, each with korehyumo_trace's signature and whole meaning. */
+
+#ifndef JUDGES_H
+#define JUDGES_H
+
+#include <stddef.h>
+#include <stdint.h>
+
+/* How many bytes an event has. */
+#define EVENT_BYTES 14u
+
+/* The most pairs of a trace or a sheet, and the most events of a trace. */
+#define MOST 4096u
+
+/* The numbers of the refusals, of which the last three are a sheet's alone. */
+enum {
+    ACCEPTED, WRONG_LENGTH, NO_SET, NO_PAIR, OUT_OF_RANGE, OTHER_REQUEST, TRACE_REFUSALS,
+    NO_HEADER = TRACE_REFUSALS, TOO_LONG, MALFORMED
+};
+
+/* The verdicts. */
+enum { EXPLAINED, UNEXPLAINED, NOT_JUDGED, VERDICTS };
+
+/* Who is told of the duty to write the data back. */
+enum { DUTY_NONE, DUTY_HOME, DUTY_REQUESTER, DUTY_LOST, DUTIES };
+
+/* What a judge says of an event: the set of its pair after it, the verdict and the duty. */
+struct finding {
+    unsigned after_set;
+    unsigned verdict;
+    unsigned duty;
+};
+
+/* The finding where an event leaves these states of a set, from some of which the duty is lost. */
+static inline struct finding finding_of(unsigned before, unsigned after, unsigned duty, unsigned lost_from)
+{
+    if (after == 0)
+        return (struct finding){0, before ? UNEXPLAINED : NOT_JUDGED, DUTY_NONE};
+    return (struct finding){after, EXPLAINED, before & lost_from ? DUTY_LOST : duty};
+}
+
+/* What a judge of whole traces is lent. */
+#define LENT \
+    const uint8_t *events, size_t events_len, const uint16_t *pairs, size_t pairs_len, uint8_t *table, size_t table_len, \
+    uint8_t *verdicts, size_t verdicts_len, uint8_t *duties, size_t duties_len, uint8_t *afters, size_t afters_len
+
+/* A judge of whole traces. */
+typedef uint64_t judge_of_traces(LENT);
+
+/* Looks every event up in tables, which judges_ready has to have made. */
+judge_of_traces by_table_trace;
+
+/* Walks the rows for every event and every state of its pair's set. */
+judge_of_traces by_rows_trace;
+
+/* Makes the tables of by_table_trace, once, before its first call. */
+void judges_ready(void);
+
+/* The result that says this refusal, or none, at this place. */
+static inline uint64_t result_of(unsigned refusal, size_t place)
+{
+    return place * 256 + refusal;
+}
+
+/* Whether the lengths lent fit each other and the limits. */
+static inline int lengths_fit(size_t events_len, size_t pairs_len, size_t table_len, size_t verdicts_len, size_t duties_len,
+                              size_t afters_len)
+{
+    size_t n = events_len / EVENT_BYTES;
+    return events_len == n * EVENT_BYTES && n <= MOST && table_len <= MOST && pairs_len == n && verdicts_len == n
+        && duties_len == n && afters_len == n;
+}
+
+#endif

@@ -1,0 +1,349 @@
+/* A line of a bench sheet read for speed: each name is found by a perfect hash and compared eight bytes at a time. */
+
+#ifndef READ_LINE_H
+#define READ_LINE_H
+
+#include <string.h>
+#include "load.h"
+#include "sheet.h"
+
+/* The most bytes of an answer's name. */
+#define LONGEST_RESPONSE 26
+
+/* The prefix of every answer's name, which the table of answers leaves out. */
+#define RESPONSE_PREFIX "SnpResp"
+
+/* How many bytes that prefix has. */
+#define PREFIX_BYTES (sizeof RESPONSE_PREFIX - 1)
+
+/* The lowest bit of each field in a key, above RetToSrc and DoNotGoToSD, and how many bits a key has. */
+enum { KIND_BIT = 2, TAG_BIT = 4, TAG_OP_BIT = 6, RESP_ERR_BIT = 8, RESPONSE_BIT = 10, KEY_BITS = 15 };
+
+/* A name of up to eight bytes, what it adds to a key, and the states that a state after allows. */
+struct short_name {
+    _Alignas(32) uint64_t bytes;
+    uint64_t mask;
+    uint16_t key;
+    uint8_t length;
+    uint8_t allowed;
+};
+
+/* A name of up to 24 bytes with the comma after it, what it adds to a key, and what else is known of it. */
+struct long_name {
+    _Alignas(64) uint64_t bytes[3];
+    uint64_t mask[3];
+    uint16_t key;
+    uint8_t length;
+    uint8_t flags_used;
+    uint8_t forward;
+};
+
+/* What a good line says; its key says all but the pair, the forward and the state after. */
+struct line {
+    unsigned pair;
+    unsigned key;
+    unsigned forward;
+    unsigned forward_of_response;
+    unsigned allowed;
+};
+
+/* The requests by their fourth letter, without Fwd and with it. */
+static struct long_name requests[64];
+
+/* The answers by their length and the byte that tells those of a length apart. */
+static struct long_name responses[32 * 8];
+
+/* The offset of the byte that tells the answers of a length apart. */
+static const uint8_t told_apart_at[32] = {
+    [14] = 13, [18] = 16, [19] = 9, [21] = 16, [22] = 9, [23] = 13, [25] = 14, [26] = 15,
+};
+
+/* The data forwarded by the two letters of its state. */
+static struct long_name forwards[4];
+
+/* The tag states by their first letter. */
+static struct short_name tags[8];
+
+/* The tag operations by their second letter. */
+static struct short_name tag_ops[8];
+
+/* The error fields by their first letter. */
+static struct short_name resp_errs[8];
+
+/* The states after by their letters and what follows. */
+static struct short_name states_after[32];
+
+/* The hash of a request: its fourth letter, and the F of Fwd where no good line has another F. */
+static inline unsigned request_hash(const unsigned char *at)
+{
+    return 2u * (at[3] & 31) + ((at[8] == 'F') | (at[15] == 'F') | (at[17] == 'F'));
+}
+
+/* The hash of an answer: its length and the byte that tells it apart. */
+static inline unsigned response_hash(const unsigned char *at, size_t length)
+{
+    return (unsigned)length * 8 + (at[told_apart_at[length]] >> 2 & 7);
+}
+
+/* The hash of a tag state or an error field: its first letter. */
+static inline unsigned first_letter_hash(const unsigned char *at)
+{
+    return at[0] & 7;
+}
+
+/* The hash of a tag operation: its second letter. */
+static inline unsigned tag_op_hash(const unsigned char *at)
+{
+    return at[1] & 7;
+}
+
+/* The hash of data forwarded: the two letters of its state. */
+static inline unsigned forward_hash(const unsigned char *at)
+{
+    return (at[9] & 2) | (at[10] & 1);
+}
+
+/* The hash of a state after: its letters and the CRLF that follows. */
+static inline unsigned state_hash(const unsigned char *at)
+{
+    return (at[0] + at[1] + at[2]) & 31;
+}
+
+/* Whether a name of up to so many words stands here, with the comma after it. */
+static inline int stands(const struct long_name *name, const unsigned char *at, int words)
+{
+    for (int n = 0; n < words; n++)
+        if ((load(at + 8 * n) & name->mask[n]) != name->bytes[n])
+            return 0;
+    return 1;
+}
+
+/* Whether a name of up to eight bytes stands here. */
+static inline int stands_short(const struct short_name *name, const unsigned char *at)
+{
+    return (load(at) & name->mask) == name->bytes;
+}
+
+/* Reads a pair of one to four digits and the comma after it; like every reader here it gives what follows, or null. */
+static inline const unsigned char *read_pair(const unsigned char *at, struct line *line)
+{
+    unsigned digits = (unsigned)load(at), length;
+    if (at[4] == ',') {
+        length = 4;
+    } else if (at[3] == ',') {
+        length = 3;
+        digits = digits << 8 | '0';
+    } else if (at[2] == ',') {
+        length = 2;
+        digits = digits << 16 | '0' << 8 | '0';
+    } else {
+        if (at[1] != ',')
+            return 0;
+        length = 1;
+        digits = digits << 24 | '0' << 16 | '0' << 8 | '0';
+    }
+    if (at[0] == '0' && length != 1)
+        return 0;
+    digits ^= 0x30303030;
+    if ((digits | (digits + 0x76767676)) & 0x80808080)
+        return 0;
+    digits = 10 * digits + (digits >> 8);
+    line->pair = 100 * (digits & 255) + (digits >> 16 & 255);
+    return at + length + 1;
+}
+
+/* Reads the request and its three flags. */
+static inline const unsigned char *read_request(const unsigned char *at, struct line *line)
+{
+    const struct long_name *request = &requests[request_hash(at)];
+    if (!stands(request, at, 3))
+        return 0;
+    at += request->length;
+
+    /* The three flags are bits 0, 16 and 32 of what follows, and the product brings them side by side. */
+    uint64_t flags = load(at);
+    if ((flags & 0xfffefffefffeu) != 0x2c302c302c30u)
+        return 0;
+    flags = (flags & 0x100010001u) * (1ull << 32 | 1u << 17 | 1u << 2) >> 32 & 7;
+    line->key = ((unsigned)flags & request->flags_used) + request->key;
+    return at + 6;
+}
+
+/* Reads the tag state. */
+static inline const unsigned char *read_tag(const unsigned char *at, struct line *line)
+{
+    const struct short_name *tag = &tags[first_letter_hash(at)];
+    if (!stands_short(tag, at))
+        return 0;
+    line->key += tag->key;
+    return at + tag->length;
+}
+
+/* Reads the answer to Home. */
+static inline const unsigned char *read_response(const unsigned char *at, struct line *line)
+{
+    const unsigned char *comma = memchr(at, ',', LONGEST_RESPONSE + 1);
+    if (!comma)
+        return 0;
+    const struct long_name *response = &responses[response_hash(at, (size_t)(comma - at))];
+    if ((load(at) & ~0ull >> 8) != load((const unsigned char *)RESPONSE_PREFIX))
+        return 0;
+    if (!stands(response, at + PREFIX_BYTES, 3))
+        return 0;
+    line->key += response->key;
+    line->forward_of_response = response->forward;
+    return comma + 1;
+}
+
+/* Reads the tag operation: mostly Invalid, which adds nothing to a key; Transfer leaves no room for its comma in eight bytes. */
+static inline const unsigned char *read_tag_op(const unsigned char *at, struct line *line)
+{
+    if (load(at) == load((const unsigned char *)"Invalid,"))
+        return at + 8;
+    const struct short_name *tag_op = &tag_ops[tag_op_hash(at)];
+    if (!stands_short(tag_op, at) || at[tag_op->length] != ',')
+        return 0;
+    line->key += tag_op->key;
+    return at + tag_op->length + 1;
+}
+
+/* Reads the error field: mostly OK, which adds nothing to a key. */
+static inline const unsigned char *read_resp_err(const unsigned char *at, struct line *line)
+{
+    if (at[0] == 'O' && at[1] == 'K' && at[2] == ',')
+        return at + 3;
+    const struct short_name *resp_err = &resp_errs[first_letter_hash(at)];
+    if (!stands_short(resp_err, at))
+        return 0;
+    line->key += resp_err->key;
+    return at + resp_err->length;
+}
+
+/* Reads the data forwarded. */
+static inline const unsigned char *read_forward(const unsigned char *at, struct line *line)
+{
+    line->forward = NO_FORWARD;
+    if (at[0] == '-' && at[1] == ',')
+        return at + 2;
+    const struct long_name *forward = &forwards[forward_hash(at)];
+    if (!stands(forward, at, 2))
+        return 0;
+    line->forward = forward->forward;
+    return at + forward->length;
+}
+
+/* Reads the state after and the CRLF after it. */
+static inline const unsigned char *read_state_after(const unsigned char *at, struct line *line)
+{
+    const struct short_name *state_after = &states_after[state_hash(at)];
+    if (!stands_short(state_after, at))
+        return 0;
+    line->allowed = state_after->allowed;
+    return at + state_after->length;
+}
+
+/* Reads the line that starts here and gives the start of the next, or null where it is malformed. */
+static inline const unsigned char *read_line(const unsigned char *at, struct line *line)
+{
+    return (at = read_pair(at, line)) && (at = read_request(at, line)) && (at = read_tag(at, line))
+        && (at = read_response(at, line)) && (at = read_tag_op(at, line)) && (at = read_resp_err(at, line))
+        && (at = read_forward(at, line)) ? read_state_after(at, line) : 0;
+}
+
+/* The event of a key, as far as a key tells it. */
+static inline struct event event_of(unsigned key, unsigned forward)
+{
+    return (struct event){
+        .kind = key >> KIND_BIT & 3,
+        .ret_to_src = key & 1,
+        .do_not_go_to_sd = key >> 1 & 1,
+        .tag = key >> TAG_BIT & 3,
+        .response = key >> RESPONSE_BIT & 31,
+        .tag_op = key >> TAG_OP_BIT & 3,
+        .resp_err = key >> RESP_ERR_BIT & 3,
+        .forward = (unsigned char)forward,
+    };
+}
+
+/* Fills in a name that has up to eight bytes together with what is taken as its end. */
+static inline void put_short(struct short_name *names, unsigned (*hash)(const unsigned char *), const char *text, const char *end,
+                             unsigned key, unsigned allowed)
+{
+    unsigned char bytes[8] = {0}, mask[8] = {0};
+    size_t length = strlen(text) + strlen(end);
+    memcpy(bytes, text, strlen(text));
+    memcpy(bytes + strlen(text), end, strlen(end));
+    memset(mask, 255, length);
+    names[hash(bytes)] = (struct short_name){load(bytes), load(mask), (uint16_t)key, (uint8_t)length, (uint8_t)allowed};
+}
+
+/* Fills in a name of up to 23 bytes and the comma after it. */
+static inline void put_long(struct long_name *name, const char *text, unsigned key)
+{
+    unsigned char bytes[24] = {0}, mask[24] = {0};
+    size_t length = strlen(text) + 1;
+    memcpy(bytes, text, length - 1);
+    bytes[length - 1] = ',';
+    memset(mask, 255, length);
+    for (int n = 0; n < 3; n++) {
+        name->bytes[n] = load(bytes + 8 * n);
+        name->mask[n] = load(mask + 8 * n);
+    }
+    name->length = (uint8_t)length;
+    name->key = (uint16_t)key;
+}
+
+/* Fills in the requests, the answers and the data forwarded. */
+static inline void put_long_names(void)
+{
+    for (unsigned n = 0; n < REQUESTS; n++) {
+        unsigned char text[32] = {0};
+        memcpy(text, request_names[n], strlen(request_names[n]));
+        struct long_name *name = &requests[request_hash(text)];
+        put_long(name, request_names[n], kind_of(n, 0) << KIND_BIT);
+        name->flags_used = kind_of(n, 0) != kind_of(n, 1) ? 7 : 3;
+    }
+    for (unsigned n = 0; n < RESPONSES; n++) {
+        const unsigned char *text = (const unsigned char *)response_names[n];
+        struct long_name *name = &responses[response_hash(text, strlen(response_names[n]))];
+        put_long(name, response_names[n] + PREFIX_BYTES, n << RESPONSE_BIT);
+        for (const struct row *row = rows; row < rows + ROWS; row++)
+            if (row->response == n)
+                name->forward = row->forward;
+    }
+    for (unsigned n = NO_FORWARD + 1; n < FORWARDS; n++) {
+        struct long_name *name = &forwards[forward_hash((const unsigned char *)forward_names[n])];
+        put_long(name, forward_names[n], 0);
+        name->forward = (uint8_t)n;
+    }
+}
+
+/* Fills in the tag states, the tag operations, the error fields and the states after. */
+static inline void put_short_names(void)
+{
+    for (unsigned n = 0; n < TAGS; n++)
+        put_short(tags, first_letter_hash, tag_names[n], ",", n << TAG_BIT, 0);
+    for (unsigned n = 0; n < TAG_OPS; n++)
+        put_short(tag_ops, tag_op_hash, tag_op_names[n], "", n << TAG_OP_BIT, 0);
+    for (unsigned n = 0; n < RESP_ERRS; n++)
+        put_short(resp_errs, first_letter_hash, resp_err_names[n], ",", n << RESP_ERR_BIT, 0);
+    for (unsigned n = 0; n <= STATES; n++)
+        put_short(states_after, state_hash, state_names[n], "\r\n", 0, allowed_by(n));
+}
+
+/* Fills in all the names, with bytes that no mask lets through where there is none. */
+static inline void put_names(void)
+{
+    for (int n = 0; n < 64; n++)
+        requests[n].bytes[0] = 1;
+    for (int n = 0; n < 32 * 8; n++)
+        responses[n].bytes[0] = 1;
+    for (int n = 0; n < 8; n++)
+        tags[n].bytes = tag_ops[n].bytes = resp_errs[n].bytes = 1;
+    for (int n = 0; n < 32; n++)
+        states_after[n].bytes = 1;
+    put_long_names();
+    put_short_names();
+}
+
+#endif
