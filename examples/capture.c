@@ -19,16 +19,16 @@
 /* Up to 4,096 events of a capture as they are lent to the judge, and what it answers. */
 struct part {
     size_t count;
-    uint8_t events[KOREHYUMO_MOST * KOREHYUMO_EVENT_BYTES];
-    uint16_t pairs[KOREHYUMO_MOST];
-    uint8_t verdicts[KOREHYUMO_MOST];
-    uint8_t duties[KOREHYUMO_MOST];
-    uint8_t afters[KOREHYUMO_MOST];
+    uint8_t events[KOREHYUMO_MOST_EVENTS * KOREHYUMO_EVENT_BYTES];
+    uint16_t pairs[KOREHYUMO_MOST_EVENTS];
+    uint8_t verdicts[KOREHYUMO_MOST_EVENTS];
+    uint8_t duties[KOREHYUMO_MOST_EVENTS];
+    uint8_t afters[KOREHYUMO_MOST_EVENTS];
 };
 
 /* What the capture has shown so far: the set of each pair, and how many events got each verdict. */
 struct known {
-    uint8_t table[KOREHYUMO_MOST];
+    uint8_t table[KOREHYUMO_MOST_PAIRS];
     unsigned long long verdicts[3];
 };
 
@@ -41,7 +41,7 @@ static unsigned long long events_known(const struct known *known)
 /* Reads the next part of a capture. Returns 0, with a message on standard error, if it can't. */
 static int read_part(FILE *capture, const struct known *known, struct part *part)
 {
-    static uint8_t records[KOREHYUMO_MOST * RECORD_BYTES];
+    static uint8_t records[KOREHYUMO_MOST_EVENTS * RECORD_BYTES];
     size_t bytes = fread(records, 1, sizeof records, capture);
     if (ferror(capture)) {
         fprintf(stderr, "capture: it can't be read: %s\n", strerror(errno));
@@ -95,7 +95,7 @@ static int judge_capture(FILE *capture)
         if (!read_part(capture, &known, &part) || !judge_part(&known, &part))
             return 1;
         tell_part(&known, &part);
-    } while (part.count == KOREHYUMO_MOST);
+    } while (part.count == KOREHYUMO_MOST_EVENTS);
     printf("%llu events: %llu explained, %llu unexplained, %llu not judged\n", events_known(&known), known.verdicts[KOREHYUMO_EXPLAINED],
            known.verdicts[KOREHYUMO_UNEXPLAINED], known.verdicts[KOREHYUMO_NOT_JUDGED]);
     return 0;

@@ -26,8 +26,8 @@
  * SnpNotSharedDirtyFwd 20, SnpPreferUnique 21, SnpPreferUniqueFwd 22. A tag state of 3 was not seen.
  * A state after of 7 was not seen. docs/DEFINITION.md has the codes of every field.
  *
- * PAIRS AND SETS. A pair is one cache line in one cache. What it can be in is a set of states: a byte
- * in which state n has weight 2 to the n.
+ * PAIRS AND SETS. A pair is one cache line in one cache. The states that it can be in are one byte:
+ * bit n is set if state n is possible.
  *
  * RESULTS. Every result reads alike:
  *
@@ -36,7 +36,7 @@
  *
  * korehyumo_number() and korehyumo_place() read the lower half.
  *
- * BUFFERS. A pointer lends as many elements as the length after it says. A null pointer with length 0
+ * BUFFERS. The length after a pointer is the number of its elements. A null pointer with length 0
  * is an empty buffer. Every input that keeps these five rules is answered. Breaking one is undefined
  * behaviour.
  *
@@ -65,8 +65,11 @@ extern "C" {
 /* How many bytes an event has. */
 #define KOREHYUMO_EVENT_BYTES 14
 
-/* The most events, and the most pairs, of one call. */
-#define KOREHYUMO_MOST 4096
+/* The most events of one call. */
+#define KOREHYUMO_MOST_EVENTS 4096
+
+/* The most pairs of one call. */
+#define KOREHYUMO_MOST_PAIRS 4096
 
 /* The set of all seven states: nothing is known of the line. */
 #define KOREHYUMO_ALL_STATES 127

@@ -6,7 +6,7 @@
 #include "korehyumo.h"
 
 /* One more than the most events and pairs of a call. */
-#define ROOM (KOREHYUMO_MOST + 1)
+#define ROOM (KOREHYUMO_MOST_EVENTS + 1)
 
 /* The byte that fills the outputs before a call; no answer has it. */
 #define BEFORE 0x5A
@@ -83,13 +83,13 @@ static void wrong_lengths(void)
 /* Refusals at the last event and at the last pair have place 4,095, and nothing is written. */
 static void last_places(void)
 {
-    size_t n = KOREHYUMO_MOST, last = n - 1;
+    size_t n = KOREHYUMO_MOST_EVENTS, last = n - 1;
     fill();
     events[last * KOREHYUMO_EVENT_BYTES] = 3;
     hold("5 at event 4,095", judge(14 * n, n, n, n, n, n) == last * 256 + KOREHYUMO_REQUEST);
     events[last * KOREHYUMO_EVENT_BYTES + 13] = 8;
     hold("4 at event 4,095", judge(14 * n, n, n, n, n, n) == last * 256 + KOREHYUMO_RANGE);
-    pairs[last] = KOREHYUMO_MOST;
+    pairs[last] = KOREHYUMO_MOST_EVENTS;
     hold("3 at event 4,095", judge(14 * n, n, n, n, n, n) == last * 256 + KOREHYUMO_PAIR);
     hold("refused events write nothing", untouched_but(0) && table[0] == KOREHYUMO_ALL_STATES);
     table[last] = 128;
@@ -100,7 +100,7 @@ static void last_places(void)
 /* The longest trace is accepted with place 4,096, and nothing is written past the lengths lent. */
 static void longest(void)
 {
-    size_t n = KOREHYUMO_MOST;
+    size_t n = KOREHYUMO_MOST_EVENTS;
     fill();
     hold("4,096 events are accepted", judge(14 * n, n, n, n, n, n) == n * 256);
     hold("all are explained", all(verdicts, n, KOREHYUMO_EXPLAINED) && all(duties, n, KOREHYUMO_DUTY_NONE));
