@@ -26,7 +26,7 @@ use Rattle.trace.specs.Given.{Given}
 use Rattle.trace.specs.Judged.{trace, refusedLeft, accepts, judged}
 use Rattle.histories.specs.Histories.{own, first, History, HistoryTo, VerdictGiven}
 use Rattle.theorems.specs.Duties.{nonDataError, HomeHolds, RequesterHolds}
-use Rattle.theorems.specs.Traces.{Accepted, verdictAt, dutyAt, afterAt, setAtEnd, pairOf, eventOf, DutySaid, DirtyReaches, sheet, orders, inOrder}
+use Rattle.theorems.specs.Traces.{Accepted, verdictAt, dutyAt, afterAt, setAtEnd, pairOf, eventOf, DutySaid, DirtyReaches, example, orders, inOrder}
 -- their proofs
 use Rattle.trace.proofs.Given.{given, gives}
 use Rattle.trace.proofs.Whole.{judged-outcome, judged-refused}
@@ -176,7 +176,7 @@ same-events-same-bytes l l′ ok ok′ k k′ h h′ start events same =
     )
 
 -- THE EXAMPLE SHEET (definition 8.11): explained and Home, explained, unexplained, not judged; {I, SC} twice, then the empty set.
-pub example-as-trace : judged issueE sheet
+pub example-as-trace : judged issueE example
     ≡ left (outcome 0 4) (0 ∷ [])
     (explained ∷ explained ∷ unexplained ∷ notJudged ∷ [])
     (Home ∷ noDuty ∷ noDuty ∷ noDuty ∷ [])

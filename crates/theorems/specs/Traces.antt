@@ -53,16 +53,16 @@ pub record DirtyReaches (l : Lent) (k : ℕ) : Type 0 where
   pub history : HistoryTo l (pairOf l k) k state
 
 -- The example sheet as a trace (definition 8.11): one pair, from all seven states; on the last line the state after was seen, I.
-abbrev sheetEvents : List ℕ
-sheetEvents =
+abbrev exampleEvents : List ℕ
+exampleEvents =
     event SnpShared 0 0 0 tagInvalid SnpRespData-SC-PD opInvalid OK
     ++ event SnpShared 1 0 0 tagInvalid SnpRespData-SC opInvalid OK
     ++ event SnpClean 0 0 0 tagInvalid SnpRespData-SD opInvalid OK
     ++ eventTo SnpClean 0 0 0 tagInvalid SnpResp-I opInvalid OK I
 
 -- the buffers lent with them; the bytes 9 in the outputs have to be overwritten
-abbrev pub sheet : Lent
-sheet = lent sheetEvents (0 ∷ 0 ∷ 0 ∷ 0 ∷ []) (allStates ∷ []) (9 ∷ 9 ∷ 9 ∷ 9 ∷ []) (9 ∷ 9 ∷ 9 ∷ 9 ∷ []) (9 ∷ 9 ∷ 9 ∷ 9 ∷ [])
+abbrev pub example : Lent
+example = lent exampleEvents (0 ∷ 0 ∷ 0 ∷ 0 ∷ []) (allStates ∷ []) (9 ∷ 9 ∷ 9 ∷ 9 ∷ []) (9 ∷ 9 ∷ 9 ∷ 9 ∷ []) (9 ∷ 9 ∷ 9 ∷ 9 ∷ [])
 
 -- Buffers to which more than one row of the refusal table applies, and the number and place that are given (definition 4.2).
 pub record Order : Type 0 where
