@@ -1,76 +1,44 @@
-//! An independent program that answers what the snoop judge is asked, from the definition alone, and compares the judge's program with its own answers.
+//! An independent program that answers what the snoop judge is asked, from the definition alone, and compares the judge's
+//! programs with its own answers.
 
 #![forbid(unsafe_code)]
 
-mod answer;
-mod capture;
-mod capture_cases;
-mod capture_draws;
-mod capture_made;
-mod capture_run;
-mod capture_sweeps;
+mod calls;
 mod cases;
-mod codes;
-mod compare_capture;
-mod compare_event;
-mod compare_sheet;
-mod compare_trace;
-mod draw;
-mod event;
-mod histories;
-mod lent;
-mod make;
-mod names;
-mod pipe;
-mod rows;
-mod sheet;
-mod sheet_borders;
-mod sheet_cases;
-mod sheet_draws;
-mod sheet_lines;
-mod sheet_made;
-mod sheet_run;
-mod sheet_sweeps;
-mod trace;
-mod trace_cases;
-mod trace_draws;
-mod trace_sweeps;
+mod definition;
+#[cfg(test)]
+mod layers;
+mod running;
+mod wrong;
 
+use calls::all::{call, CALLS};
+use definition::capture::of_sheet;
+use definition::values::Definition;
+use running::call::{Call, Feeding};
+use running::compare::compare;
 use std::env;
 use std::ffi::OsString;
 use std::fs::File;
-use std::io;
+use std::io::{self, BufReader, BufWriter, Read, Write};
 use std::process::ExitCode;
+use std::sync::Arc;
+use wrong::judges::WRONG;
+use wrong::noticing::{few_cases, noticed};
 
 /// How the program is called.
 const USAGE: &str = "usage:
-  compare event [--seed N] [--random N] -- PROGRAM ARGS..
-  compare trace [--seed N] [--random N] -- PROGRAM ARGS..
-  compare sheet [--once] [--seed N] [--random N] -- PROGRAM ARGS..
-  compare capture [--seed N] [--random N] -- PROGRAM ARGS..
-  compare answer event
-  compare answer trace
-  compare answer sheet
-  compare answer capture [FILE]
-  compare make capture";
+  compare CALL [--once] [--seed N] [--random N] [--stage N] -- PROGRAM ARGS..
+      compares a program
+  compare answer CALL [--stage N] [FILE]
+      answers the cases on standard input, or in a file
+  compare wrong [CALL]
+      tells which case notices each judge that is wrong on purpose
+  compare make capture
+      writes the capture of the sheet on standard input
+A stage is the number of the last follow-up request that is in force, or 0.";
 
-/// What is wrong with words that ask for nothing that this program does.
+/// What is wrong with words that name no call.
 const NO_CALL: &str = "that is no call of this program";
-
-/// The seed where none is named.
-const SEED: u64 = 1;
-
-/// How many random cases of one event there are where no number is named.
-const RANDOM_EVENTS: u64 = 1_200_000;
-
-/// How many random cases of a whole trace there are where no number is named.
-const RANDOM_TRACES: u64 = 140_000;
-
-/// How many random bench sheets there are where no number is named.
-const RANDOM_SHEETS: u64 = 1_000;
-
-/// How many random captures there are where no number is named.
-const RANDOM_CAPTURES: u64 = 120;
 
 /// The most random cases that can be asked for.
 const MOST_RANDOM: u64 = 1_000_000_000;
@@ -78,199 +46,215 @@ const MOST_RANDOM: u64 = 1_000_000_000;
 /// Ends with 0 where all is well, 1 where something differs or fails, and 2 where it was called wrongly.
 fn main() -> ExitCode {
     let words: Vec<OsString> = env::args_os().skip(1).collect();
-    match subcommand(&words) {
+    let outcome = match asked(&words) {
+        Ok(asked) => asked,
+        Err(message) => {
+            let names: Vec<&str> = CALLS.iter().map(|call| call.name).collect();
+            eprintln!("compare: {message}\n{USAGE}\nCALL is one of {}", names.join(", "));
+            return ExitCode::from(2);
+        }
+    };
+    match done(outcome) {
         Ok(true) => ExitCode::SUCCESS,
         Ok(false) => ExitCode::from(1),
-        Err(message) => {
-            eprintln!("compare: {}\n{}", message, USAGE);
-            ExitCode::from(2)
+        Err(error) => {
+            eprintln!("compare: failed, {error}");
+            ExitCode::from(1)
         }
     }
 }
 
-/// Does what the words of the command line ask for, and tells whether all was well.
-fn subcommand(words: &[OsString]) -> Result<bool, String> {
-    let word = |n: usize| words.get(n).and_then(|word| word.to_str());
-    match (word(0), word(1)) {
-        (Some("event"), _) => {
-            let asked = comparison(&words[1..], RANDOM_EVENTS)?;
-            let cases = cases::Cases {
-                seed: asked.seed,
-                random: asked.random,
-            };
-            Ok(told(compare_event::run(cases, asked.program)))
-        }
-        (Some("trace"), _) => {
-            let asked = comparison(&words[1..], RANDOM_TRACES)?;
-            let cases = trace_cases::Cases::new(asked.seed, asked.random);
-            Ok(told(compare_trace::run(cases, asked.program)))
-        }
-        (Some("sheet"), first) => {
-            let once = first == Some("--once");
-            let asked = comparison(&words[1 + usize::from(once)..], RANDOM_SHEETS)?;
-            let cases = sheet_cases::Cases::new(asked.seed, asked.random as usize, once);
-            Ok(told(compare_sheet::run(&cases, asked.program)))
-        }
-        (Some("capture"), _) => {
-            let asked = comparison(&words[1..], RANDOM_CAPTURES)?;
-            let cases = capture_cases::Cases::new(asked.seed, asked.random as usize);
-            Ok(told(compare_capture::run(&cases, asked.program)))
-        }
-        (Some("answer"), Some("capture")) if words.len() <= 3 => Ok(capture_answered(words.get(2))),
-        (Some("answer"), Some(what)) if words.len() == 2 => answered(what),
-        (Some("make"), Some("capture")) if words.len() == 2 => Ok(told(capture_made())),
-        _ => Err(NO_CALL.to_string()),
-    }
+/// What a command line asks for.
+enum Asked {
+    /// The comparison of a program.
+    Compare { call: &'static Call, once: bool, seed: u64, random: u64, definition: Definition, program: Vec<OsString> },
+    /// Answers to the cases of a call.
+    Answer { call: &'static Call, definition: Definition, file: Option<OsString> },
+    /// The cases of some calls that notice each wrong judge.
+    Wrong { calls: Vec<&'static Call> },
+    /// The capture of a sheet.
+    MakeCapture,
 }
 
-/// Answers the events, the traces or the sheet on standard input, and tells whether all was well.
-fn answered(what: &str) -> Result<bool, String> {
-    let (input, output) = (io::stdin().lock(), io::stdout().lock());
-    let answered = match what {
-        "event" => answer::event(input, output),
-        "trace" => answer::trace(input, output),
-        "sheet" => answer::sheet(input, output),
-        _ => return Err(NO_CALL.to_string()),
+/// What the words of a command line ask for.
+fn asked(words: &[OsString]) -> Result<Asked, String> {
+    let first: Vec<&str> = words.iter().take(2).map(|word| word.to_str().unwrap_or("")).collect();
+    let (verb, rest) = match first[..] {
+        ["make", "capture"] if words.len() == 2 => return Ok(Asked::MakeCapture),
+        ["wrong"] => return Ok(Asked::Wrong { calls: CALLS.to_vec() }),
+        ["wrong", name] if words.len() == 2 => return Ok(Asked::Wrong { calls: vec![call(name).ok_or(NO_CALL)?] }),
+        ["answer", name] => (call(name), &words[2..]),
+        [name, ..] => (call(name), &words[1..]),
+        [] => (None, words),
     };
-    Ok(told(
-        answered.map(|()| true).map_err(|error| error.to_string()),
-    ))
-}
-
-/// Answers the capture in a file, or on standard input where none is named, and tells whether it was judged to its end.
-fn capture_answered(file: Option<&OsString>) -> bool {
-    let output = io::stdout().lock();
-    let answered = match file {
-        Some(path) => File::open(path).and_then(|file| answer::capture(file, output)),
-        None => answer::capture(io::stdin().lock(), output),
-    };
-    match answered {
-        Ok(None) => return true,
-        Ok(Some(stop)) => eprintln!("{}", stop.message()),
-        Err(error) => eprintln!("capture: {}", error),
-    }
-    false
-}
-
-/// Writes the capture of the sheet on standard input, and tells of the line at which the sheet is refused, if there is one.
-fn capture_made() -> Result<bool, String> {
-    let made = make::capture(io::stdin().lock(), io::stdout().lock());
-    match made.map_err(|error| error.to_string())? {
-        None => Ok(true),
-        Some(refusal) => Err(format!(
-            "the sheet is refused with {} at line {}",
-            refusal.number, refusal.line
-        )),
-    }
-}
-
-/// Whether all was well, after telling what kept it from being known.
-fn told(outcome: Result<bool, String>) -> bool {
-    outcome.unwrap_or_else(|message| {
-        eprintln!("compare: failed, {}", message);
-        false
-    })
-}
-
-/// What the words after a comparison's name ask for.
-struct Comparison<'a> {
-    /// What the random cases are drawn from.
-    seed: u64,
-    /// How many random cases there are.
-    random: u64,
-    /// The program to compare with, and its arguments.
-    program: &'a [OsString],
-}
-
-/// What words ask for, with as many random cases as are usual where they name no number.
-fn comparison(words: &[OsString], usual: u64) -> Result<Comparison<'_>, String> {
-    let mut seed = SEED;
-    let mut random = usual;
-    let mut n = 0;
-    while n < words.len() {
-        match words[n].to_str() {
-            Some("--seed") => seed = number(words.get(n + 1), u64::MAX)?,
-            Some("--random") => random = number(words.get(n + 1), MOST_RANDOM)?,
-            Some("--") if n + 1 < words.len() => {
-                return Ok(Comparison {
-                    seed,
-                    random,
-                    program: &words[n + 1..],
-                })
+    let call = verb.ok_or(NO_CALL)?;
+    let (mut once, mut seed, mut random, mut definition) = (false, 1, call.random, Definition::now());
+    let mut rest = rest.iter();
+    let mut file = None;
+    while let Some(word) = rest.next() {
+        let word = word.to_str().unwrap_or("");
+        match (word, first[0] == "answer") {
+            ("--once", false) => once = true,
+            ("--seed", false) => seed = number(rest.next(), u64::MAX)?,
+            ("--random", false) => random = number(rest.next(), MOST_RANDOM)?,
+            ("--stage", _) => {
+                let request = number(rest.next(), u64::MAX)? as usize;
+                definition = Definition::at_stage(request).ok_or("that request is not in force yet")?;
             }
-            Some("--") => break,
-            _ => return Err(format!("{:?} is not known", words[n])),
+            ("--", false) if rest.len() > 0 => {
+                let program = rest.cloned().collect();
+                return Ok(Asked::Compare { call, once, seed, random, definition, program });
+            }
+            (name, true) if rest.len() == 0 && !name.starts_with('-') => file = Some(OsString::from(name)),
+            _ => return Err(format!("{word:?} is not known, or nothing stands after it")),
         }
-        n += 2;
     }
-    Err("no program is named after --".to_string())
+    match first[0] {
+        "answer" => Ok(Asked::Answer { call, definition, file }),
+        _ => Err("no program is named after --".to_string()),
+    }
 }
 
 /// The number that a word is, if it is one and not over the most.
 fn number(word: Option<&OsString>, most: u64) -> Result<u64, String> {
-    word.and_then(|word| word.to_str())
-        .and_then(|word| word.parse().ok())
-        .filter(|number| *number <= most)
-        .ok_or_else(|| format!("a number up to {} is missing", most))
+    let number = word.and_then(|word| word.to_str()).and_then(|word| word.parse().ok());
+    number.filter(|number| *number <= most).ok_or(format!("a number up to {most} is missing"))
+}
+
+/// Does what was asked for, and tells whether all was well.
+fn done(asked: Asked) -> io::Result<bool> {
+    match asked {
+        Asked::Compare { call, once, seed, random, definition, program } => {
+            let cases = Arc::new((call.cases)(&definition, seed, random));
+            let outcome = compare(call, &cases, 0..cases.total(), once, &program);
+            print!("{}", outcome.report(call, &cases));
+            Ok(outcome.all_agree(&cases))
+        }
+        Asked::Answer { call, definition, file } => {
+            let mut input: Box<dyn Read> = match file {
+                Some(file) => Box::new(File::open(file)?),
+                None => Box::new(io::stdin()),
+            };
+            answer(call, &definition, &mut input, &mut io::stdout().lock())
+        }
+        Asked::Wrong { calls } => {
+            let mut all = true;
+            for call in calls {
+                for (wrong, noticed) in noticed(call, &few_cases(call), WRONG) {
+                    all &= noticed.is_some();
+                    println!("{}: {}: {}", call.name, wrong.name, noticed.unwrap_or("not noticed".to_string()));
+                }
+            }
+            Ok(all)
+        }
+        Asked::MakeCapture => {
+            let (capture, refusal) = of_sheet(&Definition::now(), &all(&mut io::stdin())?);
+            io::stdout().write_all(&capture)?;
+            match refusal {
+                None => Ok(true),
+                Some((number, line)) => Err(io::Error::other(format!("the sheet is refused with {number} at line {line}"))),
+            }
+        }
+    }
+}
+
+/// Answers an input the way the judge's program for a call is to answer it, and tells whether it ends with 0.
+fn answer(call: &Call, definition: &Definition, input: &mut dyn Read, output: &mut dyn Write) -> io::Result<bool> {
+    let mut output = BufWriter::new(output);
+    let mut well = true;
+    match call.feeding {
+        Feeding::OneRun(next) => {
+            let mut input = BufReader::new(input);
+            while let Some(case) = next(definition, &mut input)? {
+                output.write_all(&(call.right)(definition, &case).answer.output)?;
+            }
+        }
+        Feeding::RunEach(_) => {
+            let answer = (call.right)(definition, &all(input)?).answer;
+            output.write_all(&answer.output)?;
+            output.flush()?;
+            io::stderr().write_all(&answer.complaint)?;
+            well = answer.status == 0;
+        }
+    }
+    output.flush()?;
+    Ok(well)
+}
+
+/// All that comes until there is no more.
+fn all(from: &mut dyn Read) -> io::Result<Vec<u8>> {
+    let mut bytes = Vec::new();
+    // Of a piece that is longer than the room for it the rest would be lost, so the room never shrinks.
+    let mut room = vec![0; 1 << 16];
+    loop {
+        match from.read(&mut room) {
+            Ok(0) => return Ok(bytes),
+            Ok(came) => bytes.extend(&room[..came]),
+            Err(error) if error.kind() == io::ErrorKind::Interrupted => {}
+            Err(error) => return Err(error),
+        }
+    }
 }
 
 #[cfg(test)]
 mod tests {
     use super::*;
 
-    /// The words of a command line.
-    fn words(line: &str) -> Vec<OsString> {
-        line.split(' ').map(OsString::from).collect()
+    /// What the words of a command line ask for.
+    fn asked_by(line: &str) -> Result<Asked, String> {
+        asked(&line.split(' ').map(OsString::from).collect::<Vec<_>>())
     }
 
     /// The options before the program are read, and those after it are the program's.
     #[test]
-    fn options() {
-        let line = words("--seed 5 --random 9 -- judge --seed 6");
-        let asked = comparison(&line, 7).unwrap();
-        assert_eq!((asked.seed, asked.random), (5, 9));
-        assert_eq!(asked.program, &line[5..]);
-        let line = words("-- judge");
-        let asked = comparison(&line, 7).unwrap();
-        assert_eq!((asked.seed, asked.random), (1, 7));
-        assert_eq!(asked.program, &line[1..]);
+    fn words() {
+        let Ok(Asked::Compare { once, seed, random, program, .. }) =
+            asked_by("sheet --once --seed 5 --random 9 --stage 0 -- judge --seed 6")
+        else {
+            panic!("that is a comparison");
+        };
+        assert_eq!((once, seed, random), (true, 5, 9));
+        assert_eq!(program, ["judge", "--seed", "6"].map(OsString::from));
+        let Ok(Asked::Compare { once, seed, random, .. }) = asked_by("trace -- judge") else {
+            panic!("that is a comparison");
+        };
+        assert_eq!((once, seed, random), (false, 1, 140_000));
+        assert!(matches!(asked_by("answer event"), Ok(Asked::Answer { file: None, .. })));
+        assert!(matches!(asked_by("answer capture --stage 0 name"), Ok(Asked::Answer { file: Some(_), .. })));
+        assert!(matches!(asked_by("wrong"), Ok(Asked::Wrong { calls }) if calls.len() == CALLS.len()));
+        assert!(matches!(asked_by("wrong sheet"), Ok(Asked::Wrong { calls }) if calls.len() == 1));
+        assert!(matches!(asked_by("make capture"), Ok(Asked::MakeCapture)));
     }
 
-    /// A call that is not known is refused.
+    /// A command line that asks for nothing known is refused.
     #[test]
-    fn wrong_calls() {
-        for line in [
-            "--seed",
-            "--seed x -- judge",
-            "--",
-            "judge",
-            "--random 1",
-            "--random 1000000001 -- judge",
-        ] {
-            assert!(comparison(&words(line), 7).is_err(), "{}", line);
+    fn wrong_words() {
+        let lines = "|else -- judge|event|event --|event judge|event --seed|event --seed x -- judge|event --stage 99 -- judge|\
+                     event --random 1000000001 -- judge|answer|answer else|answer event --once|answer capture file more|\
+                     make|make sheet|make capture more|wrong else|wrong sheet more";
+        for line in lines.split('|') {
+            assert!(asked_by(line).is_err(), "{line}");
         }
-        for line in [
-            "",
-            "answer",
-            "answer event more",
-            "answer trace more",
-            "answer sheet more",
-            "answer capture file more",
-            "make",
-            "make capture more",
-            "make sheet",
-            "capture",
-            "capture --once -- judge",
-            "answer else",
-            "event",
-            "trace",
-            "trace --",
-            "sheet",
-            "sheet --once",
-            "sheet --seed 1 --once -- judge",
-            "trace --once -- judge",
-        ] {
-            assert!(subcommand(&words(line)).is_err(), "{}", line);
-        }
+    }
+
+    /// Inputs are answered as the judge's programs are to answer them, and an input that is cut is an error.
+    #[test]
+    fn answers() {
+        let definition = Definition::now();
+        let answered = |name: &str, input: &[u8]| {
+            let mut output = Vec::new();
+            let well = answer(call(name).unwrap(), &definition, &mut &input[..], &mut output);
+            well.map(|well| (output, well))
+        };
+        let record = [&[14, 2, 0, 0, 0, 0, 0, 1, 1, 0, 0, 0, 0, 0, 7][..], &[9; 26]].concat();
+        let told = vec![0, 1, 0, 33, 0, 0, 0, 33, 0, 0, 0, 0, 0, 0, 0, 0];
+        assert_eq!(answered("event", &[&record[..], &record].concat()).unwrap(), (told.repeat(2), true));
+        assert!(answered("event", &record[..40]).is_err());
+        let lengths: Vec<u8> = [14, 1, 2, 1, 1, 1].iter().flat_map(|length| [*length, 0, 0, 0]).collect();
+        let case = [&lengths[..], &record[1..15], &[1, 0, 5, 127, 91, 92, 93]].concat();
+        assert_eq!(answered("trace", &case).unwrap(), (vec![0, 1, 0, 0, 0, 5, 33, 0, 0, 33], true));
+        let told = b"event,verdict,duty,states\r\nrefused,6,1\r\n".to_vec();
+        assert_eq!(answered("sheet", b"").unwrap(), (told, true));
+        assert_eq!(answered("capture", &[0; 17]).unwrap(), (vec![], false));
     }
 }

@@ -1,0 +1,166 @@
+//! Tests of what the cases of each call are, and of how its answers are counted and shown.
+
+use crate::calls::all::{call, CALLS};
+use crate::calls::{capture, event, sheet, trace};
+use crate::cases::kinds::{Case, Cases};
+use crate::cases::wire::{event_record, lent_in, trace_case, trace_rooms};
+use crate::definition::trace::Lent;
+use crate::definition::values::Definition;
+use crate::running::arrival::Arrival;
+use crate::running::call::{Answer, Call, Feeding};
+use crate::running::report::{difference, Outcome};
+use std::collections::BTreeSet;
+
+/// What the cases of a kind come to: columns, each with how many cases have it at least, in so many of a hundred.
+#[rustfmt::skip]
+const MIX: &[(&str, &str, &[(&str, u64)])] = &[
+    ("event", "combinations", &[("accepted", 100)]),
+    ("event", "single-byte sweeps", &[("with a step", 0), ("refused 4", 80), ("refused 5", 6)]),
+    ("event", "both forward codes", &[("accepted", 100), ("with a step", 1)]),
+    ("event", "mutated", &[("accepted", 100), ("with a step", 30)]),
+    ("event", "outside range", &[("refused 4", 100)]),
+    ("event", "other requests", &[("refused 4", 20), ("refused 5", 70)]),
+    ("event", "at the limits", &[("accepted", 40), ("refused 4", 40)]),
+    ("event", "lengths 0 to 40", &[("refused 1", 95), ("with a step", 1)]),
+    ("trace", "many lengths", &[("refused 1", 100)]),
+    ("trace", "at the limits", &[("accepted", 20), ("refused 1", 45), ("refused 2", 6), ("refused 3", 10), ("refused 4", 2)]),
+    ("trace", "up to 64 events", &[("accepted", 100), ("explained", 1_900), ("unexplained", 60), ("lost", 20)]),
+    ("trace", "up to 4 events", &[("accepted", 100), ("by histories", 100), ("unexplained", 15), ("Requester", 5)]),
+    ("trace", "bad sets", &[("refused 2", 100)]),
+    ("trace", "bad pair numbers", &[("refused 3", 100)]),
+    ("trace", "bad bytes", &[("refused 4", 100)]),
+    ("trace", "bad requests", &[("refused 5", 100)]),
+    ("trace", "several damages", &[("refused 1", 15), ("refused 2", 7), ("refused 3", 30), ("refused 4", 12), ("refused 5", 5)]),
+    ("trace", "bad lengths", &[("refused 1", 100)]),
+    ("trace", "anything", &[("accepted", 15), ("refused 1", 5), ("refused 2", 5), ("refused 3", 30), ("refused 4", 8)]),
+    ("sheet", "known names", &[("accepted", 100), ("explained", 1_000), ("unexplained", 10_000)]),
+    ("sheet", "names not known", &[("accepted", 1), ("refused 8", 95)]),
+    ("sheet", "each byte value", &[("accepted", 0), ("refused 8", 98)]),
+    ("sheet", "pair fields", &[("accepted", 10), ("refused 3", 7), ("refused 7", 9), ("refused 8", 65)]),
+    ("sheet", "ends of lines", &[("accepted", 0), ("refused 6", 6), ("refused 8", 90)]),
+    ("sheet", "first and last", &[("accepted", 1), ("refused 6", 35), ("refused 8", 55)]),
+    ("sheet", "headers", &[("refused 6", 98), ("refused 8", 0)]),
+    ("sheet", "refusals", &[("refused 3", 20), ("refused 7", 20), ("refused 8", 45)]),
+    ("sheet", "line lengths", &[("refused 6", 10), ("refused 7", 50), ("refused 8", 30)]),
+    ("sheet", "borders of reads", &[("accepted", 45), ("refused 7", 15), ("refused 8", 30), ("lost", 1_000)]),
+    ("sheet", "many pairs", &[("accepted", 100), ("unexplained", 1_000), ("not judged", 1_000), ("Requester", 1_000)]),
+    ("sheet", "drawn", &[("accepted", 100), ("explained", 3_000), ("unexplained", 50), ("not judged", 300), ("lost", 90)]),
+    ("sheet", "drawn, damaged", &[("accepted", 2), ("refused 3", 1), ("refused 6", 8), ("refused 7", 4), ("refused 8", 60)]),
+    ("sheet", "anything", &[("accepted", 5), ("refused 6", 20), ("refused 8", 20)]),
+    ("capture", "refusals", &[("refused 3", 20), ("refused 4", 40), ("refused 5", 20), ("explained", 1_000)]),
+    ("capture", "cut records", &[("cut", 90), ("explained", 1_000)]),
+    ("capture", "drawn", &[("accepted", 100), ("explained", 1_000)]),
+    ("capture", "drawn, damaged", &[("refused 3", 10), ("refused 4", 10), ("refused 5", 5), ("explained", 1_000)]),
+    ("capture", "drawn, cut", &[("cut", 70), ("explained", 1_000)]),
+];
+
+/// The cases of a call with fewer random ones than are usual.
+fn few(call: &Call, seed: u64) -> Cases {
+    (call.cases)(&Definition::now(), seed, if call.random > 10_000 { 60_000 } else { call.random })
+}
+
+/// The cases of a kind come to what they are made for, and what is counted has a column.
+#[test]
+fn mix() {
+    for call in CALLS {
+        let cases = few(call, 1);
+        let mut counted = BTreeSet::new();
+        for (_, kind, columns) in MIX.iter().filter(|(name, _, _)| *name == call.name) {
+            let mut outcome = Outcome::default();
+            for case in cases.of_kind(kind).take(3_000) {
+                let right = (call.right)(&cases.definition, &case.input);
+                counted.extend(right.counts.iter().filter(|(_, number)| *number > 0).map(|(name, _)| *name));
+                outcome.count(0, &right, false);
+            }
+            let all = outcome.all();
+            for (column, share) in columns.iter() {
+                let number = all.of(column);
+                assert!(number * 100 >= share * all.compared && number > 0, "{kind}: {number} {column}");
+            }
+        }
+        assert_eq!(counted, call.columns.concat().into_iter().collect());
+    }
+}
+
+/// A case asked for twice is the same, and another seed draws others.
+#[test]
+fn cases_are_repeatable() {
+    for call in CALLS {
+        let (one, two) = (few(call, 1), few(call, 2));
+        assert_eq!(one.total(), two.total());
+        let drawn = one.kinds.len() - if call.name == "sheet" { 2 } else { 1 };
+        let first = one.first(drawn);
+        let others = (first..first + 10).filter(|number| one.case(*number).input != two.case(*number).input);
+        assert!(others.count() > 5, "{}", call.name);
+        assert!((0..first).step_by(1_009).all(|number| one.case(number) == one.case(number)));
+    }
+}
+
+/// The kinds whose cases go through all values do, and every case of a trace fits into its rooms.
+#[test]
+fn sweeps_are_whole() {
+    let (events, traces) = (few(&event::CALL, 1), few(&trace::CALL, 1));
+    let combinations: BTreeSet<Vec<u8>> = events.of_kind("combinations").step_by(10).map(|case| case.input).collect();
+    assert_eq!((events.kinds[0].count, combinations.len()), (3_153_920, 315_392));
+    let values: BTreeSet<(usize, u8)> =
+        events.of_kind("single-byte sweeps").take(3_584).enumerate().map(|(n, case)| (n / 256, case.input[1 + n / 256])).collect();
+    assert_eq!(values.len(), 14 * 256);
+    let lengths: BTreeSet<u8> = events.of_kind("lengths 0 to 40").take(41).map(|case| case.input[0]).collect();
+    assert_eq!(lengths, (0..=40).collect());
+    let rooms = trace_rooms(&traces.definition);
+    for case in (0..traces.first(5)).map(|number| traces.case(number)) {
+        let lent = lent_in(&case.input);
+        let fits = |(n, part): (usize, &Vec<u8>)| part.len() <= rooms[n] * Lent::PARTS[n].1;
+        assert!(lent.parts().into_iter().enumerate().all(fits));
+    }
+}
+
+/// Sheets that are to be run once take turns, but those about borders come out of a file; an empty capture arrives in every way.
+#[test]
+fn ways_to_arrive() {
+    let (sheets, captures) = (few(&sheet::CALL, 1), few(&capture::CALL, 1));
+    let Feeding::RunEach(arrivals) = sheet::CALL.feeding else { panic!("a run each") };
+    let mut ways = BTreeSet::new();
+    for number in (0..sheets.first(sheets.kinds.len() - 1)).step_by(3) {
+        let case = sheets.case(number);
+        let once = arrivals(&sheets, number, &case, true);
+        assert!(once.len() == 1 && arrivals(&sheets, number, &case, false).contains(&once[0]));
+        let borders = sheets.kinds[case.kind].name == "borders of reads";
+        assert!(!borders || once == [Arrival::File], "{}", case.how);
+        ways.insert((borders, once[0].name()));
+    }
+    assert_eq!(ways.len(), 6 + 1, "{ways:?}");
+    let Feeding::RunEach(arrivals) = capture::CALL.feeding else { panic!("a run each") };
+    let empty = Case { kind: 0, how: String::new(), input: vec![] };
+    assert_eq!(arrivals(&captures, 1, &empty, false).len(), 4);
+}
+
+/// A wrong answer is shown by the things in which it differs.
+#[test]
+fn differences_are_shown() {
+    let definition = Definition::now();
+    let event = [2, 0, 0, 0, 3, 0, 1, 1, 0, 0, 0, 0, 0, 7];
+    let mut lent = Lent { table: vec![127], ..Lent::default() };
+    lent.push(0, &event, [9; 3]);
+    let record = [&[0, 0][..], &event].concat();
+    let line = "0,SnpClean,0,0,0,?,SnpResp_SC,Invalid,OK,-,?";
+    let cases = [
+        ("event", event_record(14, &event), 12, "  duty from UD: compare has 0 none, program has 1 Home\n"),
+        ("event", event_record(14, &event), 3, "  set from UC: compare has 33 {I SC}, program has 32 {SC}\n"),
+        ("trace", trace_case(&lent), 6, "  verdicts at 0: compare has 0 explained, program has 1 unexplained\n"),
+        ("trace", trace_case(&lent), 8, "  after-sets at 0: compare has 33 {I SC}, program has 32 {SC}\n"),
+        ("sheet", format!("{}\r\n{line}", definition.header).into(), 27, "  line 2, to \"0,SnpClean,"),
+        ("capture", record, 9, "  line 1: compare has \"1 events: 1 explained"),
+    ];
+    for (name, input, place, text) in cases {
+        let call = call(name).unwrap();
+        let right = (call.right)(&definition, &input);
+        let mut other = right.answer.clone();
+        other.output[place] ^= 1;
+        let shown = difference(call, &definition, &input, &right, &other);
+        assert!(shown.contains(text), "{shown}");
+        let other = Answer { complaint: b"no".to_vec(), status: 3, ..right.answer.clone() };
+        let shown = difference(call, &definition, &input, &right, &other);
+        assert_eq!(shown, "  the program ended with status 3, and not with 0\n  it complained \"no\", and not \"\"\n");
+    }
+}

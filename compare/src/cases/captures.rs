@@ -1,0 +1,226 @@
+//! Captures that go through lengths, pair numbers, parts, refusals and cuts, and captures drawn with and without damage.
+
+use crate::cases::damage::{cut, damage, Damage};
+use crate::cases::draw::Draw;
+use crate::cases::kinds::{share, Cases, Gathered, Kind, Made};
+use crate::cases::traces::{any_events, some_pairs, trace_from, Shape};
+use crate::definition::capture::{of_sheet, record_bytes, records};
+use crate::definition::codes::ALL_STATES;
+use crate::definition::trace::Lent;
+use crate::definition::values::Definition;
+
+/// The sheets of the samples, by name.
+const SAMPLES: [(&str, &[u8]); 7] = [
+    ("example.csv", include_bytes!("../../../samples/example.csv")),
+    ("morning.csv", include_bytes!("../../../samples/morning.csv")),
+    ("lost_year.csv", include_bytes!("../../../samples/lost_year.csv")),
+    ("refused-3.csv", include_bytes!("../../../samples/refused-3.csv")),
+    ("refused-6.csv", include_bytes!("../../../samples/refused-6.csv")),
+    ("refused-7.csv", include_bytes!("../../../samples/refused-7.csv")),
+    ("refused-8.csv", include_bytes!("../../../samples/refused-8.csv")),
+];
+
+/// The example's event that hands the duty to Home.
+const TO_HOME: [u8; 14] = [1, 0, 0, 0, 0, 1, 1, 5, 0, 0, 0, 0, 0, 7];
+/// The example's event that is unexplained after that one.
+const UNEXPLAINED: [u8; 14] = [2, 0, 0, 0, 0, 1, 1, 3, 0, 0, 0, 0, 0, 7];
+
+/// Pair numbers that a table of 4,096 has, and that it does not have.
+#[rustfmt::skip]
+const PAIRS: [u16; 17] = [
+    0, 1, 255, 256, 257, 3_840, 4_094, 4_095, 4_096, 4_097, 4_351, 8_191, 12_288, 32_768, 61_440, 65_280, 65_535,
+];
+
+/// Long captures: how many events, of up to how many pairs, and how many of a thousand events are strays.
+#[rustfmt::skip]
+const LONG: [(usize, usize, u64); 7] = [
+    (10_000, 1, 0), (9_999, 3, 0), (10_001, 12, 1), (10_007, 300, 4), (12_000, 2_000, 25), (10_240, 6_000, 40),
+    (66_000, 12_000, 20),
+];
+
+/// The cases of a capture.
+pub fn captures(definition: &Definition, seed: u64, random: u64) -> Cases {
+    let mut draw = Draw::new(seed, 1);
+    let used = some_pairs(&mut draw, definition.most_pairs, 2_500);
+    let whole = good(definition, &mut draw, 3 * definition.most_events + 10, &used, 40, 500);
+    let mut sweeping = Sweeping { definition: definition.clone(), draw, whole, captures: Gathered::default() };
+    let swept = SWEEPS.map(|(name, sweep)| {
+        sweep(&mut sweeping);
+        sweeping.captures.kind(name)
+    });
+    let mut kinds = Vec::from(swept);
+    kinds.extend([
+        Kind::new("drawn", share(random, 4, 10), |d, draw, n| drawn(d, draw, n, false, false)),
+        Kind::new("drawn, damaged", share(random, 3, 10), |d, draw, n| drawn(d, draw, n, true, false)),
+        Kind::new("drawn, cut", share(random, 2, 10), |d, draw, n| drawn(d, draw, n, n % 4 == 0, true)),
+        Kind::new("anything", share(random, 1, 10), |d, draw, _| few_of_anything(d, draw)),
+    ]);
+    Cases { definition: definition.clone(), seed, kinds }
+}
+
+/// What the swept captures are made from.
+struct Sweeping {
+    definition: Definition,
+    draw: Draw,
+    /// A trace of more than three parts, of which most captures are beginnings.
+    whole: Lent,
+    captures: Gathered,
+}
+
+/// Adds the captures of a kind.
+type Sweep = fn(&mut Sweeping);
+
+/// The kinds whose captures are gathered one after another.
+const SWEEPS: [(&str, Sweep); 7] = [
+    ("the samples", Sweeping::samples),
+    ("0 to 40 bytes", Sweeping::lengths),
+    ("pair numbers", Sweeping::pair_numbers),
+    ("whole parts", Sweeping::whole_parts),
+    ("refusals", Sweeping::refusals),
+    ("cut records", Sweeping::cuts),
+    ("long", Sweeping::long),
+];
+
+impl Sweeping {
+    /// Numbers of events round the borders of parts.
+    fn round_borders(&self) -> [usize; 7] {
+        let part = self.definition.most_events;
+        [part - 1, part, part + 1, 2 * part - 1, 2 * part, 2 * part + 1, 3 * part]
+    }
+
+    /// Adds the capture of the first events of the whole trace, some of them damaged, and tells how it was damaged.
+    fn add(&mut self, events: usize, damages: &[(usize, Damage)], cut_at: Option<usize>) {
+        let mut lent = self.whole.clone();
+        lent.pairs.truncate(2 * events);
+        let mut how = format!("{events} events");
+        for (event, what) in damages {
+            damage(&self.definition, &mut self.draw, &mut lent, *event, *what);
+            how += &format!(", damage of event {event}: {what:?}");
+        }
+        let mut capture = records(&self.definition, &lent);
+        if let Some(bytes) = cut_at {
+            capture.truncate((events - 1) * record_bytes(&self.definition) + bytes);
+            how += &format!(", the last one cut after {bytes} bytes");
+        }
+        self.captures.add(how, capture);
+    }
+
+    /// Adds the captures of the samples' sheets.
+    fn samples(&mut self) {
+        SAMPLES.iter().for_each(|(name, sheet)| self.captures.add(*name, of_sheet(&self.definition, sheet).0));
+    }
+
+    /// Adds the first bytes of three records.
+    fn lengths(&mut self) {
+        let three = [TO_HOME, UNEXPLAINED, TO_HOME].map(|event| record_of(7, &event)).concat();
+        (0..=40).for_each(|length| self.captures.add(format!("{length} bytes"), three[..length].to_vec()));
+    }
+
+    /// Adds captures in which a pair comes between others that share a byte with it, and one of all pairs.
+    fn pair_numbers(&mut self) {
+        for pair in PAIRS {
+            let before = [pair & 255, pair >> 8, pair, pair & 4_095].map(|pair| record_of(pair, &TO_HOME)).concat();
+            self.captures.add(format!("pair {pair}"), [before, record_of(pair, &UNEXPLAINED)].concat());
+        }
+        let pairs = || (0..self.definition.most_pairs).map(|pair| pair as u16);
+        let there = pairs().flat_map(|pair| record_of(pair, &TO_HOME));
+        let back = pairs().rev().flat_map(|pair| record_of(pair, &UNEXPLAINED));
+        self.captures.add("all pairs, there and back", there.chain(back).collect());
+    }
+
+    /// Adds captures of as many events as fill a part or several, or one fewer or more.
+    fn whole_parts(&mut self) {
+        self.round_borders().into_iter().for_each(|events| self.add(events, &[], None));
+    }
+
+    /// Adds captures in which one event is refused, or two are, or each byte of one is.
+    fn refusals(&mut self) {
+        let part = self.definition.most_events;
+        let events = [&[0, 1, 17, part - 2][..], &self.round_borders()].concat();
+        for (turn, event) in events.into_iter().enumerate() {
+            for (n, what) in Damage::TO_EVENT.into_iter().enumerate() {
+                let after = [0, 3, 200][(turn + n) % 3];
+                self.add((event + 1 + after).min(self.whole.pairs.len() / 2), &[(event, what)], None);
+            }
+        }
+        for (first, second) in [(3, 3), (3, 4), (part - 1, part), (part + 5, 2 * part)] {
+            for (one, other) in [(0, 1), (1, 2), (2, 0)] {
+                let damages = [(first, Damage::TO_EVENT[one]), (second, Damage::TO_EVENT[other])];
+                self.add(second + 2, &damages, None);
+            }
+        }
+        let record = record_bytes(&self.definition);
+        for (n, limit) in self.definition.limits.iter().enumerate().skip(1) {
+            let mut capture = records(&self.definition, &self.whole);
+            capture.truncate(5 * record);
+            capture[3 * record + 2 + n] = limit + 1;
+            self.captures.add(format!("byte {n} of event 3 is past its limit"), capture);
+        }
+    }
+
+    /// Adds captures that end within a record, some with an event that is refused in the same part or in one before.
+    fn cuts(&mut self) {
+        let (part, record) = (self.definition.most_events, record_bytes(&self.definition));
+        for events in [&[3, 100, part - 2][..], &self.round_borders()].concat() {
+            [1, 2 + events % 13, record - 1].iter().for_each(|rest| self.add(events + 1, &[], Some(*rest)));
+        }
+        let refused = [(2, 5), (part - 2, part - 1), (part - 1, part), (7, part + 4), (part + 2, part + 4), (part, 2 * part)];
+        for (n, (event, events)) in refused.into_iter().enumerate() {
+            self.add(events + 1, &[(event, Damage::TO_EVENT[n % 3])], Some(9));
+        }
+    }
+
+    /// Adds long captures; the last event of one has a number of more than 16 bits.
+    fn long(&mut self) {
+        for (events, count, strays) in LONG {
+            let used = some_pairs(&mut self.draw, self.definition.most_pairs, count);
+            let lent = good(&self.definition, &mut self.draw, events, &used, strays, 900);
+            self.captures.add(format!("{events} events of up to {count} pairs"), records(&self.definition, &lent));
+        }
+    }
+}
+
+/// The events of a capture without damage, every pair of which starts from any state.
+fn good(definition: &Definition, draw: &mut Draw, events: usize, used: &[usize], strays: u64, keeping: u64) -> Lent {
+    let table = vec![ALL_STATES; definition.most_pairs];
+    trace_from(definition, draw, &Shape { events, used, strays, keeping }, table)
+}
+
+/// A record of a pair's event.
+fn record_of(pair: u16, event: &[u8]) -> Vec<u8> {
+    [&pair.to_le_bytes()[..], event].concat()
+}
+
+/// A capture drawn at random, with damage or cut if that is asked for, one of several parts among many short ones.
+fn drawn(definition: &Definition, draw: &mut Draw, n: u64, damaged: bool, is_cut: bool) -> Made {
+    let (part, is_long) = (definition.most_events, n % 12 == 5);
+    let events = if is_long { part + 1 + draw.place(6_000) } else { 1 + draw.place(60) };
+    let count = if is_long { draw.one_of(&[10, 300, 3_000]) } else { draw.one_of(&[1, 2, 3, 5, 9, 20]) };
+    let below = draw.one_of(&[10, 1_000, definition.most_pairs, definition.most_pairs]);
+    let used = some_pairs(draw, below, count);
+    let strays = draw.one_of(&[0, 20, 100, 300]);
+    let mut lent = good(definition, draw, events, &used, strays, 500);
+    let mut how = format!("{events} events");
+    // Half of the long ones are damaged in a later part alone.
+    let first = if is_long && draw.one_in(2) { part } else { 0 };
+    for _ in 0..usize::from(damaged) * draw.one_of(&[1, 1, 2, 3]) {
+        let (event, what) = (first + draw.place(events - first), draw.one_of(&Damage::TO_EVENT));
+        damage(definition, draw, &mut lent, event, what);
+        how += &format!(", damage of event {event}: {what:?}");
+    }
+    let mut capture = records(definition, &lent);
+    if is_cut {
+        how += &format!(", cut by {} bytes", cut(draw, &mut capture, record_bytes(definition)));
+    }
+    (how, capture)
+}
+
+/// A few records that hold any event in range, or any bytes, with some bytes more in a quarter of the cases.
+fn few_of_anything(definition: &Definition, draw: &mut Draw) -> Made {
+    let mut capture = records(definition, &any_events(definition, draw, 8, 3));
+    if draw.one_in(4) {
+        let more = draw.place(record_bytes(definition));
+        capture.extend(draw.bytes(more));
+    }
+    (String::new(), capture)
+}

@@ -1,0 +1,124 @@
+//! The lines that bench sheets are made of.
+
+use crate::cases::text::{line_of, Fields};
+use crate::definition::columns::{columns, Column};
+use crate::definition::sheet::CRLF;
+use crate::definition::values::Definition;
+
+/// What is tried in the place of a CRLF.
+#[rustfmt::skip]
+pub const OTHER_ENDS: [&[u8]; 20] = [
+    b"", b"\r", b"\n", b"\n\r", b"\r\r", b"\n\n", b"\r\r\n", b"\r\r\r\n", b"\n\r\n", b"\r\n\n", b"\r\n\r",
+    b"\r\n\r\n", b"\r\n\r\n\r\n", b"\r \n", b" \r\n", b"\0\r\n", b"\r\0\n", b"\x1a\r\n", b"\x0b", b"\xc2\x85",
+];
+
+/// Snoops that CHI has or might have, and that document 01 does not judge.
+#[rustfmt::skip]
+pub const OTHER_REQUESTS: [&str; 16] = [
+    "SnpUnique", "SnpUniqueFwd", "SnpOnce", "SnpOnceFwd", "SnpSharedFwd", "SnpCleanShared", "SnpCleanInvalid",
+    "SnpMakeInvalid", "SnpQuery", "SnpDVMOp", "SnpStashUnique", "SnpStashShared", "SnpUniqueStash",
+    "SnpMakeInvalidStash", "SnpLCrdReturn", "SnpNotShared",
+];
+
+/// Fields that are tried for a pair; a blank parts them.
+pub const PAIR_FIELDS: &str = "0 1 9 10 11 99 100 255 256 999 1000 1001 1023 2047 2048 3999 4000 4089 4090 4094 4095 \
+    4096 4097 4099 4100 4195 4999 5000 5095 8191 8192 9000 9999 10000 10001 40950 40960 65535 65536 65537 69631 99999 \
+    100000 4294967295 4294967296 4294967297 18446744073709551616 00 01 007 000 0000 0001 0095 04095 00000 1a a1 a -1 \
+    -0 +1 +0 1.0 1e3 0x1 / 1/ /1 : 1: :1 ? - 1_0 1,0 '1 \"1\" 12345678901234567890123456789012345678901 \u{ff11}";
+
+/// The form of a sheet's lines under a definition.
+pub struct Form<'a> {
+    pub definition: &'a Definition,
+    /// The columns after the pair's.
+    columns: Vec<Column>,
+}
+
+/// Other fields for some columns, each by the column's name.
+pub type Changes<'a> = [(&'a str, &'a [u8])];
+
+impl<'a> Form<'a> {
+    /// The form under a definition.
+    pub fn new(definition: &'a Definition) -> Form<'a> {
+        Form { definition, columns: columns(definition) }
+    }
+
+    /// The names of all columns.
+    pub fn columns(&self) -> Vec<&'static str> {
+        self.definition.header.split(',').collect()
+    }
+
+    /// The names that a column knows, or some pair numbers of each length.
+    pub fn names(&self, column: &str) -> Vec<&'static str> {
+        match self.columns.iter().find(|known| known.name == column) {
+            Some(column) => column.names.iter().map(|(name, _)| *name).collect(),
+            None => vec!["0", "7", "16", "255", "4095"],
+        }
+    }
+
+    /// The fields of a line about a pair's event, whose bytes have names.
+    pub fn event_fields(&self, pair: usize, event: &[u8]) -> Fields {
+        let names = self.columns.iter().map(|column| column.name_in(event).expect("an event's bytes have names").into());
+        [pair.to_string().into_bytes()].into_iter().chain(names).collect()
+    }
+
+    /// A good line, each of whose fields can be changed: the first name of each column, and a final state that was not seen.
+    pub fn plain(&self) -> Vec<u8> {
+        self.plain_with(&[])
+    }
+
+    /// The plain line with other fields in some columns.
+    pub fn plain_with(&self, changes: &Changes) -> Vec<u8> {
+        let field = |column: &str| match changes.iter().rfind(|(changed, _)| *changed == column) {
+            Some((_, field)) => field.to_vec(),
+            None if column == "final" => b"?".to_vec(),
+            None => self.names(column)[0].into(),
+        };
+        line_of(&self.columns().into_iter().map(field).collect::<Fields>())
+    }
+
+    /// A line that leaves pair 1 in I or SC, with the duty to Home.
+    pub fn before(&self) -> Vec<u8> {
+        let answer: [(&str, &[u8]); 2] = [("response", b"SnpRespData_SC_PD"), ("TagOp", b"Transfer")];
+        self.plain_with(&[&[("pair", &b"1"[..]), ("request", b"SnpClean"), ("tag", b"?")], &answer[..]].concat())
+    }
+
+    /// A line that is explained after that one, and leaves pair 1 in SC.
+    pub fn after(&self) -> Vec<u8> {
+        self.plain_with(&[("pair", b"1"), ("tag", b"?"), ("response", b"SnpResp_SC"), ("final", b"SC")])
+    }
+
+    /// A line of known names that has this length, which is not more than the longest has.
+    pub fn of_length(&self, length: usize) -> Vec<u8> {
+        let columns = self.columns();
+        let mut fields: Vec<&str> = columns.iter().map(|column| self.longest(column, 0)).collect();
+        for n in (0..columns.len()).rev() {
+            let missing = length.saturating_sub(fields.join(",").len());
+            fields[n] = self.longest(columns[n], fields[n].len() + missing);
+        }
+        fields.join(",").into_bytes()
+    }
+
+    /// The longest name of a column that has not more bytes than this, or else its shortest.
+    fn longest(&self, column: &str, most: usize) -> &'static str {
+        let names = self.names(column);
+        let longest = names.iter().filter(|name| name.len() <= most).max_by_key(|name| name.len());
+        longest.or(names.iter().min_by_key(|name| name.len())).expect("a column has names")
+    }
+
+    /// The sheet of some lines after the header, each with its CRLF.
+    pub fn sheet(&self, lines: &[Vec<u8>]) -> Vec<u8> {
+        let header = self.definition.header.as_bytes().to_vec();
+        [header].iter().chain(lines).flat_map(|line| [line, CRLF].concat()).collect()
+    }
+
+    /// The sheet of a line between two good ones.
+    pub fn between(&self, line: &[u8]) -> Vec<u8> {
+        self.sheet(&[self.before(), line.to_vec(), self.after()])
+    }
+}
+
+/// The bytes without the CRLF that they end in.
+pub fn without_crlf(mut sheet: Vec<u8>) -> Vec<u8> {
+    sheet.truncate(sheet.len() - CRLF.len());
+    sheet
+}

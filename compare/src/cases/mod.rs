@@ -1,0 +1,14 @@
+//! How inputs are made: sweeps, draws and damage. Only the definition is used in this folder.
+
+pub mod captures;
+pub mod damage;
+pub mod draw;
+pub mod drawn;
+pub mod events;
+pub mod kinds;
+pub mod lines;
+pub mod sheet_draws;
+pub mod sheets;
+pub mod text;
+pub mod traces;
+pub mod wire;

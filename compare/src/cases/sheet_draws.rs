@@ -1,0 +1,383 @@
+//! Bench sheets drawn at random: good ones, damaged ones, long ones, and ones whose lines borders between reads fall in.
+
+use crate::cases::damage::{any_byte, damage_bytes};
+use crate::cases::draw::Draw;
+use crate::cases::drawn::{explained_event, lively_pair};
+use crate::cases::kinds::{Gathered, Made};
+use crate::cases::lines::{without_crlf, Form, OTHER_ENDS, OTHER_REQUESTS, PAIR_FIELDS};
+use crate::cases::text::{fields_of, line_of};
+use crate::definition::codes::ALL_STATES;
+use crate::definition::sheet::{Reader, CRLF};
+use crate::definition::steps::step;
+use crate::definition::values::Definition;
+
+/// What the lines of a sheet without damage are drawn to be.
+#[derive(Clone, Copy)]
+struct Shape {
+    /// How many there are, the header apart.
+    lines: usize,
+    /// How many of a thousand lines are strays, which need not be explained.
+    strays: u64,
+    /// How many bytes each has, if all are to be equally long.
+    width: Option<usize>,
+}
+
+/// Lines without damage, of pairs that come in an order that may hang on the table of sets.
+fn lines_of_pairs<F>(form: &Form, draw: &mut Draw, shape: &Shape, mut order: F) -> Vec<Vec<u8>>
+where
+    F: FnMut(usize, &[u8]) -> usize,
+{
+    let reader = Reader::new(form.definition);
+    let mut table = vec![ALL_STATES; form.definition.most_pairs];
+    let mut lines = Vec::with_capacity(shape.lines);
+    while lines.len() < shape.lines {
+        let pair = order(lines.len(), &table);
+        let line = any_line(form, draw, pair, table[pair], shape.strays);
+        if shape.width.is_none_or(|width| width == line.len()) {
+            let (_, event) = reader.fields(&line).expect("a line without damage can be read");
+            table[pair] = step(form.definition, &event, table[pair]);
+            lines.push(line);
+        }
+    }
+    lines
+}
+
+/// A line of a pair that is mostly explained from the pair's set, unless it is a stray.
+fn any_line(form: &Form, draw: &mut Draw, pair: usize, set: u8, strays: u64) -> Vec<u8> {
+    let keeping = draw.one_in(2);
+    let mut fields = form.event_fields(pair, &explained_event(form.definition, draw, set, keeping));
+    if draw.below(1_000) < strays {
+        for _ in 0..draw.one_of(&[1, 1, 1, 3]) {
+            let n = 1 + draw.place(fields.len() - 1);
+            fields[n] = draw.one_of(&form.names(form.columns()[n])).into();
+        }
+    }
+    line_of(&fields)
+}
+
+/// Lines without damage, each of any of some pairs.
+fn good_lines(form: &Form, draw: &mut Draw, shape: &Shape, pairs: &[usize]) -> Vec<Vec<u8>> {
+    let mut order = Draw::new(draw.next(), 0);
+    lines_of_pairs(form, draw, shape, |_, table| lively_pair(&mut order, pairs, table))
+}
+
+/// Some pairs, of few digits as often as of many.
+fn some_pairs(definition: &Definition, draw: &mut Draw, count: usize) -> Vec<usize> {
+    let pair = |_| {
+        let below = draw.one_of(&[10, 100, 1_000, definition.most_pairs]);
+        draw.place(below)
+    };
+    (0..count).map(pair).collect()
+}
+
+/// A sheet of few lines without damage.
+pub fn good(definition: &Definition, draw: &mut Draw) -> Made {
+    let (lines, pairs) = (draw.place(60), draw.one_of(&[1, 2, 3, 5, 9, 20]));
+    good_sheet(definition, draw, lines, pairs)
+}
+
+/// A sheet of many lines and pairs without damage.
+pub fn good_long(definition: &Definition, draw: &mut Draw) -> Made {
+    let (lines, pairs) = (1_000 + draw.place(1_000), 1 + draw.place(1_000));
+    good_sheet(definition, draw, lines, pairs)
+}
+
+/// A sheet without damage, the last CRLF of which may be absent.
+fn good_sheet(definition: &Definition, draw: &mut Draw, lines: usize, pairs: usize) -> Made {
+    let form = Form::new(definition);
+    let shape = Shape { lines, strays: draw.one_of(&[0, 20, 100, 300]), width: None };
+    let some = some_pairs(definition, draw, pairs);
+    let whole = form.sheet(&good_lines(&form, draw, &shape, &some));
+    match draw.below(4) {
+        0 => (format!("{lines} lines of {pairs} pairs, without the last CRLF"), without_crlf(whole)),
+        _ => (format!("{lines} lines of {pairs} pairs"), whole),
+    }
+}
+
+/// A sheet with damage to a line or two, to some bytes, or to both.
+pub fn damaged(definition: &Definition, draw: &mut Draw) -> Made {
+    let form = Form::new(definition);
+    let shape = Shape { lines: 1 + draw.place(8), strays: 50, width: None };
+    let pairs = some_pairs(definition, draw, 3);
+    // Each line with what ends it.
+    let lines = [vec![definition.header.into()], good_lines(&form, draw, &shape, &pairs)].concat();
+    let mut parts: Vec<(Vec<u8>, Vec<u8>)> = lines.into_iter().map(|line| (line, CRLF.to_vec())).collect();
+    let mut hows = Vec::new();
+    if draw.one_in(4) {
+        parts[shape.lines].1.clear();
+        hows.push("no last CRLF".to_string());
+    }
+    let (to_lines, to_bytes) = draw.one_of(&[(1, 0), (1, 0), (1, 0), (2, 0), (0, 1), (0, 2), (1, 1)]);
+    for _ in 0..to_lines {
+        let n = if draw.one_in(30) { 0 } else { 1 + draw.place(parts.len() - 1) };
+        hows.push(format!("line {}: {}", n + 1, damage_line(&form, draw, &mut parts, n)));
+    }
+    let mut bytes: Vec<u8> = parts.into_iter().flat_map(|(line, end)| [line, end].concat()).collect();
+    for _ in 0..to_bytes {
+        hows.push(damage_bytes(draw, &mut bytes, &OTHER_ENDS));
+    }
+    (hows.join(", then "), bytes)
+}
+
+/// Does damage to a line, and tells which.
+fn damage_line(form: &Form, draw: &mut Draw, parts: &mut Vec<(Vec<u8>, Vec<u8>)>, n: usize) -> &'static str {
+    let (line, end) = &mut parts[n];
+    match draw.below(8) {
+        0..=3 => damage_fields(form, draw, line),
+        4 => {
+            let length = if draw.one_in(3) { draw.place(400) } else { form.definition.longest_line - 3 + draw.place(7) };
+            line.resize(length, draw.one_of(b"xxx,, 0?\r\n\0"));
+            "another length"
+        }
+        5 => {
+            *end = draw.one_of(&OTHER_ENDS).to_vec();
+            "another end"
+        }
+        6 => {
+            let put = draw.one_of(&[&b""[..], b"", b"\r", b"\n", form.definition.header.as_bytes()]);
+            parts.insert(n, (put.to_vec(), CRLF.to_vec()));
+            "a line put before it"
+        }
+        _ => {
+            damage_bytes(draw, line, &OTHER_ENDS);
+            "other bytes"
+        }
+    }
+}
+
+/// Does damage to a field of a line or to their order, and tells which.
+fn damage_fields(form: &Form, draw: &mut Draw, line: &mut Vec<u8>) -> &'static str {
+    let mut fields = fields_of(line);
+    let (column, other) = (draw.place(fields.len()), draw.place(fields.len()));
+    let what = match draw.below(12) {
+        0..=5 => {
+            fields[column] = strange_name(form, draw, column, &fields[column]);
+            "another field"
+        }
+        6..=8 => {
+            fields[0] = strange_pair(form.definition, draw);
+            "another pair"
+        }
+        9 => {
+            fields.remove(column);
+            "a field fewer"
+        }
+        10 => {
+            fields.insert(column, fields[column].clone());
+            "a field twice"
+        }
+        _ => {
+            fields.swap(column, other);
+            "two fields swapped"
+        }
+    };
+    *line = line_of(&fields);
+    what
+}
+
+/// A field that a column probably doesn't know, often near the one that stood there.
+fn strange_name(form: &Form, draw: &mut Draw, column: usize, field: &[u8]) -> Vec<u8> {
+    let columns = form.columns();
+    let mut name = field.to_vec();
+    match draw.below(6) {
+        0 => name.truncate(draw.place(field.len() + 1)),
+        1 => name.insert(draw.place(field.len() + 1), any_byte(draw)),
+        2 if !name.is_empty() => {
+            let place = draw.place(name.len());
+            name[place] = any_byte(draw);
+        }
+        3 => name = draw.one_of(&OTHER_REQUESTS).into(),
+        4 => {
+            let other = draw.one_of(&columns);
+            name = draw.one_of(&form.names(other)).into();
+        }
+        _ => {
+            let other = draw.one_of(&form.names(columns[column.min(columns.len() - 1)]));
+            name.extend(&other.as_bytes()[..1 + draw.place(other.len())]);
+        }
+    }
+    name
+}
+
+/// A field for a pair that is no pair, or any number.
+fn strange_pair(definition: &Definition, draw: &mut Draw) -> Vec<u8> {
+    let number = match draw.below(3) {
+        0 => return draw.one_of(&PAIR_FIELDS.split(' ').collect::<Vec<&str>>()).into(),
+        1 => definition.most_pairs - 6 + draw.place(12),
+        _ => {
+            let below = draw.one_of(&[10, 100, 10_000, 100_000]);
+            draw.place(below)
+        }
+    };
+    number.to_string().into_bytes()
+}
+
+/// Names, commas, ends of lines and bytes in any order, mostly after the header.
+pub fn anything(definition: &Definition, draw: &mut Draw) -> Made {
+    let form = Form::new(definition);
+    let mut bytes = Vec::new();
+    if !draw.one_in(8) {
+        bytes.extend(definition.header.as_bytes());
+        bytes.extend(draw.one_of(&[CRLF, CRLF, CRLF, CRLF, b"\r", b"\n", b""]));
+    }
+    let parts = draw.one_of(&[0, 1, 2, 5, 20, 100, 300]);
+    let ends = draw.one_of(&[3, 10, 40]);
+    for _ in 0..draw.place(parts + 1) {
+        match draw.below(ends) {
+            0 => bytes.extend(CRLF),
+            1 => bytes.push(draw.one_of(b"\r\n")),
+            2 => bytes.push(any_byte(draw)),
+            n => {
+                let columns = form.columns();
+                let names = form.names(columns[n as usize % columns.len()]);
+                bytes.extend(format!("{},", draw.one_of(&names)).as_bytes());
+            }
+        }
+    }
+    (format!("up to {parts} names and bytes"), bytes)
+}
+
+/// How many bytes the lines of the sheets about borders have, CRLF included.
+const WIDTH: usize = 56;
+/// The borders that are tried one by one.
+const BORDERS: [usize; 9] = [512, 1_024, 2_048, SMALL_BORDER, 8_192, 16_384, 32_768, 65_536, LAST_BORDER];
+/// The border up to which all is tried.
+const SMALL_BORDER: usize = 4_096;
+/// The last border, at twice the most that a pipe holds.
+const LAST_BORDER: usize = 131_072;
+/// Lines without their CRLF that end a sheet at a border, by their length, and what ends them.
+#[rustfmt::skip]
+const AT_BORDERS: [(usize, &[u8]); 7] = [
+    (159, b"\r\r\n"), (160, b"\r\r\n"), (158, b"\rx\r\n"), (159, b"\rx\r\n"), (160, b"\r\n"), (161, b"\r\n"),
+    (0, b"\r\n"),
+];
+
+/// A sheet of so many bytes, in which all lines are good and all but the first two equally long.
+fn of_bytes(form: &Form, lines: &[Vec<u8>], bytes: usize) -> Vec<u8> {
+    let rest = bytes - form.definition.header.len() - 2 * CRLF.len();
+    let count = (rest - form.of_length(0).len()) / WIDTH;
+    let first = form.of_length(rest - count * WIDTH);
+    let sheet = form.sheet(&[first].iter().chain(lines.iter().cycle().take(count)).cloned().collect::<Vec<_>>());
+    assert_eq!(sheet.len(), bytes);
+    sheet
+}
+
+/// The pairs whose digits without the first are no pair, so that it can't get lost unseen.
+fn first_digit_matters(definition: &Definition) -> Vec<usize> {
+    let matters = |pair: &usize| {
+        let digits = pair.to_string();
+        digits.len() == 1 || (digits.len() > 2 && digits[1..].starts_with('0'))
+    };
+    (0..definition.most_pairs).filter(matters).collect()
+}
+
+/// Adds sheets in which a border between two reads falls on every place of a line, of its CRLF and of its beginning.
+pub fn borders(form: &Form, sheets: &mut Gathered, seed: u64) {
+    let shape = Shape { lines: LAST_BORDER / WIDTH + 2, strays: 30, width: Some(WIDTH - CRLF.len()) };
+    let lines = good_lines(form, &mut Draw::new(seed, 0), &shape, &first_digit_matters(form.definition));
+    let of_bytes = |bytes: usize| of_bytes(form, &lines, bytes);
+    for border in [SMALL_BORDER, LAST_BORDER] {
+        for more in 0..WIDTH {
+            let how = format!("borders up to {border}, all lines moved by {more}");
+            sheets.add(how, of_bytes(border + WIDTH + more));
+        }
+    }
+    sheets.add("a CR before byte 1,048,576", of_bytes((1 << 20) + 1));
+    for border in BORDERS {
+        for bytes in [border - 1, border, border + 1, border + 2] {
+            let mut half = of_bytes(bytes + 1);
+            half.pop();
+            sheets.add(format!("{bytes} bytes in all"), of_bytes(bytes));
+            sheets.add(format!("{bytes} bytes without the last CRLF"), without_crlf(of_bytes(bytes + 2)));
+            sheets.add(format!("{bytes} bytes and the last LF missing"), half);
+        }
+        for (n, (length, end)) in AT_BORDERS.into_iter().enumerate() {
+            for cr in [border - 1, border - 2, border, border + 1] {
+                if border > SMALL_BORDER && (n > 2 || cr < border - 1 || cr > border) {
+                    continue;
+                }
+                let mut bytes = of_bytes(cr - length);
+                bytes.resize(cr, b'x');
+                let how = format!("{length} bytes and \"{}\" at byte {cr}", end.escape_ascii());
+                sheets.add(how, [&bytes, end, &form.after(), CRLF].concat());
+            }
+        }
+    }
+}
+
+/// The pair of each line, by the line's number and how many pairs there are.
+type Order = fn(usize, usize) -> usize;
+
+/// Orders in which every pair comes.
+const ORDERS: [(&str, Order); 4] = [
+    ("every pair, from the first", |n, pairs| n % pairs),
+    ("every pair, from the last", |n, pairs| pairs - 1 - n % pairs),
+    ("every pair, not in order", |n, pairs| (n * 1_103 + 17) % pairs),
+    ("every pair, twice together", |n, _| n / 2),
+];
+
+/// Pairs that are alike in part.
+const ALIKE: [(&str, &[usize]); 6] = [
+    ("pairs with the same low byte", &[1, 257, 513, 1_025, 2_049, 4_033, 3_841]),
+    ("pairs that differ in one bit", &[0, 1, 2, 4, 8, 16, 32, 64, 128, 256, 512, 1_024, 2_048, 4_095]),
+    ("pairs of the same digits", &[12, 21, 102, 120, 201, 210, 1_002, 2_001, 1_020, 2_010]),
+    ("pairs of which one begins another", &[4, 40, 409, 4_095, 1, 10, 100, 1_000]),
+    ("pairs near each other", &[0, 1, 2, 4_093, 4_094, 4_095]),
+    ("one pair", &[4_095]),
+];
+
+/// Adds sheets with as many pairs as there can be, one after another, and with pairs that are alike in part.
+pub fn many_pairs(form: &Form, sheets: &mut Gathered, seed: u64) {
+    let pairs = form.definition.most_pairs;
+    let long = Shape { lines: 2 * pairs, strays: 100, width: None };
+    for (n, (how, order)) in ORDERS.into_iter().enumerate() {
+        let lines = lines_of_pairs(form, &mut Draw::new(seed, 1 + n as u64), &long, |n, _| order(n, pairs));
+        sheets.add(how, form.sheet(&lines));
+    }
+    let short = Shape { lines: 200, ..long };
+    for (n, (how, pairs)) in ALIKE.into_iter().enumerate() {
+        let order = |n: usize, _: &[u8]| pairs[(n * 5 + n / 7) % pairs.len()];
+        let lines = lines_of_pairs(form, &mut Draw::new(seed, 10 + n as u64), &short, order);
+        sheets.add(how, form.sheet(&lines));
+    }
+}
+
+/// How many sheets there are of as many lines as there can be, one fewer or one more.
+pub const MOST: u64 = 4;
+
+/// One of these sheets.
+pub fn most_lines(definition: &Definition, number: u64) -> Made {
+    let most = definition.most_lines;
+    let (how, lines, last): (&str, usize, &[u8]) = match number {
+        0 => ("one line fewer than can be, the last without its CRLF", most - 1, b""),
+        1 => ("as many lines as can be", most, CRLF),
+        2 => ("one line more than can be, and that one empty", most, b"\r\n\r\n"),
+        _ => ("one line more than can be, without its CRLF", most + 1, b""),
+    };
+    let form = Form::new(definition);
+    let rest = |changes: &[(&str, &[u8])]| form.plain_with(&[&[("pair", &b""[..]), ("tag", b"?")], changes].concat());
+    let clean: (&str, &[u8]) = ("request", b"SnpClean");
+    let forwarded: [(&str, &[u8]); 2] = [("response", b"SnpResp_SD_Fwded_SC"), ("forward", b"CompData_SC")];
+    // Most pairs are never lost.
+    let [to_i, to_sc, to_sd, dirty, nderr] = [
+        rest(&[clean]),
+        rest(&[("response", b"SnpResp_SC")]),
+        rest(&[&[("request", &b"SnpCleanFwd"[..])], &forwarded[..]].concat()),
+        rest(&[clean, ("response", b"SnpRespData_SD"), ("TagOp", b"Update")]),
+        rest(&[clean, ("RespErr", b"NDERR")]),
+    ];
+    let mut sheet = definition.header.as_bytes().to_vec();
+    for n in 0..lines - 1 {
+        let pair = n * 7 % definition.most_pairs;
+        sheet.extend(format!("\r\n{pair}").as_bytes());
+        sheet.extend(match pair % 8 {
+            0..=3 => &to_i,
+            4 | 5 => &to_sc,
+            6 => &to_sd,
+            _ if n % 1_000 < 500 => &dirty,
+            _ => &nderr,
+        });
+    }
+    sheet.extend(last);
+    (how.to_string(), sheet)
+}

@@ -1,0 +1,436 @@
+//! Bench sheets that go through names, bytes, pairs, fields, ends and lengths of lines one after another.
+
+use crate::cases::kinds::{share, Cases, Gathered, Kind};
+use crate::cases::lines::{without_crlf, Form, OTHER_ENDS, OTHER_REQUESTS, PAIR_FIELDS};
+use crate::cases::sheet_draws::{anything, borders, damaged, good, good_long, many_pairs, most_lines, MOST};
+use crate::cases::text::{fields_of, line_of, spoiled, spoiled_fields};
+use crate::definition::sheet::{CRLF, OUTPUT_HEADER};
+use crate::definition::values::Definition;
+
+/// Adds the sheets of a kind, those that are drawn from a seed.
+type Sweep = fn(&Form, &mut Gathered, u64);
+
+/// The kinds whose sheets are gathered one after another.
+const SWEEPS: [(&str, Sweep); 13] = [
+    ("the example", example),
+    ("known names", known_names),
+    ("names not known", names_not_known),
+    ("each byte value", each_byte),
+    ("pair fields", pair_fields),
+    ("other fields", other_fields),
+    ("ends of lines", ends_of_lines),
+    ("first and last", first_and_last),
+    ("headers", headers),
+    ("refusals", refusals),
+    ("line lengths", line_lengths),
+    ("borders of reads", borders),
+    ("many pairs", many_pairs),
+];
+
+/// The cases of a bench sheet.
+pub fn sheets(definition: &Definition, seed: u64, random: u64) -> Cases {
+    let mut gathered = Gathered::default();
+    let form = Form::new(definition);
+    let swept = SWEEPS.map(|(name, sweep)| {
+        sweep(&form, &mut gathered, seed);
+        gathered.kind(name)
+    });
+    let mut kinds = Vec::from(swept);
+    kinds.extend([
+        Kind::new("drawn", share(random, 4, 10), |d, draw, n| if n % 40 == 0 { good_long(d, draw) } else { good(d, draw) }),
+        Kind::new("drawn, damaged", share(random, 5, 10), |d, draw, _| damaged(d, draw)),
+        Kind::new("anything", share(random, 1, 10), |d, draw, _| anything(d, draw)),
+        Kind::new("a million lines", MOST, |d, _, n| most_lines(d, n)),
+    ]);
+    Cases { definition: definition.clone(), seed, kinds }
+}
+
+/// Adds the definition's example and its beginnings.
+fn example(form: &Form, sheets: &mut Gathered, _: u64) {
+    let lines = [
+        form.plain_with(&[("response", b"SnpRespData_SC_PD")]),
+        form.plain_with(&[("RetToSrc", b"1"), ("response", b"SnpRespData_SC")]),
+        form.plain_with(&[("request", b"SnpClean"), ("response", b"SnpRespData_SD")]),
+        form.plain_with(&[("request", b"SnpClean"), ("final", b"I")]),
+    ];
+    for count in (0..=lines.len()).rev() {
+        let whole = form.sheet(&lines[..count]);
+        sheets.add(format!("the example's first {count} events"), whole.clone());
+        sheets.add(format!("the example's first {count} events, without the last CRLF"), without_crlf(whole));
+    }
+}
+
+/// Columns by their names, each with the fields that it goes through.
+type Varies<'a> = Vec<(&'a str, Vec<&'a str>)>;
+
+/// The sheet of plain lines that go through all combinations of some columns' fields, each of a pair of its own.
+fn product(form: &Form, varies: &Varies) -> Vec<u8> {
+    let count = varies.iter().map(|(_, fields)| fields.len()).product();
+    let line = |number: usize| {
+        let pair = number.to_string();
+        let mut changes = vec![("pair", pair.as_bytes())];
+        let mut rest = number;
+        for (column, fields) in varies.iter().rev() {
+            changes.push((column, fields[rest % fields.len()].as_bytes()));
+            rest /= fields.len();
+        }
+        form.plain_with(&changes)
+    };
+    form.sheet(&(0..count).map(line).collect::<Vec<_>>())
+}
+
+/// Adds sheets of lines with known names: what varies, and through which names.
+fn known_names(form: &Form, sheets: &mut Gathered, _: u64) {
+    let all = |column: &'static str| (column, form.names(column));
+    for column in form.columns().into_iter().skip(1) {
+        sheets.add(format!("every name of {column} in plain lines"), product(form, &vec![all(column)]));
+    }
+    for (request, _) in &form.definition.requests {
+        for flags in 0..8 {
+            let flag = |n: usize| vec![["0", "1"][flags >> n & 1]];
+            let flags_vary = [("RetToSrc", flag(0)), ("DoNotGoToSD", flag(1)), ("excl", flag(2))];
+            let varies = [&[("request", vec![*request])], &flags_vary[..], &[all("response"), all("forward")]].concat();
+            sheets.add(format!("{request} with every answer, flags {flags:03b}"), product(form, &varies));
+        }
+    }
+    for row in &form.definition.rows {
+        let code = form.definition.requests_of(row.table).pop();
+        let request = form.definition.requests.iter().find(|(_, request)| Some(*request) == code);
+        let varies = vec![
+            ("request", vec![request.expect("a table is for a request").0]),
+            ("RetToSrc", vec![if row.ret_to_src == Some(1) { "1" } else { "0" }]),
+            ("response", vec![row.response.name]),
+            ("forward", vec![row.forward.name]),
+            all("tag"),
+            all("TagOp"),
+            all("RespErr"),
+            ("final", vec!["I", "SC", "SD", "UD", "?"]),
+        ];
+        let how = format!("{} {} with every tag, TagOp and RespErr", row.table, row.response.name);
+        sheets.add(how, product(form, &varies));
+    }
+}
+
+/// Fields that a column doesn't know, though somebody might write them there; a semicolon parts them.
+#[rustfmt::skip]
+const STRANGE: [(&str, &str); 10] = [
+    ("request", "-;?;1;SnpShared ; SnpShared;SnpClean_"),
+    ("RetToSrc", ";2;00;01;10;-;?;true;O;l;0 ; 0;-0;+1;0.0"),
+    ("DoNotGoToSD", ";2;00;11;-;?;x;1 ; 1"),
+    ("excl", ";2;9;00;01;-;?;I;0x1"),
+    ("tag", ";-;None;not seen;0;3;??;? ;UD;Update;Transfer;I"),
+    ("response", "-;?;SnpResp;SnpResp_;SnpRespData;SnpRespFwded;SnpRespDataFwded_SC"),
+    ("TagOp", ";-;?;Clean;Dirty;0;None"),
+    ("RespErr", ";-;?;OKAY;EXOKAY;SLVERR;DECERR;ERR;0;Ok"),
+    ("forward", ";--;?;SC;CompData;CompData_;Comp_SC;CompData_I;CompData_SD;CompData_UD;CompData_UCE;CompData_SC_PD;\
+         CompData_UC_PD;CompAck;SnpResp_SC_Fwded_SC"),
+    ("final", ";-;??;SCE;UDE;M;O;E;S;U;0;7;I SC;I|SC;UC UD;not seen"),
+];
+
+/// Adds sheets with one line of which a name is cut, changed or strange, and so mostly not known.
+fn names_not_known(form: &Form, sheets: &mut Gathered, _: u64) {
+    let mut add = |column: &str, field: &[u8]| {
+        let how = format!("{column} is \"{}\"", field.escape_ascii());
+        sheets.add(how, form.between(&form.plain_with(&[(column, field)])));
+    };
+    let plain = fields_of(&form.plain());
+    for column in form.columns().into_iter().skip(1) {
+        for name in form.names(column) {
+            spoiled(name.as_bytes()).iter().for_each(|field| add(column, field));
+        }
+        for (other, field) in form.columns().into_iter().zip(&plain) {
+            [&field[..], form.names(other)[1].as_bytes(), other.as_bytes()].iter().for_each(|field| add(column, field));
+        }
+    }
+    OTHER_REQUESTS.iter().for_each(|name| add("request", name.as_bytes()));
+    for message in ["SnpResp", "SnpRespData", "SnpRespDataPtl"] {
+        for resp in ["I", "UC", "SC", "SD", "I_PD", "SC_PD", "SD_PD"] {
+            for fwd in ["", "_Fwded_I", "_Fwded_SC", "_Fwded_UC", "_Fwded_UD_PD", "_Fwded_SD_PD"] {
+                add("response", format!("{message}_{resp}{fwd}").as_bytes());
+            }
+        }
+    }
+    for (column, fields) in STRANGE {
+        fields.split(';').for_each(|field| add(column, field.as_bytes()));
+    }
+}
+
+/// Adds sheets with one line of which one byte goes through all values.
+fn each_byte(form: &Form, sheets: &mut Gathered, _: u64) {
+    let plain = form.plain();
+    for byte in 0..=255u8 {
+        let place = 1 + usize::from(byte) % (plain.len() - 1);
+        let flag = ["RetToSrc", "DoNotGoToSD", "excl"][usize::from(byte % 3)];
+        let lines = [
+            ("for a pair", form.plain_with(&[("pair", &[byte])])),
+            ("for a flag", form.plain_with(&[(flag, &[byte])])),
+            ("at the end of a line", [&plain[..], &[byte]].concat()),
+            ("within a line", [&plain[..place], &[byte], &plain[place..]].concat()),
+        ];
+        for (how, line) in lines {
+            sheets.add(format!("byte {byte} {how}"), form.between(&line));
+        }
+    }
+}
+
+/// Adds sheets with one line of which the pair's field is tried, some of them with something else wrong besides.
+fn pair_fields(form: &Form, sheets: &mut Gathered, _: u64) {
+    for field in PAIR_FIELDS.split(' ').chain(["", " 1", "1 "]) {
+        let line = form.plain_with(&[("pair", field.as_bytes())]);
+        let how = format!("pair is \"{}\"", field.escape_debug());
+        sheets.add(how.clone(), form.between(&line));
+        let last = without_crlf(form.sheet(&[form.before(), line]));
+        sheets.add(how + ", at the very end", last);
+    }
+    for field in ["4095", "4096", "9999", "10000", "04096"] {
+        let good = form.plain_with(&[("pair", field.as_bytes())]);
+        let mut add = |how: &str, line: Vec<u8>| {
+            sheets.add(format!("pair is \"{field}\" and {how}"), form.between(&line));
+        };
+        for (n, column) in form.columns().into_iter().enumerate().skip(1) {
+            let mut fields = fields_of(&good);
+            fields[n].push(b'x');
+            add(&format!("{column} is not known"), line_of(&fields));
+            fields.truncate(n);
+            add(&format!("there are {n} fields"), line_of(&fields));
+        }
+        add("there is one more comma", [&good[..], b","].concat());
+        for length in form.definition.longest_line - 1..=form.definition.longest_line + 3 {
+            for byte in [b'?', b','] {
+                let mut long = good.clone();
+                long.resize(length, byte);
+                add(&format!("the line has {length} bytes, many of them {}", char::from(byte)), long);
+            }
+        }
+    }
+}
+
+/// Adds sheets with one line of more or fewer fields, or with a field at a wrong place.
+fn other_fields(form: &Form, sheets: &mut Gathered, _: u64) {
+    let plain = form.plain();
+    let fields = fields_of(&plain);
+    let mut lines: Vec<(String, Vec<u8>)> = Vec::new();
+    for count in 0..=14 {
+        let mut resized = fields.clone();
+        resized.resize(count, b"?".to_vec());
+        let commas = vec![b','; count];
+        lines.push((format!("{count} fields"), line_of(&resized)));
+        lines.push((format!("{count} commas"), commas.clone()));
+        lines.push((format!("the line and {count} commas"), [&plain[..], &commas].concat()));
+        lines.push((format!("{count} commas and the line"), [&commas[..], &plain].concat()));
+    }
+    for (how, column, line) in spoiled_fields(&fields) {
+        lines.push((format!("{how} {}", form.columns()[column]), line));
+    }
+    for column in 1..fields.len() {
+        let comma = line_of(&fields[..column]).len();
+        for byte in [b';', b' ', b'\t', 0, b'\r', b'\n'] {
+            let mut changed = plain.clone();
+            changed[comma] = byte;
+            lines.push((format!("byte {byte} in the place of the comma before column {column}"), changed));
+        }
+    }
+    let text = String::from_utf8_lossy(&plain).to_string();
+    lines.extend([
+        ("every field in quotes".into(), format!("\"{}\"", text.replace(',', "\",\"")).into()),
+        ("the line in quotes".into(), format!("\"{text}\"").into()),
+        ("spaces after commas".into(), text.replace(',', ", ").into()),
+        ("two lines in one".into(), text.repeat(2).into()),
+    ]);
+    for (how, line) in lines {
+        // The plain line as it is would be tried with others.
+        if line != plain || how.ends_with("fields") {
+            sheets.add(how.clone(), form.between(&line));
+            sheets.add(how + ", at the very end", [form.sheet(&[]), line].concat());
+        }
+    }
+}
+
+/// Adds sheets with CR and LF alone at each place of a line, and with other ends of lines.
+fn ends_of_lines(form: &Form, sheets: &mut Gathered, _: u64) {
+    let lines = [form.before(), form.plain(), form.after()];
+    let alone: [&[u8]; 5] = [b"\r", b"\n", b"\r\r", b"\n\r", b"\r\n"];
+    // In the last line CR and LF alone are enough.
+    for (n, alone) in [(1, &alone[..]), (2, &alone[..2])] {
+        for place in 0..=lines[n].len() {
+            for put in alone {
+                let mut changed = lines.clone();
+                changed[n].splice(place..place, put.iter().copied());
+                let how = format!("\"{}\" at place {place} of line {}", put.escape_ascii(), n + 2);
+                sheets.add(how, form.sheet(&changed));
+            }
+        }
+    }
+    let all = [&[form.definition.header.into()][..], &lines].concat();
+    let changed: [&[usize]; 6] = [&[1], &[2], &[3], &[4], &[2, 3, 4], &[1, 2, 3, 4]];
+    for end in OTHER_ENDS {
+        for numbers in changed {
+            let end_of = |n: usize| if numbers.contains(&(n + 1)) { end } else { CRLF };
+            let bytes = all.iter().enumerate().flat_map(|(n, line)| [line, end_of(n)].concat()).collect();
+            sheets.add(format!("\"{}\" for the CRLF of lines {numbers:?}", end.escape_ascii()), bytes);
+        }
+    }
+}
+
+/// What is tried before the first line, between lines and after the last.
+#[rustfmt::skip]
+const BITS: [&[u8]; 25] = [
+    b"", b"\r\n", b"\r", b"\n", b"\r\r", b"\n\n", b"\n\r", b"\r\n\r\n", b"\r\n\r", b"\r\n\n", b"\r\r\n", b"\n\r\n",
+    b"\r\n\r\n\r\n", b"\0", b"\0\r\n", b"x", b",", b" ", b" \r\n", b"\x1a", b"\xff", b"\"", b"0", b"0\r\n",
+    b"\xef\xbb\xbf",
+];
+
+/// Adds sheets that are nearly nothing, cut ones, and ones with empty or strange first and last lines.
+fn first_and_last(form: &Form, sheets: &mut Gathered, _: u64) {
+    let lines = [form.before(), form.after()];
+    let [none, one, two] = [0, 1, 2].map(|count| form.sheet(&lines[..count]));
+    for bit in BITS {
+        let places: [(&str, &[u8], &[u8]); 9] = [
+            ("as the whole input", b"", b""),
+            ("and nothing after the header", &none, b""),
+            ("after the header's text", &none[..none.len() - 2], b""),
+            ("after one event", &one, b""),
+            ("after two events", &two, b""),
+            ("in the place of the last CRLF", &two[..two.len() - 2], b""),
+            ("before the header", b"", &two),
+            ("before the first event", &none, &two[none.len()..]),
+            ("before the second event", &one, &two[one.len()..]),
+        ];
+        for (how, before, after) in places {
+            sheets.add(format!("\"{}\" {how}", bit.escape_ascii()), [before, bit, after].concat());
+        }
+    }
+    for end in 0..two.len() {
+        sheets.add(format!("the first {end} bytes of a sheet"), two[..end].to_vec());
+    }
+}
+
+/// What is tried before the header and after it.
+#[rustfmt::skip]
+const HEADER_BITS: [&[u8]; 13] = [
+    b",", b" ", b"\0", b"x", b",x", b",final", b"\t", b"\r", b"\n", b"\xef\xbb\xbf", b"\xfe\xff", b"#", b"\"",
+];
+
+/// Adds sheets with another header.
+fn headers(form: &Form, sheets: &mut Gathered, _: u64) {
+    let header = form.definition.header;
+    let bytes = header.as_bytes();
+    let before = String::from_utf8_lossy(&form.before()).to_string();
+    let mut others: Vec<(String, Vec<u8>)> = Vec::new();
+    others.extend(spoiled(bytes).into_iter().map(|other| ("the header spoiled".to_string(), other)));
+    for (how, column, other) in spoiled_fields(&fields_of(bytes)) {
+        others.push((format!("the header, {how} {}", form.columns()[column]), other));
+    }
+    for bit in HEADER_BITS {
+        others.push((format!("the header and \"{}\"", bit.escape_ascii()), [bytes, bit].concat()));
+        others.push((format!("\"{}\" and the header", bit.escape_ascii()), [bit, bytes].concat()));
+    }
+    let texts = [
+        ("the header with semicolons", header.replace(',', ";")),
+        ("the header with commas and spaces", header.replace(',', ", ")),
+        ("the header with dashes", header.replace(',', "-")),
+        ("the output's header", OUTPUT_HEADER.to_string()),
+        ("an event for a header", before.clone()),
+        ("the header twice in a line", header.repeat(2)),
+        ("the header twice", format!("{header}\r\n{header}")),
+        ("the header, an event and the header", format!("{header}\r\n{before}\r\n{header}")),
+        ("the header after a line", format!("x\r\n{header}")),
+        ("the header in the reverse", header.chars().rev().collect()),
+    ];
+    others.extend(texts.map(|(how, text)| (how.to_string(), text.into_bytes())));
+    for (how, other) in others {
+        sheets.add(how, [&other, CRLF, before.as_bytes(), CRLF].concat());
+    }
+}
+
+/// Adds sheets with a refusal at many lines, and with several.
+fn refusals(form: &Form, sheets: &mut Gathered, _: u64) {
+    let refused = [
+        ("3", form.plain_with(&[("pair", b"4096")])),
+        ("8", form.plain_with(&[("final", b"sc")])),
+        ("7", vec![b'0'; form.definition.longest_line + 1]),
+        ("8 for nothing", vec![]),
+    ];
+    let good = |lines: usize| (0..lines).map(|n| form.plain_with(&[("pair", (n % 40).to_string().as_bytes())]));
+    for lines in [0, 1, 2, 7, 8, 9, 10, 97, 98, 99, 253, 254, 255, 997, 998, 999, 9_998, 9_999] {
+        for (first, line) in if lines < 9_998 { &refused[..] } else { &refused[1..2] } {
+            let before: Vec<Vec<u8>> = good(lines).chain([line.clone()]).collect();
+            if lines > 99 {
+                sheets.add(format!("refusal {first} after {lines} events"), form.sheet(&before));
+            }
+            let seconds = if lines > 99 {
+                0
+            } else if lines > 9 {
+                1
+            } else {
+                refused.len()
+            };
+            for (second, other) in &refused[..seconds] {
+                let all: Vec<Vec<u8>> = before.iter().cloned().chain([other.clone()]).chain(good(2)).collect();
+                let how = format!("refusal {first} and then {second} after {lines} events");
+                sheets.add(how, form.sheet(&all));
+            }
+        }
+    }
+}
+
+/// The lengths of lines that are tried beside those near the longest.
+#[rustfmt::skip]
+const OTHER_LENGTHS: [usize; 29] = [
+    101, 127, 128, 129, 191, 192, 193, 255, 256, 257, 300, 319, 320, 321, 416, 417, 511, 512, 513, 1_024, 4_095, 4_096,
+    4_097, 5_000, 65_535, 65_536, 65_636, 70_000, 200_000,
+];
+
+/// What long lines are tried to end in, a CRLF or not.
+#[rustfmt::skip]
+const LONG_ENDS: [&[u8]; 14] = [
+    b"", b"\r\n", b"\r", b"\r\r", b"\r\r\n", b"\r\r\r\n", b"\n", b"\n\r", b"\n\r\n", b"\n\n\r\n", b"\rx", b"\rx\r\n",
+    b"\nx\r\n", b"\r\rx\r\n",
+];
+
+/// A line of this length that begins with some text and goes on with one byte.
+fn filled((text, byte): (&str, u8), length: usize) -> Vec<u8> {
+    let mut line = text.as_bytes().to_vec();
+    line.resize(length, byte);
+    line
+}
+
+/// Adds sheets with long lines at the first place, in the middle and at the end.
+fn line_lengths(form: &Form, sheets: &mut Gathered, _: u64) {
+    let (before, after, longest) = (form.before(), form.after(), form.definition.longest_line);
+    let plain = String::from_utf8_lossy(&form.plain()).to_string();
+    let bytes = [b'x', b',', b'1', 0, 255, b'\r', b'\n'].map(|byte| ("", byte));
+    let begun = [(&plain[..], b'x'), (&plain, b' '), ("4096,SnpShared,0,0,0,Invalid,SnpResp_I", b'I')];
+    let near = bytes.iter().chain(&begun).flat_map(|filler| (longest - 2..=longest + 2).map(|length| (*filler, length)));
+    let far = OTHER_LENGTHS.into_iter().flat_map(|length| [(bytes[0], length), (begun[0], length)]);
+    for (filler, length) in near.chain(far) {
+        let line = filled(filler, length);
+        let last = form.sheet(&[before.clone(), line.clone()]);
+        let placed = [
+            ("line 2", form.sheet(&[line.clone(), before.clone(), after.clone()])),
+            ("line 3, the last,", last.clone()),
+            ("line 3 without a CRLF", without_crlf(last)),
+            ("line 4", form.sheet(&[before.clone(), after.clone(), line, before.clone()])),
+        ];
+        for (place, bytes) in placed {
+            sheets.add(format!("{place} of {length} bytes, \"{}\" and byte {}", filler.0, filler.1), bytes);
+        }
+    }
+    let header = form.definition.header;
+    for length in (longest - 2..=longest + 2).chain([256, 5_000, 70_000, 200_000]) {
+        for filler in [(header, b'x'), (header, b','), (header, b' '), ("", b'x'), ("", b'\r')] {
+            let line = filled(filler, length);
+            let how = format!("line 1 of {length} bytes, \"{}\" and byte {}", filler.0, filler.1);
+            sheets.add(format!("{how}, alone"), line.clone());
+            sheets.add(how, [&line, CRLF, &before, CRLF].concat());
+        }
+    }
+    for length in longest - 5..=longest + 2 {
+        for end in LONG_ENDS {
+            let last = [form.sheet(std::slice::from_ref(&before)), filled(bytes[0], length), end.to_vec()].concat();
+            let how = format!("{length} bytes and \"{}\"", end.escape_ascii());
+            sheets.add(format!("{how} at the very end"), last.clone());
+            sheets.add(how, [&last, &after, CRLF].concat());
+        }
+    }
+}

@@ -1,0 +1,15 @@
+//! What the documents define: values, rows, one event, a trace, its histories, the bench sheet and the capture.
+//! Nothing else of this program is used in this folder.
+
+pub mod capture;
+pub mod codes;
+pub mod columns;
+pub mod event;
+pub mod histories;
+pub mod rows;
+pub mod sheet;
+pub mod steps;
+#[cfg(test)]
+mod tests;
+pub mod trace;
+pub mod values;

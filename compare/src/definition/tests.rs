@@ -1,0 +1,406 @@
+//! Tests of the definition: the notebook's entries, facts about the rows, and answers worked out by hand.
+
+use crate::definition::codes::*;
+use crate::definition::event::{alone, Alone};
+use crate::definition::histories::enumerate;
+use crate::definition::sheet::{lines, Reader};
+use crate::definition::steps::{permitted, step};
+use crate::definition::trace::{judge, Judged, Lent};
+use crate::definition::values::Definition;
+use crate::definition::{capture, sheet};
+use std::collections::BTreeSet;
+
+/// What is told of a line judged alone from a state: the states after and the duty.
+fn from(before: &str, line: &str) -> (String, &'static str) {
+    let definition = Definition::base();
+    let (_, event) = Reader::new(&definition).fields(line.as_bytes()).expect("a good line");
+    let answer = alone(&definition, &event);
+    let before = usize::from(place_of(&STATES, before).expect("a state"));
+    assert_eq!((answer.refusal, answer.place), (0, 1));
+    (states_of(answer.sets[before]).join(" "), DUTIES[usize::from(answer.duties[before])])
+}
+
+/// The entries of the notebook, and two of the wrong readings.
+#[test]
+#[rustfmt::skip]
+fn notebook() {
+    for (entry, before, line, states, duty) in [
+        ("a", "UC", "0,SnpClean,0,0,0,Invalid,SnpResp_SC,Invalid,OK,-,?", "I SC", "none"),
+        ("b", "SC", "0,SnpShared,1,0,0,Invalid,SnpResp_SC,Invalid,OK,-,?", "", "none"),
+        ("c", "UD", "0,SnpShared,0,0,0,Invalid,SnpRespData_SD,Invalid,OK,-,?", "SD", "none"),
+        ("d", "UD", "0,SnpShared,0,1,0,Invalid,SnpRespData_SD,Invalid,OK,-,?", "", "none"),
+        ("e", "UD", "0,SnpCleanFwd,0,0,0,Invalid,SnpResp_SC_Fwded_SD_PD,Invalid,OK,CompData_SD_PD,?", "I SC", "Requester"),
+        ("f", "UD", "0,SnpCleanFwd,0,0,0,Dirty,SnpResp_SC_Fwded_SD_PD,Invalid,OK,CompData_SD_PD,?", "", "none"),
+        ("g", "SD", "0,SnpCleanFwd,0,0,0,Dirty,SnpRespData_SC_PD_Fwded_SC,Update,OK,CompData_SC,?", "I SC", "Home"),
+        ("h", "SD", "0,SnpCleanFwd,0,0,0,Dirty,SnpRespData_SC_PD_Fwded_SC,Transfer,OK,CompData_SC,?", "", "none"),
+        ("i", "UC", "0,SnpPreferUniqueFwd,0,0,0,Invalid,SnpResp_I_Fwded_UC,Invalid,OK,CompData_UC,?", "I", "none"),
+        ("j", "UC", "0,SnpPreferUniqueFwd,0,0,1,Invalid,SnpResp_I_Fwded_UC,Invalid,OK,CompData_UC,?", "", "none"),
+        ("k", "UC", "0,SnpPreferUniqueFwd,0,0,0,Invalid,SnpResp_SC_Fwded_SC,Invalid,OK,CompData_SC,?", "SC", "none"),
+        ("l", "UD", "0,SnpShared,0,0,0,Invalid,SnpResp_I,Invalid,OK,-,?", "", "none"),
+        ("m", "UD", "0,SnpShared,0,0,0,Invalid,SnpResp_I,Invalid,NDERR,-,?", "I", "lost"),
+        ("n", "UC", "0,SnpClean,0,0,0,Dirty,SnpResp_I,Invalid,OK,-,?", "", "none"),
+        ("data", "UD", "0,SnpCleanFwd,1,0,0,?,SnpRespData_SC_Fwded_SD_PD,Invalid,OK,CompData_SD_PD,?", "I SC", "Requester"),
+        ("both", "SC", "0,SnpPreferUniqueFwd,0,0,1,?,SnpResp_SC_Fwded_SC,Invalid,OK,CompData_SC,?", "SC", "none"),
+    ] {
+        assert_eq!(from(before, line), (states.to_string(), duty), "entry {entry}");
+    }
+}
+
+/// All events of the codes that rows name, of any flags, tag state, TagOp and RespErr, the state after not seen.
+fn events_of_rows(definition: &Definition) -> Vec<Vec<u8>> {
+    let mut events = vec![vec![]];
+    let below = |bound: u8| (0..bound).map(|value| vec![value]).collect::<Vec<_>>();
+    let requests = definition.requests.iter().map(|(_, code)| vec![*code]).collect();
+    let responses = definition.responses().iter().map(|response| response.bytes().to_vec()).collect();
+    let forwards = definition.forwards().iter().map(|forward| vec![forward.present, forward.resp]).collect();
+    for next in [requests, below(2), below(2), below(2), below(4), responses, below(4), below(4), forwards] {
+        events = events.iter().flat_map(|event| next.iter().map(|next| [&event[..], next].concat())).collect();
+    }
+    events.iter().map(|event| [&event[..], &[STATE_NOT_SEEN]].concat()).collect()
+}
+
+/// Facts about the rows that others computed: see docs/DECISIONS.md for those that the judge rests on.
+#[test]
+fn facts() {
+    let definition = Definition::base();
+    let mut seen = BTreeSet::new();
+    for event in events_of_rows(&definition) {
+        let Alone { sets, duties, .. } = alone(&definition, &event);
+        let with = |place: usize, value: u8| {
+            let mut other = event.clone();
+            other[place] = value;
+            alone(&definition, &other).sets
+        };
+        let all = match (event[byte::RESP], event[byte::REQUEST]) {
+            (0 | 4, _) => 1,
+            (3, _) => 64,
+            (_, 22) => 32,
+            _ => 33,
+        };
+        for n in (0..7).filter(|n| sets[*n] != 0) {
+            assert_eq!(sets[n], all, "the set after follows from Resp");
+            assert_eq!(duties[n] != 0, holds_dirty(1 << n) && !holds_dirty(all), "a duty goes with the dirt");
+        }
+        match (event[byte::TAG], event[byte::REQUEST]) {
+            (0, 1) => assert!([2, 4, 21].iter().all(|request| with(byte::REQUEST, *request) == sets)),
+            (0, 18) => assert_eq!(with(byte::REQUEST, 20), sets),
+            (1, _) => assert_eq!(with(byte::TAG, 0), sets),
+            (3, _) => {
+                let (clean, dirty) = (with(byte::TAG, 1), with(byte::TAG, 2));
+                assert!((0..7).all(|n| sets[n] == clean[n] | dirty[n] && (dirty[n] == 0 || n == 3 || n == 6)));
+            }
+            _ => {}
+        }
+        if sets != [0; 7] {
+            assert!(event[byte::RESP_ERR] != 1 && event[byte::TAG_OP] != 3, "EXOK and Match fit no row");
+            for after in 0..=STATE_NOT_SEEN {
+                let some = with(byte::AFTER, after);
+                let before: u8 = (0..7).filter(|n| some[*n] != 0).map(|n| 1 << n).sum();
+                let set = some.iter().fold(0, |union, set| union | set);
+                assert!(after == STATE_NOT_SEEN || set == all & 1 << after);
+                seen.extend((before != 0).then_some((before, set)));
+            }
+        }
+    }
+    assert_eq!(seen.len(), 15);
+}
+
+/// One event alone is refused for its length, then for a byte outside its range, then for its request.
+#[test]
+fn events_refused() {
+    let definition = Definition::base();
+    let good = [2, 0, 0, 0, 0, 0, 1, 1, 0, 0, 0, 0, 0, 7];
+    let refused = |bytes: &[u8], refusal: u8| {
+        let expected = Alone { refusal, ..Alone::default() };
+        assert_eq!(alone(&definition, bytes), expected, "{bytes:?}");
+    };
+    [&[][..], &good[..13], &[good, good].concat(), &[255; 13]].iter().for_each(|bytes| refused(bytes, 1));
+    for (n, limit) in [255, 1, 1, 1, 3, 1, 31, 7, 7, 3, 3, 1, 7, 7].into_iter().enumerate().skip(1) {
+        let mut bytes = good;
+        bytes[n] = limit;
+        assert_eq!(alone(&definition, &bytes).refusal, 0);
+        bytes[n] = limit + 1;
+        refused(&bytes, 4);
+        bytes[0] = 0;
+        refused(&bytes, 4);
+    }
+    for request in 0..=255 {
+        let mut bytes = good;
+        bytes[0] = request;
+        match request {
+            1 | 2 | 4 | 18 | 20 | 21 | 22 => assert_eq!(alone(&definition, &bytes).place, 1),
+            _ => refused(&bytes, 5),
+        }
+    }
+}
+
+/// The four events of the definition's example.
+const EXAMPLE: [[u8; 14]; 4] = [
+    [1, 0, 0, 0, 0, 1, 1, 5, 0, 0, 0, 0, 0, 7],
+    [1, 1, 0, 0, 0, 1, 1, 1, 0, 0, 0, 0, 0, 7],
+    [2, 0, 0, 0, 0, 1, 1, 3, 0, 0, 0, 0, 0, 7],
+    [2, 0, 0, 0, 0, 0, 1, 0, 0, 0, 0, 0, 0, 0],
+];
+/// SnpClean answered with SnpResp_SC, tags and state after not seen.
+const TO_SC: [u8; 14] = [2, 0, 0, 0, 3, 0, 1, 1, 0, 0, 0, 0, 0, 7];
+/// SnpClean answered with SnpResp_I and NDERR, tags and state after not seen.
+const WITH_NDERR: [u8; 14] = [2, 0, 0, 0, 3, 0, 1, 0, 0, 0, 3, 0, 0, 7];
+/// SnpCleanFwd answered with SnpResp_SC_Fwded_SD_PD.
+const TO_REQUESTER: [u8; 14] = [18, 0, 0, 0, 3, 0, 9, 1, 7, 0, 0, 1, 7, 7];
+
+/// A trace of some events, whose three other buffers hold bytes that no answer has.
+fn lent(events: &[[u8; 14]], pairs: &[u16], table: &[u8]) -> Lent {
+    let mut lent = Lent { table: table.to_vec(), ..Lent::default() };
+    events.iter().zip(pairs).for_each(|(event, pair)| lent.push(*pair, event, [201, 202, 203]));
+    lent
+}
+
+/// Traces worked out by hand: events, pairs, table, then verdicts, duties, after-sets and the table.
+#[test]
+fn traces() {
+    #[allow(clippy::type_complexity)]
+    let traces: [(&[[u8; 14]], &[u16], &[u8], [&[u8]; 4]); 9] = [
+        (&EXAMPLE, &[0; 4], &[127], [&[0, 0, 1, 2], &[1, 0, 0, 0], &[33, 33, 0, 0], &[0]]),
+        (&EXAMPLE, &[3, 1, 3, 1], &[127, 127, 9, 8, 0], [&[0, 0, 1, 0], &[1, 0, 0, 0], &[33, 33, 0, 1], &[127, 1, 9, 0, 0]]),
+        (&[EXAMPLE[0]; 2], &[1, 0], &[1, 8], [&[0, 1], &[1, 0], &[33, 0], &[0, 33]]),
+        (&[TO_REQUESTER; 3], &[0, 1, 2], &[64, 55, 0], [&[0, 1, 2], &[2, 0, 0], &[33, 0, 0], &[33, 0, 0]]),
+        (&[WITH_NDERR; 3], &[0, 1, 2], &[16, 39, 127], [&[0, 0, 0], &[3, 0, 3], &[1, 1, 1], &[1, 1, 1]]),
+        (&[WITH_NDERR; 2], &[0, 0], &[8], [&[0, 0], &[3, 0], &[1, 1], &[1]]),
+        (&[TO_SC, TO_SC, EXAMPLE[2], TO_SC], &[0; 4], &[127], [&[0, 0, 1, 2], &[0; 4], &[33, 33, 0, 0], &[0]]),
+        (&[], &[], &[0, 5, 127], [&[], &[], &[], &[0, 5, 127]]),
+        (&[], &[], &[], [&[]; 4]),
+    ];
+    let definition = Definition::base();
+    for (events, pairs, table, [verdicts, duties, after_sets, table_after]) in traces {
+        let lent = lent(events, pairs, table);
+        let mut after = lent.clone();
+        [&mut after.verdicts, &mut after.duties, &mut after.after_sets, &mut after.table]
+            .into_iter()
+            .zip([verdicts, duties, after_sets, table_after])
+            .for_each(|(part, bytes)| *part = bytes.to_vec());
+        let expected = Judged { refusal: 0, place: events.len(), lent: after };
+        assert_eq!(judge(&definition, &lent), expected);
+        assert_eq!(enumerate(&definition, &lent).0, expected);
+    }
+}
+
+/// Refused traces: what is changed in the example over five pairs, and the refusal with its place; nothing lent changes.
+#[test]
+fn traces_refused() {
+    let definition = Definition::base();
+    let changes: [(fn(&mut Lent), u8, usize); 24] = [
+        (|lent| lent.events.truncate(55), 1, 0),
+        (|lent| lent.events.truncate(43), 1, 0),
+        (|lent| lent.events.truncate(42), 1, 0),
+        (|lent| lent.pairs.truncate(6), 1, 0),
+        (|lent| lent.verdicts.push(0), 1, 0),
+        (|lent| lent.duties.clear(), 1, 0),
+        (|lent| lent.after_sets.truncate(3), 1, 0),
+        (|lent| (lent.after_sets, lent.table[0], lent.events[1]) = (vec![0; 5], 128, 2), 1, 0),
+        (|lent| lent.table[4] = 128, 2, 4),
+        (|lent| (lent.table[3], lent.table[1]) = (255, 200), 2, 1),
+        (|lent| (lent.table[2], lent.events[1], lent.pairs[0]) = (128, 2, 5), 2, 2),
+        (|lent| lent.set_pair(0, 5), 3, 0),
+        (|lent| lent.set_pair(3, 256), 3, 3),
+        (|lent| lent.set_pair(2, 65_535), 3, 2),
+        (|lent| (lent.pairs[4], lent.events[28], lent.events[41]) = (5, 0, 8), 3, 2),
+        (|lent| (lent.pairs[4], lent.pairs[2]) = (5, 6), 3, 1),
+        (|lent| lent.events[14 + 13] = 8, 4, 1),
+        (|lent| (lent.events[14], lent.events[14 + 6]) = (0, 32), 4, 1),
+        (|lent| (lent.events[4], lent.pairs[2]) = (4, 5), 4, 0),
+        (|lent| lent.events[0] = 7, 5, 0),
+        (|lent| lent.events[42] = 0, 5, 3),
+        (|lent| (lent.events[14], lent.pairs[4], lent.events[28 + 1]) = (9, 5, 2), 5, 1),
+        (|lent| lent.table.clear(), 3, 0),
+        (|lent| lent.table = vec![0; 4_097], 1, 0),
+    ];
+    for (n, (change, refusal, place)) in changes.into_iter().enumerate() {
+        let mut lent = lent(&EXAMPLE, &[0, 1, 0, 4], &[127; 5]);
+        change(&mut lent);
+        assert_eq!(judge(&definition, &lent), Judged { refusal, place, lent: lent.clone() }, "change {n}");
+    }
+    let most = |events: usize| lent(&vec![WITH_NDERR; events], &vec![4_095; events], &[8; 4_096]);
+    let judged = judge(&definition, &most(4_096));
+    assert_eq!((judged.refusal, judged.place, judged.lent.table[4_095]), (0, 4_096, 1));
+    assert_eq!((&judged.lent.duties[..2], &judged.lent.table[..4_095]), (&[3, 0][..], &[8; 4_095][..]));
+    assert_eq!(judge(&definition, &most(4_097)).refusal, 1);
+}
+
+/// Histories counted by hand.
+#[test]
+fn histories() {
+    let definition = Definition::base();
+    let count = |events: &[[u8; 14]], set: u8| enumerate(&definition, &lent(events, &[0; 4], &[set])).1;
+    // UC and SC step to SC and to I under Invalid and under Clean tags.
+    assert_eq!(count(&[TO_SC], 127), 7 + 8);
+    // The four that ended in SC go on, four ways each, and none passes an event that only UD and SD have.
+    assert_eq!(count(&[TO_SC; 2], 127), 7 + 8 + 16);
+    assert_eq!(count(&[TO_SC, TO_SC, EXAMPLE[2], TO_SC], 127), 7 + 8 + 16);
+    assert_eq!(count(&[TO_SC], 0), 0);
+    // A step exists exactly where an event alone has it.
+    for event in EXAMPLE.iter().chain([&TO_SC, &WITH_NDERR, &TO_REQUESTER]) {
+        let sets = alone(&definition, event).sets;
+        for (before, after) in (0..49).map(|n| (n / 7, n % 7)) {
+            let any = (0..3).any(|tag| permitted(&definition, event, tag, before, after));
+            assert_eq!(any, holds(sets[usize::from(before)], after));
+        }
+        for set in 0..128 {
+            let union = (0..7).filter(|n| holds(set, *n)).fold(0, |union, n| union | sets[usize::from(n)]);
+            assert_eq!(step(&definition, event, set), union);
+        }
+    }
+}
+
+/// The header with its CRLF.
+const HEAD: &str = "pair,request,RetToSrc,DoNotGoToSD,excl,tag,response,TagOp,RespErr,forward,final\r\n";
+/// A line that leaves its pair in I or SC, with the duty to Home, and what is told of it as event 0.
+const GOOD: &str = "0,SnpShared,0,0,0,Invalid,SnpRespData_SC_PD,Invalid,OK,-,?";
+const TOLD: &str = "0,explained,Home,I SC\r\n";
+
+/// Asserts that a sheet is answered with this after the output's header.
+fn answered(definition: &Definition, sheet: &[u8], output: &str) {
+    let own = sheet::answer(definition, sheet);
+    let expected = format!("event,verdict,duty,states\r\n{output}");
+    assert_eq!(String::from_utf8_lossy(&own.output), expected, "{}", sheet.escape_ascii());
+}
+
+/// Sheets worked out by hand: what follows the header, and what follows the output's header.
+#[test]
+fn sheets() {
+    let definition = Definition::base();
+    let x = "x".repeat(200_000);
+    let long = |length: usize, end: &str| format!("{}{end}", &x[..length]);
+    let sheets = [
+        ("", ""),
+        (&format!("{GOOD}\r\n"), TOLD),
+        (GOOD, TOLD),
+        (&format!("{GOOD}\r\n\r\n"), &format!("{TOLD}refused,8,3\r\n")),
+        (&format!("{GOOD}\r\n\r"), &format!("{TOLD}refused,8,3\r\n")),
+        (&format!("{GOOD}\r\n\n"), &format!("{TOLD}refused,8,3\r\n")),
+        (&format!("{GOOD}\r\r\n{GOOD}"), "refused,8,2\r\n"),
+        (&format!("{GOOD}\n{GOOD}"), "refused,8,2\r\n"),
+        (&format!("\r\n{GOOD}"), "refused,8,2\r\n"),
+        (HEAD, "refused,8,2\r\n"),
+        (&long(160, "\r\n"), "refused,8,2\r\n"),
+        (&long(161, "\r\n"), "refused,7,2\r\n"),
+        (&long(160, ""), "refused,8,2\r\n"),
+        (&long(161, ""), "refused,7,2\r\n"),
+        (&long(159, "\r\r\n"), "refused,8,2\r\n"),
+        (&long(160, "\r\r\n"), "refused,7,2\r\n"),
+        (&long(160, "\r"), "refused,7,2\r\n"),
+        (&long(160, "\n"), "refused,7,2\r\n"),
+        (&long(200_000, ""), "refused,7,2\r\n"),
+        (
+            "4095,SnpCleanFwd,0,0,0,?,SnpResp_SC_Fwded_SD_PD,Invalid,OK,CompData_SD_PD,?\r\n\
+             0,SnpShared,0,0,0,?,SnpResp_I,Invalid,NDERR,-,?\r\n\
+             4095,SnpShared,0,0,0,?,SnpResp_I,Invalid,NDERR,-,I\r\n\
+             15,SnpNotSharedDirty,1,0,1,Dirty,SnpRespData_SD,Update,DERR,-,SD\r\n\
+             16,SnpPreferUnique,1,1,0,Clean,SnpRespData_SD,Match,OK,-,SD\r\n\
+             15,SnpPreferUniqueFwd,0,0,0,Invalid,SnpResp_I_Fwded_UD_PD,Invalid,OK,CompData_UD_PD,I\r\n\
+             16,SnpNotSharedDirtyFwd,0,0,0,Invalid,SnpRespDataPtl_I_PD,Invalid,EXOK,-,UDP\r\n\
+             7,SnpPreferUniqueFwd,0,0,0,Invalid,SnpResp_SC_Fwded_SC,Transfer,OK,-,UCE\r\n",
+            "0,explained,Requester,I SC\r\n1,explained,lost,I\r\n2,explained,none,I\r\n3,explained,none,SD\r\n\
+             4,unexplained,none,\r\n5,explained,Requester,I\r\n6,not judged,none,\r\n7,unexplained,none,\r\n",
+        ),
+    ];
+    for (rest, output) in sheets {
+        answered(&definition, format!("{HEAD}{rest}").as_bytes(), output);
+    }
+    for first in ["", "\r\n", "\r", "x", GOOD, &HEAD[1..], &HEAD[..78], &HEAD.replace("\r\n", "\r\r\n"), &format!(" {HEAD}")] {
+        answered(&definition, first.as_bytes(), "refused,6,1\r\n");
+    }
+    answered(&definition, HEAD.trim_end().as_bytes(), "");
+    assert_eq!(lines(b"a\n\r\r\n\r\nb\r"), [&b"a\n\r"[..], b"", b"b\r"]);
+}
+
+/// Fields that make a line good or bad: the column, the fields that are known there, and some that are not.
+#[test]
+fn fields() {
+    let definition = Definition::base();
+    let columns = [
+        ("0 1 9 10 99 100 999 1000 4095", "00 01 007 0000 04095 10000 65536 1a -1 +1 1/ 1: / : ? -"),
+        (
+            "SnpShared SnpClean SnpNotSharedDirty SnpCleanFwd SnpNotSharedDirtyFwd SnpPreferUnique SnpPreferUniqueFwd",
+            "SnpUnique snpShared SnpSharedFwd - 1",
+        ),
+        ("0 1", "2 00 01 - ? x"),
+        ("0 1", "2 11 -1 true"),
+        ("0 1", "I 10 0x1"),
+        ("Invalid Clean Dirty ?", "Update - invalid not-seen ??"),
+        (
+            "SnpResp_I SnpResp_SC SnpRespData_I SnpRespData_SC SnpRespData_SD SnpRespData_I_PD SnpRespData_SC_PD \
+             SnpRespDataPtl_I_PD SnpResp_I_Fwded_SC SnpResp_SC_Fwded_SC SnpResp_SD_Fwded_SC SnpResp_I_Fwded_SD_PD \
+             SnpResp_SC_Fwded_SD_PD SnpResp_I_Fwded_UC SnpResp_I_Fwded_UD_PD SnpRespData_I_Fwded_SC \
+             SnpRespData_SC_Fwded_SC SnpRespData_SD_Fwded_SC SnpRespData_I_Fwded_SD_PD SnpRespData_SC_Fwded_SD_PD \
+             SnpRespData_I_PD_Fwded_SC SnpRespData_SC_PD_Fwded_SC",
+            "SnpResp_SC_PD SnpRespDataPtl_I SnpResp_I_Fwded SnpRespData_SD_Fwded_SD_PD SnpResp ?",
+        ),
+        ("Invalid Transfer Update Match", "Clean ? -"),
+        ("OK EXOK DERR NDERR", "Ok ? -"),
+        ("- CompData_SC CompData_UC CompData_UD_PD CompData_SD_PD", "CompData_I ? SC"),
+        ("I UC UCE UD UDP SC SD ?", "- SCE i \"I\" I\0"),
+    ];
+    let refused = |column: usize, field: &str| {
+        let mut fields: Vec<&str> = GOOD.split(',').collect();
+        fields[column] = field;
+        let line = format!("{HEAD}{}", fields.join(","));
+        sheet::answer(&definition, line.as_bytes()).refusal
+    };
+    for (column, (known, unknown)) in columns.into_iter().enumerate() {
+        known.split(' ').for_each(|field| assert_eq!(refused(column, field), None, "{field}"));
+        for field in unknown.split(' ').chain(["", " 0", "0 "]) {
+            assert_eq!(refused(column, field), Some((8, 2)), "{field}");
+        }
+    }
+    ["4096", "4097", "9999"].iter().for_each(|pair| assert_eq!(refused(0, pair), Some((3, 2))));
+    // 7 comes before 8, and 8 before 3.
+    assert_eq!((refused(0, "4096,"), refused(0, "4096,x")), (Some((8, 2)), Some((8, 2))));
+    assert_eq!(refused(10, &" ".repeat(104)), Some((7, 2)));
+    assert_eq!(refused(10, &" ".repeat(103)), Some((8, 2)));
+}
+
+/// Captures worked out by hand: records, the output and what stops the run.
+#[test]
+#[rustfmt::skip]
+fn captures() {
+    let definition = Definition::base();
+    let record = |pair: u16, event: &[u8]| [&pair.to_le_bytes()[..], event].concat();
+    let plain = |count: usize| record(1, &[1, 0, 0, 0, 3, 0, 1, 0, 0, 0, 0, 0, 0, 7]).repeat(count);
+    let example = EXAMPLE.map(|event| record(0, &event)).concat();
+    let (to_sd, nderr) = (record(9, &EXAMPLE[2]), record(9, &WITH_NDERR));
+    let bad = |pair: u16, place: usize, value: u8| {
+        let mut record = record(pair, &EXAMPLE[0]);
+        record[place] = value;
+        record
+    };
+    let captures: [(Vec<u8>, &str, Option<(u8, usize)>); 13] = [
+        (vec![], "0 events: 0 explained, 0 unexplained, 0 not judged\n", None),
+        (example.clone(), "event 0, pair 0: Home holds the duty\nevent 2, pair 0: unexplained\n\
+             4 events: 2 explained, 1 unexplained, 1 not judged\n", None),
+        ([&record(4_095, &TO_REQUESTER)[..], &to_sd, &nderr].concat(),
+             "event 0, pair 4095: the Requester holds the duty\nevent 2, pair 9: the duty is lost\n\
+             3 events: 3 explained, 0 unexplained, 0 not judged\n", None),
+        ([&to_sd[..], &plain(4_095), &nderr, &to_sd].concat(),
+             "event 4096, pair 9: the duty is lost\nevent 4097, pair 9: unexplained\n\
+             4098 events: 4097 explained, 1 unexplained, 0 not judged\n", None),
+        (plain(8_192), "8192 events: 8192 explained, 0 unexplained, 0 not judged\n", None),
+        ([&example[..], &bad(0, 1, 16)].concat(), "", Some((3, 4))),
+        ([&example[..], &bad(0, 15, 8), &plain(9)].concat(), "", Some((4, 4))),
+        ([&example[..16], &plain(4_094), &bad(0, 2, 3)].concat(), "", Some((5, 4_095))),
+        ([&example[..16], &plain(4_095), &bad(0, 2, 3)].concat(), "event 0, pair 0: Home holds the duty\n", Some((5, 4_096))),
+        (example[..15].to_vec(), "", Some((0, 0))),
+        ([&bad(0, 2, 3)[..], &example[..1]].concat(), "", Some((0, 1))),
+        ([&example[..16], &plain(4_095), &[1]].concat(), "event 0, pair 0: Home holds the duty\n", Some((0, 4_096))),
+        ([&bad(0, 2, 3)[..], &plain(4_095), &[1]].concat(), "", Some((5, 0))),
+    ];
+    for (n, (records, output, stop)) in captures.into_iter().enumerate() {
+        let own = capture::answer(&definition, &records);
+        assert_eq!((String::from_utf8_lossy(&own.output), own.stop), (output.into(), stop), "capture {n}");
+    }
+    let stopped = |stop| capture::Answered { stop: Some(stop), ..Default::default() }.message();
+    assert_eq!(stopped((5, 4_097)), "capture: refused with 5 at event 4097\n");
+    assert_eq!(stopped((0, 12)), "capture: it ends within event 12\n");
+    let whole = format!("{HEAD}{GOOD}\r\n258,{}\r\nx", &GOOD[2..]);
+    let expected = ([record(0, &EXAMPLE[0]), record(258, &EXAMPLE[0])].concat(), Some((8, 4)));
+    assert_eq!(capture::of_sheet(&definition, whole.as_bytes()), expected);
+}

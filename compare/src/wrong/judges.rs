@@ -1,0 +1,435 @@
+//! The wrong judges, each with what it does.
+
+use crate::cases::text::fields_of;
+use crate::cases::wire::{handed_over, lent_in, trace_case};
+use crate::definition::capture::{self, record_bytes};
+use crate::definition::codes::*;
+use crate::definition::event::{alone, is_request, refusal};
+use crate::definition::rows::{Row, B4_46, NDERR_ROW};
+use crate::definition::sheet::{lines, CRLF, OUTPUT_HEADER};
+use crate::definition::trace::{event_of, judge_event, refused, whole_events, Lent};
+use crate::definition::values::Definition;
+use crate::running::arrival::Arrival;
+use crate::running::call::Answer;
+use crate::wrong::noticing::{Flaw, Wrong};
+use std::ops::RangeInclusive;
+use Flaw::{Gets, Given, Tells, Value};
+
+/// All the wrong judges, by the call that each answers.
+#[rustfmt::skip]
+pub const WRONG: &[Wrong] = &[
+    // One event. Its record has the event from byte 1 on; its answer has refusal, place, seven sets and seven duties.
+    wrong("event", "SC in the answer is taken as SC kept", Value(|d| rows(d, |row| row.after.truncate(1)))),
+    wrong("event", "UC with SnpRespData_I ends in SC", Value(|d| row(d, B4_46, "SnpRespData_I").after = vec![5])),
+    wrong("event", "a row for UD and SD is for UD alone", Value(|d| row(d, "B4.57", "SnpResp_SC_Fwded_SD_PD").before = vec![UD])),
+    wrong("event", "RetToSrc is ignored", Value(|d| rows(d, |row| row.ret_to_src = None))),
+    wrong("event", "DoNotGoToSD is ignored", Given(|_, record| record[1 + byte::DO_NOT_GO_TO_SD] &= 254)),
+    wrong("event", "excl is ignored", Given(|_, record| instead(record, byte::EXCL, 1, 0))),
+    wrong("event", "B4.60 is never used", Given(|_, record| instead(record, byte::EXCL, 0, 1))),
+    wrong("event", "B4.60 is used alone where excl is 0", Tells(|d, record, answer| {
+        if answer.output[0] == 0 && record[1 + byte::REQUEST] == 22 && record[1 + byte::EXCL] == 0 {
+            let mut other = d.clone();
+            other.rows.retain(|row| row.table != "B4.59");
+            let alone = alone(&other, handed_over(record));
+            answer.output = [&[0, 1][..], &alone.sets, &alone.duties].concat();
+        }
+    })),
+    wrong("event", "SnpPreferUnique stands in no table", Value(|d| d.tables[0].1.retain(|request| *request != 21))),
+    wrong("event", "Dirty tags are taken for Invalid", Given(|_, record| instead(record, byte::TAG, 2, 0))),
+    wrong("event", "tags not seen are taken for Invalid", Given(|_, record| instead(record, byte::TAG, 3, 0))),
+    wrong("event", "a state after not seen is taken for I", Given(|_, record| instead(record, byte::AFTER, 7, 0))),
+    wrong("event", "EXOK is taken for OK", Given(|_, record| instead(record, byte::RESP_ERR, 1, 0))),
+    wrong("event", "Match is taken for Update", Given(|_, record| instead(record, byte::TAG_OP, 3, 2))),
+    wrong("event", "plain data follows the tag column of B4.57", Value(|d| d.any_tag_op.clear())),
+    wrong("event", "B4.57 takes any TagOp", Value(|d| d.any_tag_op.push("B4.57"))),
+    wrong("event", "FwdState 5 with CompData 5 is taken for UC", Given(|_, record| {
+        if [record[1 + byte::FWD_STATE], record[1 + byte::FORWARDED_RESP]] == [5, 5] {
+            (record[1 + byte::FWD_STATE], record[1 + byte::FORWARDED_RESP]) = (2, 2);
+        }
+    })),
+    wrong("event", "the forwarded data's Resp is not looked at", Given(|_, record| {
+        if record[1 + byte::FORWARDED_RESP] < 8 {
+            record[1 + byte::FORWARDED_RESP] = record[1 + byte::FWD_STATE];
+        }
+    })),
+    wrong("event", "NDERR from a Dirty line is illegal", Value(|d| {
+        rows(d, |row| row.before.retain(|state| row.table != NDERR_ROW || !holds_dirty(1 << state)))
+    })),
+    wrong("event", "data to Home is duty to Home", Tells(|_, record, answer| {
+        if record[1 + byte::CHANNEL] == DAT {
+            answer.output[9..].iter_mut().filter(|duty| **duty == 2).for_each(|duty| *duty = 1);
+        }
+    })),
+    wrong("event", "a duty is told where no step is", Tells(|_, record, answer| {
+        if answer.output[0] == 0 && RESPS_WITH_PD.contains(&record[1 + byte::RESP]) {
+            answer.output[9..].fill(1);
+        }
+    })),
+    wrong("event", "5 is told before 4", Tells(|d, record, answer| {
+        if answer.output[0] == 4 && !is_request(d, record[1]) {
+            answer.output[0] = 5;
+        }
+    })),
+    wrong("event", "opcode 31 is out of range", Value(|d| d.limits[byte::OPCODE] = 30)),
+    wrong("event", "a state after of 8 is in range", Value(|d| d.limits[byte::AFTER] = 8)),
+    wrong("event", "SnpOnce is judged", Value(|d| d.requests.push(("SnpOnce", 3)))),
+    wrong("event", "a refused event has place 1", Tells(|_, _, answer| answer.output[1] = 1)),
+    wrong("event", "of too many bytes the first are read", Given(|d, record| record[0] = record[0].min(d.event_bytes() as u8))),
+    wrong("event", "one byte too few is read as an event", Given(|d, record| {
+        record[0] += u8::from(usize::from(record[0]) + 1 == d.event_bytes());
+    })),
+    // A whole trace. Its answer has refusal, place in 32 bits, table, verdicts, duties and after-sets.
+    wrong("trace", "a refusal clears the verdicts", Tells(|_, case, answer| {
+        let lent = lent_in(case);
+        if answer.output[0] != 0 {
+            answer.output[5 + lent.table.len()..][..lent.verdicts.len()].fill(0);
+        }
+    })),
+    wrong("trace", "a refusal leaves the events before it judged", Tells(|d, case, answer| {
+        retell(d, case, answer, true, |_, _, told| told);
+    })),
+    wrong("trace", "the table is left as lent", Tells(|_, case, answer| {
+        let table = lent_in(case).table;
+        answer.output[5..][..table.len()].copy_from_slice(&table);
+    })),
+    wrong("trace", "a pair's number is its low byte", Given(|_, case| {
+        change(case, |lent| lent.pairs.iter_mut().skip(1).step_by(2).for_each(|byte| *byte = 0));
+    })),
+    wrong("trace", "of several bad sets the last is told", Tells(|_, case, answer| {
+        if let (2, Some(pair)) = (answer.output[0], lent_in(case).table.iter().rposition(|set| *set > 127)) {
+            refuse(answer, 2, pair);
+        }
+    })),
+    wrong("trace", "128 is taken for the empty set", Given(|d, case| {
+        if refused(d, &lent_in(case)).0 == 2 {
+            change(case, |lent| lent.table.iter_mut().filter(|set| **set == 128).for_each(|set| *set = 0));
+        }
+    })),
+    wrong("trace", "a set in the middle of a table may be anything", Given(|d, case| {
+        if let (2, pair @ 301..=4_094) = refused(d, &lent_in(case)) {
+            change(case, |lent| lent.table[pair] = 0);
+        }
+    })),
+    wrong("trace", "an event in the middle of a trace may be anything", Given(|d, case| {
+        let lent = lent_in(case);
+        let last = lent.verdicts.len().saturating_sub(1);
+        if let (3..=5, event) = refused(d, &lent) {
+            if event > 64 && event < last {
+                change(case, |lent| {
+                    lent.set_pair(event, 0);
+                    lent.events.copy_within(0..d.event_bytes(), event * d.event_bytes());
+                });
+            }
+        }
+    })),
+    wrong("trace", "a bad set is told before too many events", Tells(|d, case, answer| {
+        let (lent, most) = (lent_in(case), Definition { most_events: usize::MAX, ..d.clone() });
+        if let (1, (2, pair)) = (answer.output[0], refused(&most, &lent)) {
+            refuse(answer, 2, pair);
+        }
+    })),
+    wrong("trace", "a bad event is told before too many pairs", Tells(|d, case, answer| {
+        let (lent, most) = (lent_in(case), Definition { most_pairs: usize::MAX, ..d.clone() });
+        if let (1, (number @ 3..=5, event)) = (answer.output[0], refused(&most, &lent)) {
+            refuse(answer, number, event);
+        }
+    })),
+    wrong("trace", "a short room for after-sets is told last where events are many", Tells(|d, case, answer| {
+        let mut lent = lent_in(case);
+        if lent.verdicts.len() > 64 && lent.after_sets.len() < lent.verdicts.len() {
+            lent.after_sets.resize(lent.verdicts.len(), 0);
+            if let (1, (number @ 2..=5, place)) = (answer.output[0], refused(d, &lent)) {
+                refuse(answer, number, place);
+            }
+        }
+    })),
+    wrong("trace", "4,096 events are too many", Value(|d| d.most_events -= 1)),
+    wrong("trace", "4,097 pairs are not too many", Value(|d| d.most_pairs += 1)),
+    wrong("trace", "bytes past the last whole event are passed over", Given(|d, case| {
+        change(case, |lent| lent.events.truncate(whole_events(d, lent) * d.event_bytes()));
+    })),
+    wrong("trace", "a bad set is told before a wrong length", Tells(|_, case, answer| {
+        if let (1, Some(pair)) = (answer.output[0], lent_in(case).table.iter().position(|set| *set > 127)) {
+            refuse(answer, 2, pair);
+        }
+    })),
+    wrong("trace", "a bad event is told before a bad set", Tells(|d, case, answer| {
+        let mut lent = lent_in(case);
+        lent.table.fill(0);
+        if let (2, (number @ 3..=5, place)) = (answer.output[0], refused(d, &lent)) {
+            refuse(answer, number, place);
+        }
+    })),
+    wrong("trace", "all pair numbers are looked at first", Tells(|_, case, answer| {
+        let lent = lent_in(case);
+        let bad = (0..lent.verdicts.len()).find(|n| lent.pair(*n).is_some_and(|pair| pair >= lent.table.len()));
+        if let (4 | 5, Some(event)) = (answer.output[0], bad) {
+            refuse(answer, 3, event);
+        }
+    })),
+    wrong("trace", "a bad byte is told before a bad pair number", Tells(|d, case, answer| {
+        let lent = lent_in(case);
+        if let (3, place) = refused(d, &lent) {
+            if let number @ 4..=5 = refusal(d, event_of(d, &lent, place)) {
+                refuse(answer, number, place);
+            }
+        }
+    })),
+    wrong("trace", "an unexplained event leaves the set", Tells(|d, case, answer| {
+        retell(d, case, answer, false, |_, before, told| if told[0] == UNEXPLAINED { [1, 0, before] } else { told });
+    })),
+    wrong("trace", "a lost pair's event is unexplained", Tells(|d, case, answer| {
+        retell(d, case, answer, false, |_, _, told| [told[0].min(1), told[1], told[2]]);
+    })),
+    wrong("trace", "the set of a lost pair becomes all states", Tells(|d, case, answer| {
+        retell(d, case, answer, false, |_, before, told| if before == 0 { [2, 0, ALL_STATES] } else { told });
+    })),
+    wrong("trace", "of the states after one is kept", Tells(|d, case, answer| {
+        retell(d, case, answer, false, |_, _, told| [told[0], told[1], told[2] & told[2].wrapping_neg()]);
+    })),
+    wrong("trace", "lost is told whatever the set before", Tells(|d, case, answer| {
+        let lent = lent_in(case);
+        let nderr = |n: usize| event_of(d, &lent, n)[byte::RESP_ERR] == NDERR;
+        retell(d, case, answer, false, |n, _, told| if told[0] == 0 && nderr(n) { [0, 3, told[2]] } else { told });
+    })),
+    wrong("trace", "all events are told what the first is", Tells(|d, case, answer| {
+        let mut first = None;
+        retell(d, case, answer, false, |_, _, told| *first.get_or_insert(told));
+    })),
+    wrong("trace", "the place of an accepted trace is 0", Tells(|_, _, answer| {
+        if answer.output[0] == 0 {
+            refuse(answer, 0, 0);
+        }
+    })),
+    // A bench sheet.
+    wrong("sheet", "LF alone ends a line", Given(|_, sheet| *sheet = replaced(&replaced(sheet, CRLF, b"\n"), b"\n", CRLF))),
+    wrong("sheet", "a CR before the CRLF is dropped", Given(|_, sheet| *sheet = replaced(sheet, b"\r\r\n", CRLF))),
+    wrong("sheet", "a pair may have leading zeros", Given(|_, sheet| {
+        let number = |line: &[u8]| {
+            let zeros = line.iter().take_while(|byte| **byte == b'0').count();
+            let more = line.get(zeros).is_some_and(u8::is_ascii_digit);
+            line[if more { zeros } else { zeros.saturating_sub(1) }..].to_vec()
+        };
+        *sheet = sheet.split_inclusive(|byte| *byte == b'\n').flat_map(number).collect();
+    })),
+    wrong("sheet", "a colon is taken for a digit", Given(|_, sheet| *sheet = replaced(sheet, b":", b"9"))),
+    wrong("sheet", "quotes are taken off", Given(|_, sheet| *sheet = replaced(sheet, b"\"", b""))),
+    wrong("sheet", "an empty line at the end is passed over", Given(|_, sheet| {
+        if sheet.ends_with(b"\r\n\r\n") {
+            sheet.truncate(sheet.len() - 2);
+        }
+    })),
+    wrong("sheet", "capitals of the header do not matter", Given(|d, sheet| {
+        let length = d.header.len().min(sheet.len());
+        if sheet[..length].eq_ignore_ascii_case(d.header.as_bytes()) {
+            sheet[..length].copy_from_slice(d.header.as_bytes());
+        }
+    })),
+    wrong("sheet", "a last line without its CRLF is passed over", Given(|_, sheet| {
+        let end = sheet.windows(2).rposition(|two| two == CRLF);
+        sheet.truncate(end.map_or(0, |end| end + 2));
+    })),
+    wrong("sheet", "a line can have 161 bytes", Value(|d| d.longest_line += 1)),
+    wrong("sheet", "the CRLF counts among the 160 bytes", Value(|d| d.longest_line -= 2)),
+    wrong("sheet", "there can be a line more", Value(|d| d.most_lines += 1)),
+    wrong("sheet", "pair 4095 is refused", Value(|d| d.most_pairs -= 1)),
+    wrong("sheet", "a pair can have five digits", Value(|d| d.pair_digits += 1)),
+    wrong("sheet", "CompData_UC is not known", Value(|d| rows(d, |row| {
+        if row.forward.name == "CompData_UC" {
+            row.forward.name = "CompData_none";
+        }
+    }))),
+    wrong("sheet", "3 is told before 8", Tells(|d, sheet, answer| {
+        let number = lines(&answer.output).len();
+        if answer.output.ends_with(format!("refused,8,{number}\r\n").as_bytes()) {
+            let pair = String::from_utf8_lossy(&fields_of(lines(sheet)[number - 1])[0]).to_string();
+            if pair.len() <= 4 && pair.parse().is_ok_and(|pair: usize| pair >= d.most_pairs) {
+                answer.output = replaced(&answer.output, b"refused,8", b"refused,3");
+            }
+        }
+    })),
+    wrong("sheet", "lines end in LF", Tells(|_, _, answer| answer.output = replaced(&answer.output, CRLF, b"\n"))),
+    wrong("sheet", "event 1000 is told as 000", Tells(|_, _, answer| {
+        answer.output = replaced(&answer.output, b"\n1000,", b"\n000,");
+    })),
+    wrong("sheet", "SC is named before I", Tells(|_, _, answer| {
+        answer.output = replaced(&answer.output, b"I SC\r", b"SC I\r");
+    })),
+    wrong("sheet", "answers before a refusal are taken back", Tells(|_, _, answer| {
+        if let Some(place) = answer.output.windows(7).position(|bytes| bytes == b"refused") {
+            answer.output.drain(OUTPUT_HEADER.len() + 2..place);
+        }
+    })),
+    wrong("sheet", "a CRLF that two reads part is no end", Gets(|arrival, sheet| {
+        let pieces = arrival.pieces(sheet);
+        let next = |n: usize| pieces.get(n + 1).map(|next| next[0]);
+        let parted = |n: usize| pieces[n].ends_with(b"\r") && next(n) == Some(b'\n');
+        (0..pieces.len()).flat_map(|n| pieces[n][..pieces[n].len() - usize::from(parted(n))].to_vec()).collect()
+    })),
+    wrong("sheet", "a byte is lost after 4,096 in one read", Gets(|arrival, sheet| {
+        if arrival == Arrival::Pipe { lose(sheet, 4_096, 0..=255) } else { sheet.to_vec() }
+    })),
+    wrong("sheet", "a CR is lost before byte 131,072 of a file", Gets(|arrival, sheet| {
+        if arrival == Arrival::File { lose(sheet, 131_072, 13..=13) } else { sheet.to_vec() }
+    })),
+    wrong("sheet", "a CR is lost before byte 1,048,576 of a file", Gets(|arrival, sheet| {
+        if arrival == Arrival::File { lose(sheet, 1 << 20, 13..=13) } else { sheet.to_vec() }
+    })),
+    wrong("sheet", "one read is taken for all", Gets(first_piece)),
+    // A capture.
+    wrong("capture", "one read is taken for all", Gets(first_piece)),
+    wrong("capture", "standard input is read though a file is named", Gets(|arrival, capture| match arrival {
+        Arrival::Named => b"x".to_vec(),
+        _ => capture.to_vec(),
+    })),
+    wrong("capture", "the high byte of a pair comes first", Given(|d, capture| {
+        capture.chunks_exact_mut(record_bytes(d)).for_each(|record| record.swap(0, 1));
+    })),
+    wrong("capture", "bytes past the last whole record are passed over", Given(|d, capture| {
+        capture.truncate(capture.len() / record_bytes(d) * record_bytes(d));
+    })),
+    wrong("capture", "a part starts from all states again", Tells(|d, capture, answer| {
+        let part = d.most_events * record_bytes(d);
+        if answer.status == 0 && capture.len() > part {
+            let last = answer.output.split_inclusive(|byte| *byte == b'\n').next_back().unwrap_or(&[]).to_vec();
+            let parts = capture.chunks(part).enumerate().map(|(n, bytes)| (n * d.most_events, capture::answer(d, bytes)));
+            let events = parts.flat_map(|(first, part)| renumbered(&part.output, |event| event + first));
+            answer.output = events.filter(|line| line.starts_with(b"event")).flatten().chain(last).collect();
+        }
+    })),
+    wrong("capture", "events are counted from the first of their part", Tells(|d, _, answer| {
+        answer.output = renumbered(&answer.output, |event| event % d.most_events).concat();
+    })),
+    wrong("capture", "what was told is taken back at a refusal", Tells(|_, _, answer| {
+        if answer.status == 1 {
+            answer.output.clear();
+        }
+    })),
+    wrong("capture", "a refusal ends with status 0", Tells(|_, _, answer| {
+        if answer.complaint.starts_with(b"capture: refused") {
+            answer.status = 0;
+        }
+    })),
+    wrong("capture", "a refusal says nothing", Tells(|_, _, answer| {
+        if answer.complaint.starts_with(b"capture: refused") {
+            answer.complaint.clear();
+        }
+    })),
+    wrong("capture", "a cut ends with status 0", Tells(|_, _, answer| {
+        if answer.complaint.starts_with(b"capture: it ends") {
+            answer.status = 0;
+        }
+    })),
+    wrong("capture", "a lost duty is not told", Tells(|_, _, answer| {
+        let lines = answer.output.split_inclusive(|byte| *byte == b'\n');
+        answer.output = lines.filter(|line| !line.ends_with(b"lost\n")).collect::<Vec<&[u8]>>().concat();
+    })),
+];
+
+/// A wrong judge by its columns.
+const fn wrong(call: &'static str, name: &'static str, flaw: Flaw) -> Wrong {
+    Wrong { call, name, flaw }
+}
+
+/// The first row of a table that has a response.
+fn row<'a>(definition: &'a mut Definition, table: &str, response: &str) -> &'a mut Row {
+    let row = definition.rows.iter_mut().find(|row| row.table == table && row.response.name == response);
+    row.expect("there is such a row")
+}
+
+/// Changes all the rows.
+fn rows(definition: &mut Definition, change: fn(&mut Row)) {
+    definition.rows.iter_mut().for_each(change);
+}
+
+/// Puts a value in the place of another into a byte of a record's event.
+fn instead(record: &mut [u8], place: usize, value: u8, other: u8) {
+    if handed_over(record).get(place) == Some(&value) {
+        record[1 + place] = other;
+    }
+}
+
+/// Changes what is lent in a trace's case.
+fn change(case: &mut Vec<u8>, change: impl FnOnce(&mut Lent)) {
+    let mut lent = lent_in(case);
+    change(&mut lent);
+    *case = trace_case(&lent);
+}
+
+/// Gives an answer to a trace another number and place.
+fn refuse(answer: &mut Answer, number: u8, place: usize) {
+    answer.output[0] = number;
+    answer.output[1..5].copy_from_slice(&(place as u32).to_le_bytes());
+}
+
+/// Tells the events of a trace anew, all of an accepted one: an event's number, its pair's set before and what is right of it
+/// give its verdict, its duty and the set after.
+fn retell<T>(definition: &Definition, case: &[u8], answer: &mut Answer, before_refusal: bool, mut tell: T)
+where
+    T: FnMut(usize, u8, [u8; 3]) -> [u8; 3],
+{
+    let mut lent = lent_in(case);
+    let (refusal, place) = refused(definition, &lent);
+    if refusal == 1 || refusal == 2 || refusal != 0 && !before_refusal {
+        return;
+    }
+    for n in 0..place {
+        let pair = lent.pair(n).expect("an event before a refusal has a pair");
+        let before = lent.table[pair];
+        let told = tell(n, before, judge_event(definition, event_of(definition, &lent, n), before));
+        [lent.verdicts[n], lent.duties[n], lent.after_sets[n]] = told;
+        lent.table[pair] = told[2];
+    }
+    answer.output.truncate(5);
+    lent.parts()[2..].iter().for_each(|part| answer.output.extend(*part));
+}
+
+/// Bytes in which some others stand in the place of these.
+fn replaced(bytes: &[u8], these: &[u8], others: &[u8]) -> Vec<u8> {
+    let mut replaced = Vec::with_capacity(bytes.len());
+    let mut rest = bytes;
+    while let Some(place) = rest.windows(these.len()).position(|window| window == these) {
+        replaced.extend([&rest[..place], others].concat());
+        rest = &rest[place + these.len()..];
+    }
+    [&replaced[..], rest].concat()
+}
+
+/// The first piece of what arrives.
+fn first_piece(arrival: Arrival, input: &[u8]) -> Vec<u8> {
+    arrival.pieces(input).first().map_or(vec![], |piece| piece.to_vec())
+}
+
+/// What is left of a sheet where the byte before each border of reads is lost if it is one of these.
+fn lose(sheet: &[u8], border: usize, bytes: RangeInclusive<u8>) -> Vec<u8> {
+    let lost = |n: usize, byte: u8| n % border == border - 1 && bytes.contains(&byte);
+    sheet.iter().enumerate().filter(|(n, byte)| !lost(*n, **byte)).map(|(_, byte)| *byte).collect()
+}
+
+/// The lines of an output to a capture, with other numbers of events.
+fn renumbered(output: &[u8], number: impl Fn(usize) -> usize) -> Vec<Vec<u8>> {
+    let line = |line: &[u8]| {
+        let text = String::from_utf8_lossy(line).to_string();
+        let event = text.strip_prefix("event ").and_then(|rest| rest.split_once(','));
+        let other = event.and_then(|(event, rest)| Some(format!("event {},{rest}", number(event.parse().ok()?))));
+        other.unwrap_or(text).into_bytes()
+    };
+    output.split_inclusive(|byte| *byte == b'\n').map(line).collect()
+}
+
+#[cfg(test)]
+mod tests {
+    use super::*;
+    use crate::calls::all::CALLS;
+    use crate::wrong::noticing::{few_cases, noticed};
+
+    /// The cases of every call notice each of its wrong judges.
+    #[test]
+    fn wrong_judges_are_noticed() {
+        for call in CALLS {
+            let noticed = noticed(call, &few_cases(call), WRONG);
+            let unnoticed = noticed.iter().filter(|(_, case)| case.is_none()).map(|(wrong, _)| wrong.name);
+            assert_eq!(unnoticed.collect::<Vec<&str>>(), [""; 0], "{}", call.name);
+        }
+    }
+}
