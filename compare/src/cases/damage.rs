@@ -146,40 +146,18 @@ pub fn any_byte(draw: &mut Draw) -> u8 {
     }
 }
 
-/// Does damage to some bytes, whatever they are, and tells which; an end of a line is one of these.
-pub fn damage_bytes(draw: &mut Draw, bytes: &mut Vec<u8>, ends: &[&[u8]]) -> String {
+/// Does damage to some bytes, whatever they are; one of the ends of lines may be put in.
+pub fn damage_bytes(draw: &mut Draw, bytes: &mut Vec<u8>, ends: &[&[u8]]) {
     let place = draw.place(bytes.len() + 1);
-    let what = match draw.below(7) {
-        0 => {
-            bytes.insert(place, any_byte(draw));
-            "a byte more"
-        }
-        1 if place < bytes.len() => {
-            bytes.remove(place);
-            "a byte fewer"
-        }
-        2 if place < bytes.len() => {
-            bytes[place] = any_byte(draw);
-            "another byte"
-        }
-        3 if place + 1 < bytes.len() => {
-            bytes.swap(place, place + 1);
-            "two bytes swapped"
-        }
-        4 => {
-            bytes.truncate(place);
-            "nothing from there on"
-        }
-        5 => {
-            bytes.splice(place..place, draw.one_of(ends).iter().copied());
-            "an end of a line put in"
-        }
-        _ => {
-            bytes.extend_from_within(place..);
-            "the bytes from there on twice"
-        }
-    };
-    format!("byte {place}: {what}")
+    match draw.below(7) {
+        0 => bytes.insert(place, any_byte(draw)),
+        1 if place < bytes.len() => drop(bytes.remove(place)),
+        2 if place < bytes.len() => bytes[place] = any_byte(draw),
+        3 if place + 1 < bytes.len() => bytes.swap(place, place + 1),
+        4 => bytes.truncate(place),
+        5 => drop(bytes.splice(place..place, draw.one_of(ends).iter().copied())),
+        _ => bytes.extend_from_within(place..),
+    }
 }
 
 /// Cuts bytes by fewer than a record has, and tells by how many.

@@ -70,109 +70,68 @@ fn some_pairs(definition: &Definition, draw: &mut Draw, count: usize) -> Vec<usi
     (0..count).map(pair).collect()
 }
 
-/// A sheet of few lines without damage.
-pub fn good(definition: &Definition, draw: &mut Draw) -> Made {
-    let (lines, pairs) = (draw.place(60), draw.one_of(&[1, 2, 3, 5, 9, 20]));
-    good_sheet(definition, draw, lines, pairs)
-}
-
-/// A sheet of many lines and pairs without damage.
-pub fn good_long(definition: &Definition, draw: &mut Draw) -> Made {
-    let (lines, pairs) = (1_000 + draw.place(1_000), 1 + draw.place(1_000));
-    good_sheet(definition, draw, lines, pairs)
-}
-
-/// A sheet without damage, the last CRLF of which may be absent.
-fn good_sheet(definition: &Definition, draw: &mut Draw, lines: usize, pairs: usize) -> Made {
+/// A sheet of so many lines and pairs without damage, the last CRLF of which may be absent.
+pub fn good(definition: &Definition, draw: &mut Draw, lines: usize, pairs: usize) -> Made {
     let form = Form::new(definition);
     let shape = Shape { lines, strays: draw.one_of(&[0, 20, 100, 300]), width: None };
     let some = some_pairs(definition, draw, pairs);
     let whole = form.sheet(&good_lines(&form, draw, &shape, &some));
-    match draw.below(4) {
-        0 => (format!("{lines} lines of {pairs} pairs, without the last CRLF"), without_crlf(whole)),
-        _ => (format!("{lines} lines of {pairs} pairs"), whole),
-    }
+    (format!("{lines} lines of {pairs} pairs"), if draw.one_in(4) { without_crlf(whole) } else { whole })
 }
+
+/// A line and what ends it.
+type Ended = (Vec<u8>, Vec<u8>);
 
 /// A sheet with damage to a line or two, to some bytes, or to both.
 pub fn damaged(definition: &Definition, draw: &mut Draw) -> Made {
     let form = Form::new(definition);
     let shape = Shape { lines: 1 + draw.place(8), strays: 50, width: None };
     let pairs = some_pairs(definition, draw, 3);
-    // Each line with what ends it.
     let lines = [vec![definition.header.into()], good_lines(&form, draw, &shape, &pairs)].concat();
-    let mut parts: Vec<(Vec<u8>, Vec<u8>)> = lines.into_iter().map(|line| (line, CRLF.to_vec())).collect();
-    let mut hows = Vec::new();
+    let mut parts: Vec<Ended> = lines.into_iter().map(|line| (line, CRLF.to_vec())).collect();
     if draw.one_in(4) {
         parts[shape.lines].1.clear();
-        hows.push("no last CRLF".to_string());
     }
     let (to_lines, to_bytes) = draw.one_of(&[(1, 0), (1, 0), (1, 0), (2, 0), (0, 1), (0, 2), (1, 1)]);
     for _ in 0..to_lines {
         let n = if draw.one_in(30) { 0 } else { 1 + draw.place(parts.len() - 1) };
-        hows.push(format!("line {}: {}", n + 1, damage_line(&form, draw, &mut parts, n)));
+        damage_line(&form, draw, &mut parts, n);
     }
     let mut bytes: Vec<u8> = parts.into_iter().flat_map(|(line, end)| [line, end].concat()).collect();
-    for _ in 0..to_bytes {
-        hows.push(damage_bytes(draw, &mut bytes, &OTHER_ENDS));
-    }
-    (hows.join(", then "), bytes)
+    (0..to_bytes).for_each(|_| damage_bytes(draw, &mut bytes, &OTHER_ENDS));
+    (format!("{} lines, damage to {to_lines} of them and {to_bytes} times to bytes", shape.lines), bytes)
 }
 
-/// Does damage to a line, and tells which.
-fn damage_line(form: &Form, draw: &mut Draw, parts: &mut Vec<(Vec<u8>, Vec<u8>)>, n: usize) -> &'static str {
+/// Does damage to a line: to its fields, its length, its end or its bytes, or puts another before it.
+fn damage_line(form: &Form, draw: &mut Draw, parts: &mut Vec<Ended>, n: usize) {
     let (line, end) = &mut parts[n];
     match draw.below(8) {
         0..=3 => damage_fields(form, draw, line),
         4 => {
             let length = if draw.one_in(3) { draw.place(400) } else { form.definition.longest_line - 3 + draw.place(7) };
             line.resize(length, draw.one_of(b"xxx,, 0?\r\n\0"));
-            "another length"
         }
-        5 => {
-            *end = draw.one_of(&OTHER_ENDS).to_vec();
-            "another end"
-        }
+        5 => *end = draw.one_of(&OTHER_ENDS).to_vec(),
         6 => {
             let put = draw.one_of(&[&b""[..], b"", b"\r", b"\n", form.definition.header.as_bytes()]);
             parts.insert(n, (put.to_vec(), CRLF.to_vec()));
-            "a line put before it"
         }
-        _ => {
-            damage_bytes(draw, line, &OTHER_ENDS);
-            "other bytes"
-        }
+        _ => damage_bytes(draw, line, &OTHER_ENDS),
     }
 }
 
-/// Does damage to a field of a line or to their order, and tells which.
-fn damage_fields(form: &Form, draw: &mut Draw, line: &mut Vec<u8>) -> &'static str {
+/// Does damage to a field of a line, or to the number or order of its fields.
+fn damage_fields(form: &Form, draw: &mut Draw, line: &mut Vec<u8>) {
     let mut fields = fields_of(line);
     let (column, other) = (draw.place(fields.len()), draw.place(fields.len()));
-    let what = match draw.below(12) {
-        0..=5 => {
-            fields[column] = strange_name(form, draw, column, &fields[column]);
-            "another field"
-        }
-        6..=8 => {
-            fields[0] = strange_pair(form.definition, draw);
-            "another pair"
-        }
-        9 => {
-            fields.remove(column);
-            "a field fewer"
-        }
-        10 => {
-            fields.insert(column, fields[column].clone());
-            "a field twice"
-        }
-        _ => {
-            fields.swap(column, other);
-            "two fields swapped"
-        }
-    };
+    match draw.below(12) {
+        0..=5 => fields[column] = strange_name(form, draw, column, &fields[column]),
+        6..=8 => fields[0] = strange_pair(form.definition, draw),
+        9 => drop(fields.remove(column)),
+        10 => fields.insert(column, fields[column].clone()),
+        _ => fields.swap(column, other),
+    }
     *line = line_of(&fields);
-    what
 }
 
 /// A field that a column probably doesn't know, often near the one that stood there.

@@ -2,7 +2,7 @@
 
 use crate::cases::kinds::{share, Cases, Gathered, Kind};
 use crate::cases::lines::{without_crlf, Form, OTHER_ENDS, OTHER_REQUESTS, PAIR_FIELDS};
-use crate::cases::sheet_draws::{anything, borders, damaged, good, good_long, many_pairs, most_lines, MOST};
+use crate::cases::sheet_draws::{anything, borders, damaged, good, many_pairs, most_lines, MOST};
 use crate::cases::text::{fields_of, line_of, spoiled, spoiled_fields};
 use crate::definition::sheet::{CRLF, OUTPUT_HEADER};
 use crate::definition::values::Definition;
@@ -37,7 +37,14 @@ pub fn sheets(definition: &Definition, seed: u64, random: u64) -> Cases {
     });
     let mut kinds = Vec::from(swept);
     kinds.extend([
-        Kind::new("drawn", share(random, 4, 10), |d, draw, n| if n % 40 == 0 { good_long(d, draw) } else { good(d, draw) }),
+        Kind::new("drawn", share(random, 4, 10), |d, draw, n| {
+            // One of many lines and pairs among forty.
+            let (lines, pairs) = match n % 40 {
+                0 => (1_000 + draw.place(1_000), 1 + draw.place(1_000)),
+                _ => (draw.place(60), draw.one_of(&[1, 2, 3, 5, 9, 20])),
+            };
+            good(d, draw, lines, pairs)
+        }),
         Kind::new("drawn, damaged", share(random, 5, 10), |d, draw, _| damaged(d, draw)),
         Kind::new("anything", share(random, 1, 10), |d, draw, _| anything(d, draw)),
         Kind::new("a million lines", MOST, |d, _, n| most_lines(d, n)),

@@ -249,12 +249,8 @@ pub const WRONG: &[Wrong] = &[
         }
     })),
     wrong("sheet", "lines end in LF", Tells(|_, _, answer| answer.output = replaced(&answer.output, CRLF, b"\n"))),
-    wrong("sheet", "event 1000 is told as 000", Tells(|_, _, answer| {
-        answer.output = replaced(&answer.output, b"\n1000,", b"\n000,");
-    })),
-    wrong("sheet", "SC is named before I", Tells(|_, _, answer| {
-        answer.output = replaced(&answer.output, b"I SC\r", b"SC I\r");
-    })),
+    wrong("sheet", "event 1000 is told as 000", Tells(|_, _, answer| answer.output = replaced(&answer.output, b"\n1000,", b"\n000,"))),
+    wrong("sheet", "SC is named before I", Tells(|_, _, answer| answer.output = replaced(&answer.output, b"I SC\r", b"SC I\r"))),
     wrong("sheet", "answers before a refusal are taken back", Tells(|_, _, answer| {
         if let Some(place) = answer.output.windows(7).position(|bytes| bytes == b"refused") {
             answer.output.drain(OUTPUT_HEADER.len() + 2..place);
