@@ -1,8 +1,8 @@
 /* Korehyumo, the snoop judge, for C and for every language that calls C.
  *
- * The two functions below judge AMBA CHI snoop answers. Each is proved to return, for every input,
- * and to leave exactly the result and the bytes that its claim states (crates/korehyumo/src/lib.rt).
- * This header says the same in words.
+ * Two of the three functions below judge AMBA CHI snoop answers, the third lists those that are
+ * permitted. Each is proved to return, for every input, and to leave exactly the result and the
+ * bytes that its claim states (crates/korehyumo/src/lib.rt). This header says the same in words.
  *
  * LINKING. `rt staticlib korehyumo` writes target/staticlib/libkorehyumo.a, for x86-64:
  *
@@ -32,9 +32,9 @@
  * RESULTS. Every result reads alike:
  *
  *   lower 32 bits  the place times 256, plus the number of the refusal (0 is accepted)
- *   upper 32 bits  what more the call answers; both calls below answer 0 there
+ *   upper 32 bits  what more the call answers: korehyumo_answers a count, the other two 0
  *
- * korehyumo_number() and korehyumo_place() read the lower half.
+ * korehyumo_number() and korehyumo_place() read the lower half, korehyumo_count() the upper one.
  *
  * BUFFERS. The length after a pointer is the number of its elements. A null pointer with length 0
  * is an empty buffer. Every input that keeps these five rules is answered. Breaking one is undefined
@@ -71,10 +71,17 @@ extern "C" {
 /* The most pairs of one call. */
 #define KOREHYUMO_MOST_PAIRS 4096
 
+/* How many bytes a listed answer has. */
+#define KOREHYUMO_ANSWER_BYTES 9
+
+/* The most answers that a list has. */
+#define KOREHYUMO_MOST_ANSWERS 29
+
 /* The set of all seven states: nothing is known of the line. */
 #define KOREHYUMO_ALL_STATES 127
 
-/* The states of a line by number: the index of `sets` and `duties`, and byte 13 of an event. */
+/* The states of a line by number: the index of `sets` and `duties`, byte 13 of an event, and the
+ * state before of a question. */
 enum {
     KOREHYUMO_STATE_I = 0,
     KOREHYUMO_STATE_UC = 1,
@@ -104,7 +111,8 @@ enum {
     KOREHYUMO_SET = 2,
     KOREHYUMO_PAIR = 3,
     KOREHYUMO_RANGE = 4,
-    KOREHYUMO_REQUEST = 5
+    KOREHYUMO_REQUEST = 5,
+    KOREHYUMO_ROOM = 9
 };
 
 /* The verdicts on an event, by the set of its pair before it. */
@@ -132,6 +140,12 @@ static inline unsigned korehyumo_number(uint64_t result)
 static inline size_t korehyumo_place(uint64_t result)
 {
     return (size_t)((result & 0xFFFFFFFFu) / 256);
+}
+
+/* The count in a result of korehyumo_answers. */
+static inline size_t korehyumo_count(uint64_t result)
+{
+    return (size_t)(result >> 32);
 }
 
 /* Judges one event alone, from each of the seven states.
@@ -204,6 +218,41 @@ uint64_t korehyumo_trace(const uint8_t *events, size_t events_len,
                          uint8_t *verdicts, size_t verdicts_len,
                          uint8_t *duties, size_t duties_len,
                          uint8_t *afters, size_t afters_len);
+
+/* Lists every answer that the rows permit to a question: a snoop, a tag state and a state before.
+ *
+ *   given          request, ret_to_src, do_not_go_to_sd, excl, tag
+ *                           bytes 0 to 4 of an event, the tag state seen
+ *                  before   the state before, by number
+ *   lent, written  room     room_len bytes for the list; null with length 0 is an empty room
+ *   result         the count in the upper 32 bits (number 0, place 0) when accepted, else the number
+ *                  of the refusal (place 0, count 0)
+ *
+ *   number                refused when (the first that applies is given)
+ *   4 KOREHYUMO_RANGE     ret_to_src, do_not_go_to_sd or excl is not 0 or 1, tag is above 2, or
+ *                         before is above 6
+ *   5 KOREHYUMO_REQUEST   the request is not one of the seven
+ *   9 KOREHYUMO_ROOM      9 times the count is above room_len; never with a room of 261 bytes
+ *
+ * Accepted: the 9 bytes from room[9 * k] on are answer k, bytes 5 to 13 of an event with the state
+ * after seen. Each answer stands once, in ascending order byte by byte. An answer is listed exactly
+ * when korehyumo_event, for the event of the five bytes given and these nine, has the state after in
+ * sets[before]. The list is empty for Dirty tags (2) with a state other than UD and SD; every other
+ * list has the answer of NDERR, {0, 1, 0, 0, 0, 3, 0, 0, 0}. Bytes past the last answer are as they
+ * were lent. Refused: every byte of the room is as it was lent.
+ *
+ * Example: what a line in UDP may answer to SnpCleanFwd.
+ *
+ *   uint8_t room[KOREHYUMO_MOST_ANSWERS * KOREHYUMO_ANSWER_BYTES];
+ *   uint64_t result = korehyumo_answers(18, 0, 0, 0, 0, KOREHYUMO_STATE_UDP, room, sizeof room);
+ *   // korehyumo_number(result) == KOREHYUMO_ACCEPTED, korehyumo_count(result) == 3
+ *   // room[0] to room[8]:   0, 1, 0, 0, 0, 3, 0, 0, 0  SnpResp_I with NDERR
+ *   // room[9] to room[17]:  1, 5, 4, 0, 0, 0, 0, 0, 0  SnpRespDataPtl_I_PD
+ *   // room[18] to room[26]: 1, 5, 4, 0, 0, 2, 0, 0, 0  SnpRespDataPtl_I_PD with DERR
+ */
+uint64_t korehyumo_answers(uint8_t request, uint8_t ret_to_src, uint8_t do_not_go_to_sd,
+                           uint8_t excl, uint8_t tag, uint8_t before,
+                           uint8_t *room, size_t room_len);
 
 #ifdef __cplusplus
 }

@@ -12,6 +12,7 @@ mod running;
 mod wrong;
 
 use calls::all::{call, CALLS};
+use definition::answers::{list_in_words, question_in_words};
 use definition::capture::of_sheet;
 use definition::values::Definition;
 use running::call::{Call, Feeding};
@@ -35,6 +36,8 @@ const USAGE: &str = "usage:
       tells which case notices each judge that is wrong on purpose
   compare make capture
       writes the capture of the sheet on standard input
+  compare list REQUEST RETTOSRC DONOTGOTOSD EXCL TAG BEFORE
+      writes every answer that the cache could have given, all in the words of a sheet
 A stage is the number of the last follow-up request that is in force, or 0.";
 
 /// What is wrong with words that name no call.
@@ -74,6 +77,8 @@ enum Asked {
     Wrong { calls: Vec<&'static Call> },
     /// The capture of a sheet.
     MakeCapture,
+    /// The list of a question's answers.
+    List { question: Vec<u8> },
 }
 
 /// What the words of a command line ask for.
@@ -81,6 +86,7 @@ fn asked(words: &[OsString]) -> Result<Asked, String> {
     let first: Vec<&str> = words.iter().take(2).map(|word| word.to_str().unwrap_or("")).collect();
     let (verb, rest) = match first[..] {
         ["make", "capture"] if words.len() == 2 => return Ok(Asked::MakeCapture),
+        ["list", ..] => return Ok(Asked::List { question: question(&words[1..])? }),
         ["wrong"] => return Ok(Asked::Wrong { calls: CALLS.to_vec() }),
         ["wrong", name] if words.len() == 2 => return Ok(Asked::Wrong { calls: vec![call(name).ok_or(NO_CALL)?] }),
         ["answer", name] => (call(name), &words[2..]),
@@ -121,6 +127,12 @@ fn number(word: Option<&OsString>, most: u64) -> Result<u64, String> {
     number.filter(|number| *number <= most).ok_or(format!("a number up to {most} is missing"))
 }
 
+/// The question that words ask, if they ask one.
+fn question(words: &[OsString]) -> Result<Vec<u8>, String> {
+    let words: Vec<&str> = words.iter().map(|word| word.to_str().unwrap_or("")).collect();
+    question_in_words(&Definition::now(), &words).ok_or(format!("no question in range is asked by {words:?}"))
+}
+
 /// Does what was asked for, and tells whether all was well.
 fn done(asked: Asked) -> io::Result<bool> {
     match asked {
@@ -154,6 +166,10 @@ fn done(asked: Asked) -> io::Result<bool> {
                 None => Ok(true),
                 Some((number, line)) => Err(io::Error::other(format!("the sheet is refused with {number} at line {line}"))),
             }
+        }
+        Asked::List { question } => {
+            io::stdout().write_all(list_in_words(&Definition::now(), &question).as_bytes())?;
+            Ok(true)
         }
     }
 }
@@ -224,6 +240,8 @@ mod tests {
         assert!(matches!(asked_by("wrong"), Ok(Asked::Wrong { calls }) if calls.len() == CALLS.len()));
         assert!(matches!(asked_by("wrong sheet"), Ok(Asked::Wrong { calls }) if calls.len() == 1));
         assert!(matches!(asked_by("make capture"), Ok(Asked::MakeCapture)));
+        let asked = asked_by("list SnpNotSharedDirty 1 0 1 Dirty SD");
+        assert!(matches!(asked, Ok(Asked::List { question }) if question == [4, 1, 0, 1, 2, 6]));
     }
 
     /// A command line that asks for nothing known is refused.
@@ -231,7 +249,9 @@ mod tests {
     fn wrong_words() {
         let lines = "|else -- judge|event|event --|event judge|event --seed|event --seed x -- judge|event --stage 99 -- judge|\
                      event --random 1000000001 -- judge|answer|answer else|answer event --once|answer capture file more|\
-                     make|make sheet|make capture more|wrong else|wrong sheet more";
+                     make|make sheet|make capture more|wrong else|wrong sheet more|list|list SnpShared 0 0 0 Clean|\
+                     list SnpShared 0 0 0 Clean I I|list SnpOnce 0 0 0 Clean I|list SnpShared 0 0 2 Clean I|\
+                     list SnpShared 0 0 0 ? I|list SnpShared 0 0 0 Clean ?|list 1 0 0 0 0 0|list SnpShared I 0 0 0 Clean";
         for line in lines.split('|') {
             assert!(asked_by(line).is_err(), "{line}");
         }
@@ -256,5 +276,10 @@ mod tests {
         let told = b"event,verdict,duty,states\r\nrefused,6,1\r\n".to_vec();
         assert_eq!(answered("sheet", b"").unwrap(), (told, true));
         assert_eq!(answered("capture", &[0; 17]).unwrap(), (vec![], false));
+        let record = [&[1, 0, 0, 0, 0, 0, 19, 0][..], &[9; 640]].concat();
+        let list = [0, 1, 0, 0, 0, 0, 0, 0, 0, 0, 1, 0, 0, 0, 3, 0, 0, 0];
+        let told = [&[0, 0, 0, 0, 2, 0, 0, 0][..], &list, &[9; 622]].concat();
+        assert_eq!(answered("answers", &[&record[..], &record].concat()).unwrap(), (told.repeat(2), true));
+        assert!(answered("answers", &record[..647]).is_err());
     }
 }

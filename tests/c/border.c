@@ -1,5 +1,5 @@
-/* Tests what the header says of the edges of the C interface: lengths, null pointers, places, and that a refused trace
- * writes nothing. */
+/* Tests what the header says of the edges of the C interface: lengths, null pointers, places, rooms, and that a refused trace
+ * or question writes nothing. */
 
 #include <stdio.h>
 #include <string.h>
@@ -161,12 +161,120 @@ static void trace_example(void)
     hold("its event 1", verdicts[1] == KOREHYUMO_UNEXPLAINED && duties[1] == KOREHYUMO_DUTY_NONE && afters[1] == 0);
 }
 
-/* A result is read by its lower 32 bits. */
+/* How many bytes the longest list has. */
+#define LONGEST_LIST (KOREHYUMO_MOST_ANSWERS * KOREHYUMO_ANSWER_BYTES)
+
+/* The room of a question, with more bytes than the longest list has. */
+static uint8_t room[LONGEST_LIST + 64];
+
+/* The seven requests. */
+static const uint8_t requests[7] = {1, 2, 4, 18, 20, 21, 22};
+
+/* SnpCleanFwd to a line in UDP with Invalid tags: request, RetToSrc, DoNotGoToSD, excl, tag state, state before. */
+static const uint8_t partial[6] = {18, 0, 0, 0, 0, KOREHYUMO_STATE_UDP};
+
+/* Its three answers. */
+static const uint8_t partial_list[27] = {0, 1, 0, 0, 0, 3, 0, 0, 0, 1, 5, 4, 0, 0, 0, 0, 0, 0, 1, 5, 4, 0, 0, 2, 0, 0, 0};
+
+/* Asks a question with a room that is filled with BEFORE. */
+static uint64_t ask(const uint8_t question[6], size_t len)
+{
+    const uint8_t *q = question;
+    memset(room, BEFORE, sizeof room);
+    return korehyumo_answers(q[0], q[1], q[2], q[3], q[4], q[5], room, len);
+}
+
+/* A list needs nine bytes for each answer, and writes no others. */
+static void rooms_of_a_list(void)
+{
+    uint64_t accepted = (uint64_t)3 << 32;
+    for (size_t len = 0; len < sizeof partial_list; len++)
+        hold("too little room is 9 and stays", ask(partial, len) == KOREHYUMO_ROOM && all(room, sizeof room, BEFORE));
+    for (size_t len = sizeof partial_list; len <= sizeof room; len++) {
+        hold("enough room is accepted", ask(partial, len) == accepted && memcmp(room, partial_list, sizeof partial_list) == 0);
+        hold("bytes past the last answer stay", all(room + sizeof partial_list, sizeof room - sizeof partial_list, BEFORE));
+    }
+}
+
+/* A null room is an empty one: too little for any answer, enough for none. */
+static void null_room(void)
+{
+    const uint8_t dirty_uc[6] = {1, 0, 0, 0, 2, KOREHYUMO_STATE_UC};
+    hold("no room is 9", korehyumo_answers(18, 0, 0, 0, 0, KOREHYUMO_STATE_UDP, 0, 0) == KOREHYUMO_ROOM);
+    hold("no room for no answers", korehyumo_answers(1, 0, 0, 0, 2, KOREHYUMO_STATE_UC, 0, 0) == 0);
+    hold("no answers write nothing", ask(dirty_uc, sizeof room) == 0 && all(room, sizeof room, BEFORE));
+    hold("a range before a null room", korehyumo_answers(18, 0, 0, 0, 0, 7, 0, 0) == KOREHYUMO_RANGE);
+    hold("a request before a null room", korehyumo_answers(17, 0, 0, 0, 0, 0, 0, 0) == KOREHYUMO_REQUEST);
+}
+
+/* A question is refused so with no room and with enough, and nothing is written. */
+static void refused_question(const char *what, const uint8_t question[6], uint64_t refusal)
+{
+    for (size_t len = 0; len <= LONGEST_LIST; len += LONGEST_LIST)
+        hold(what, ask(question, len) == refusal && all(room, sizeof room, BEFORE));
+}
+
+/* A value above its highest is 4, even with another request, and another request is 5. */
+static void refused_questions(void)
+{
+    const uint8_t highest[6] = {22, 1, 1, 1, 2, 6};
+    hold("the highest values are accepted", korehyumo_number(ask(highest, LONGEST_LIST)) == KOREHYUMO_ACCEPTED);
+    for (size_t byte = 1; byte < 6; byte++)
+        for (unsigned value = highest[byte] + 1u; value < 256; value++) {
+            uint8_t question[6] = {22, 0, 0, 0, 0, 0};
+            question[byte] = (uint8_t)value;
+            refused_question("a value out of range is 4", question, KOREHYUMO_RANGE);
+            question[0] = 3;
+            refused_question("4 comes before 5", question, KOREHYUMO_RANGE);
+        }
+    for (unsigned request = 0; request < 256; request++) {
+        const uint8_t question[6] = {(uint8_t)request, 0, 0, 0, 0, 0};
+        if (memchr(requests, (int)request, sizeof requests) == 0)
+            refused_question("another request is 5", question, KOREHYUMO_REQUEST);
+    }
+}
+
+/* A question in range is accepted with place 0 if its list has just enough room; returns the count. */
+static size_t count_answers(const uint8_t question[6])
+{
+    uint64_t result = ask(question, LONGEST_LIST);
+    size_t count = korehyumo_count(result), bytes = count * KOREHYUMO_ANSWER_BYTES;
+    hold("a question in range is accepted with place 0", result == (uint64_t)count << 32);
+    hold("just enough room is accepted", ask(question, bytes) == result);
+    hold("one byte too little is 9", count == 0 || ask(question, bytes - 1) == KOREHYUMO_ROOM);
+    return count;
+}
+
+/* The most answers are those of the longest list of all questions in range. */
+static void longest_list(void)
+{
+    size_t longest = 0;
+    for (unsigned n = 0; n < 7 * 2 * 2 * 2 * 3 * 7; n++) {
+        uint8_t tag = (uint8_t)(n / 7 % 3), before = (uint8_t)(n % 7);
+        const uint8_t question[6] = {requests[n / 168], n / 84 % 2, n / 42 % 2, n / 21 % 2, tag, before};
+        size_t count = count_answers(question);
+        longest = count > longest ? count : longest;
+    }
+    hold("the longest list has 29 answers", longest == KOREHYUMO_MOST_ANSWERS);
+}
+
+/* The example of korehyumo_answers in the header. */
+static void answers_example(void)
+{
+    uint8_t list[KOREHYUMO_MOST_ANSWERS * KOREHYUMO_ANSWER_BYTES];
+    uint64_t result = korehyumo_answers(18, 0, 0, 0, 0, KOREHYUMO_STATE_UDP, list, sizeof list);
+    hold("the question's example has 3 answers", korehyumo_number(result) == KOREHYUMO_ACCEPTED && korehyumo_count(result) == 3);
+    hold("its answers", memcmp(list, partial_list, sizeof partial_list) == 0);
+}
+
+/* A result is read by its lower 32 bits, and the count by the upper ones. */
 static void results(void)
 {
     uint64_t result = 4095 * 256 + 5, more = (uint64_t)7 << 32;
     hold("a result's number", korehyumo_number(result) == 5 && korehyumo_number(result + more) == 5);
     hold("a result's place", korehyumo_place(result) == 4095 && korehyumo_place(result + more) == 4095);
+    hold("a result's count", korehyumo_count(result) == 0 && korehyumo_count(result + more) == 7);
+    hold("the highest count", korehyumo_count(UINT64_MAX) == UINT32_MAX);
 }
 
 /* The constants of the header agree with each other. */
@@ -177,6 +285,8 @@ static void constants(void)
     hold("the version as numbers and as text", strcmp(version, KOREHYUMO_VERSION) == 0);
     hold("the states make the set of all", KOREHYUMO_ALL_STATES == (KOREHYUMO_I | KOREHYUMO_UC | KOREHYUMO_UCE | KOREHYUMO_UD
                                                                     | KOREHYUMO_UDP | KOREHYUMO_SC | KOREHYUMO_SD));
+    hold("an answer is bytes 5 to 13 of an event", KOREHYUMO_ANSWER_BYTES == KOREHYUMO_EVENT_BYTES - 5);
+    hold("the longest list has 261 bytes", LONGEST_LIST == 261);
 }
 
 int main(void)
@@ -188,6 +298,11 @@ int main(void)
     one_event();
     event_example();
     trace_example();
+    rooms_of_a_list();
+    null_room();
+    refused_questions();
+    longest_list();
+    answers_example();
     results();
     constants();
     printf("border: %d wrong\n", wrong);

@@ -1,4 +1,4 @@
-//! The two functions of the C interface, called with slices. This is the only unsafe code of the package.
+//! The three functions of the C interface, called with slices. This is the only unsafe code of the package.
 
 extern "C" {
     fn korehyumo_event(event: *const u8, event_len: usize, sets: *mut u8, duties: *mut u8) -> u64;
@@ -16,6 +16,17 @@ extern "C" {
         duties_len: usize,
         afters: *mut u8,
         afters_len: usize,
+    ) -> u64;
+
+    fn korehyumo_answers(
+        request: u8,
+        ret_to_src: u8,
+        do_not_go_to_sd: u8,
+        excl: u8,
+        tag: u8,
+        before: u8,
+        room: *mut u8,
+        room_len: usize,
     ) -> u64;
 }
 
@@ -61,6 +72,24 @@ pub(crate) fn trace(
             duties.len(),
             afters.as_mut_ptr(),
             afters.len(),
+        )
+    }
+}
+
+/// Lists the permitted answers to a question: the result, with the answers in the room.
+pub(crate) fn answers(question: [u8; 6], room: &mut [u8]) -> u64 {
+    let [request, ret_to_src, do_not_go_to_sd, excl, tag, before] = question;
+    // SAFETY: the library writes only within the room's length, which is that of the slice.
+    unsafe {
+        korehyumo_answers(
+            request,
+            ret_to_src,
+            do_not_go_to_sd,
+            excl,
+            tag,
+            before,
+            room.as_mut_ptr(),
+            room.len(),
         )
     }
 }

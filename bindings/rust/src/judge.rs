@@ -95,7 +95,7 @@ impl Judge {
     ///
     /// # Errors
     ///
-    /// Any [`Refusal`] except [`Refusal::Set`]. The sets of the pairs are then as before.
+    /// Any [`Refusal`] except [`Refusal::Set`] and [`Refusal::Room`]. The sets of the pairs are then as before.
     pub fn judge(&mut self, trace: &[(PairNumber, Event)]) -> Result<&[Finding], Refusal> {
         if trace.len() > MOST_EVENTS {
             return Err(Refusal::Lengths);

@@ -1,5 +1,5 @@
 //! Judges AMBA CHI snoop answers: whether the rows of the CHI tables permit an answer, which states the cache can be in
-//! afterwards, and who now holds the duty to write a Dirty line back.
+//! afterwards, and who now holds the duty to write a Dirty line back. It also lists every answer that would have been in order.
 //!
 //! A library that is proved for every input does the judging. This package is safe Rust over its C interface. An input that
 //! can't be judged is a [`Refusal`], and a refused call changes nothing that was lent. No call panics.
@@ -9,6 +9,8 @@
 //! | [`judge_event`] | judges one event alone: for each of the seven states before, the states after and the duty |
 //! | [`Judge`] | judges trace after trace and keeps the sets of the pairs: a verdict, a duty and a set for each event |
 //! | [`judge_trace`] | judges one trace over plain buffers, without allocation |
+//! | [`permitted_answers`] | lists every answer that the rows permit to a [`Question`]: a snoop, a tag state and a state before |
+//! | [`list_answers`] | lists them over plain bytes, without allocation |
 //!
 //! One event of one pair:
 //!
@@ -52,8 +54,19 @@
 //! }
 //! ```
 //!
-//! A later library may have refusals, verdicts and duties without a name in this version of the package. They come as
-//! [`Refusal::Unknown`], [`Verdict::Other`] and [`Duty::Other`], with their numbers.
+//! What an odd event could have been answered with:
+//!
+//! ```
+//! use korehyumo::{permitted_answers, Question, Refusal, Request, State};
+//!
+//! let answers = permitted_answers(Question::new(Request::SnpClean, State::UCE))?;
+//! let lines: Vec<String> = answers.iter().map(|answer| answer.to_string()).collect();
+//! assert_eq!(lines, ["SnpResp_I,Invalid,OK,-,I", "SnpResp_I,Invalid,NDERR,-,I"]);
+//! # Ok::<(), Refusal>(())
+//! ```
+//!
+//! A later library may have refusals, verdicts, duties and answers without a name in this version of the package. They come as
+//! [`Refusal::Unknown`], [`Verdict::Other`], [`Duty::Other`] and [`Permitted::Other`], with their numbers.
 
 #![deny(unsafe_code)]
 #![deny(unsafe_op_in_unsafe_fn)]
@@ -68,6 +81,7 @@ mod event;
 mod findings;
 mod judge;
 mod numbers;
+mod question;
 mod refusal;
 mod sets;
 mod trace;
@@ -79,6 +93,9 @@ pub use event::{Event, Fields};
 pub use findings::{Duty, Finding, Verdict};
 pub use judge::Judge;
 pub use numbers::{EventNumber, PairNumber};
+pub use question::{
+    list_answers, permitted_answers, Permitted, Question, ANSWER_BYTES, MOST_ANSWERS,
+};
 pub use refusal::Refusal;
 pub use sets::StateSet;
 pub use trace::{judge_trace, MOST_EVENTS, MOST_PAIRS};

@@ -4,7 +4,7 @@ use crate::numbers::{EventNumber, PairNumber};
 use std::error::Error;
 use std::fmt;
 
-/// Why a call was refused, and where. A refused call changes nothing that was lent.
+/// Why a call was refused, and where. A refused call changes nothing that was lent. A question counts as event 0.
 ///
 /// ```
 /// use korehyumo::{judge_trace, PairNumber, Refusal};
@@ -24,10 +24,12 @@ pub enum Refusal {
     Set(PairNumber),
     /// 3: this event's pair is not in the table.
     Pair(EventNumber),
-    /// 4: a byte from 1 to 13 of this event is outside its range.
+    /// 4: a byte of this event, other than its request, is outside its range.
     Range(EventNumber),
     /// 5: this event's request is not one of the seven that are judged.
     Request(EventNumber),
+    /// 9: the list has more bytes than the room.
+    Room,
     /// A refusal of a later library, without a name in this version of the package.
     Unknown {
         /// The refusal's number.
@@ -46,6 +48,7 @@ impl Refusal {
             Refusal::Pair(_) => 3,
             Refusal::Range(_) => 4,
             Refusal::Request(_) => 5,
+            Refusal::Room => 9,
             Refusal::Unknown { number, .. } => number,
         }
     }
@@ -53,7 +56,7 @@ impl Refusal {
     /// Its place in the definition's table of refusals: a pair number, an event number, or 0.
     pub const fn place(self) -> u64 {
         match self {
-            Refusal::Lengths => 0,
+            Refusal::Lengths | Refusal::Room => 0,
             Refusal::Set(pair) => pair.0 as u64,
             Refusal::Pair(event) | Refusal::Range(event) | Refusal::Request(event) => event.0,
             Refusal::Unknown { place, .. } => place,
@@ -73,6 +76,7 @@ impl Refusal {
             3 => Err(Refusal::Pair(event)),
             4 => Err(Refusal::Range(event)),
             5 => Err(Refusal::Request(event)),
+            9 => Err(Refusal::Room),
             _ => Err(Refusal::Unknown { number, place }),
         }
     }
@@ -97,6 +101,7 @@ impl fmt::Display for Refusal {
             Refusal::Request(event) => {
                 write!(f, ": the request of event {event} is none that is judged")
             }
+            Refusal::Room => f.write_str(": the list has more bytes than the room"),
             Refusal::Unknown { place, .. } => write!(
                 f,
                 " at place {place}, which this version of the package does not know"
@@ -118,6 +123,7 @@ mod tests {
         assert_eq!(read(0), Ok(0));
         assert_eq!(read(4_096 * 256), Ok(4_096));
         assert_eq!(read((29 << 32) + 256), Ok(1));
+        assert_eq!(read(29 << 32), Ok(0));
         assert_eq!(read(1), Err(Refusal::Lengths));
         assert_eq!(read(4_095 * 256 + 2), Err(Refusal::Set(PairNumber(4_095))));
         assert_eq!(
@@ -126,12 +132,13 @@ mod tests {
         );
         assert_eq!(read(7 * 256 + 4), Err(Refusal::Range(EventNumber(7))));
         assert_eq!(read(5), Err(Refusal::Request(EventNumber(0))));
+        assert_eq!(read(9), Err(Refusal::Room));
     }
 
     /// An unknown number is a refusal with that number and place, never an acceptance.
     #[test]
     fn results_not_known() {
-        for number in 6..=255 {
+        for number in (6..=8).chain(10..=255) {
             for place in [0, 1, 255, 4_096, (1 << 24) - 1] {
                 let refusal =
                     Refusal::unless_accepted(place * 256 + u64::from(number)).unwrap_err();
@@ -166,6 +173,10 @@ mod tests {
         assert_eq!(
             words(9 * 256 + 5),
             "refused with 5: the request of event 9 is none that is judged"
+        );
+        assert_eq!(
+            words(9),
+            "refused with 9: the list has more bytes than the room"
         );
         assert_eq!(
             words(8 * 256 + 16),

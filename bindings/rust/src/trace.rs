@@ -36,7 +36,7 @@ pub const MOST_PAIRS: usize = 4_096;
 ///
 /// # Errors
 ///
-/// Any [`Refusal`]. Every buffer is then as it was lent.
+/// Any [`Refusal`] except [`Refusal::Room`]. Every buffer is then as it was lent.
 pub fn judge_trace(
     events: &[u8],
     pairs: &[u16],

@@ -2,20 +2,12 @@
 
 mod common;
 
-use common::{wire, HIGHEST, REQUESTS, RESPONSES, SHEET};
+use common::{all_answers, wire, FORWARDS, HIGHEST, REQUESTS, RESPONSES, SHEET};
 use korehyumo::{
     Answer, Duty, Event, EventNumber, Fields, Forward, FwdState, PairNumber, Request, Resp,
     RespErr, State, StateSet, TagOp, TagState, Verdict,
 };
 use std::fmt::{Debug, Display};
-
-/// The names of forwarded data, with their codes.
-const FORWARDS: [(&str, u8); 4] = [
-    ("CompData_SC", 1),
-    ("CompData_UC", 2),
-    ("CompData_UD_PD", 6),
-    ("CompData_SD_PD", 7),
-];
 
 /// Asserts that a type has exactly these names and codes.
 fn has_codes<Kind>(all: &[Kind], codes: &[(&str, u8)], code_of: fn(Kind) -> u8)
@@ -174,26 +166,6 @@ fn the_responses_of_the_rows() {
             forward.map_or("-", |(name, _)| name)
         );
     }
-}
-
-/// Every value of `Answer`.
-fn all_answers() -> Vec<Answer> {
-    let mut forwards = vec![Forward::NoForward];
-    forwards.extend(FwdState::ALL.map(Forward::CompData));
-    let mut answers: Vec<Answer> = Resp::ALL.map(Answer::SnpRespDataPtl).to_vec();
-    for resp in Resp::ALL {
-        answers.extend(
-            forwards
-                .iter()
-                .map(|forward| Answer::SnpResp(resp, *forward)),
-        );
-        answers.extend(
-            forwards
-                .iter()
-                .map(|forward| Answer::SnpRespData(resp, *forward)),
-        );
-    }
-    answers
 }
 
 #[test]

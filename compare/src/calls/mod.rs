@@ -1,6 +1,7 @@
 //! The calls that are compared, each described once.
 
 pub mod all;
+pub mod answers;
 pub mod capture;
 pub mod event;
 pub mod sheet;

@@ -1,9 +1,9 @@
 //! Tests of what the cases of each call are, and of how its answers are counted and shown.
 
 use crate::calls::all::{call, CALLS};
-use crate::calls::{capture, event, sheet, trace};
+use crate::calls::{answers, capture, event, sheet, trace};
 use crate::cases::kinds::{Case, Cases};
-use crate::cases::wire::{event_record, lent_in, trace_case, trace_rooms};
+use crate::cases::wire::{event_record, lent_in, question_in, question_record, trace_case, trace_rooms};
 use crate::definition::trace::Lent;
 use crate::definition::values::Definition;
 use crate::running::arrival::Arrival;
@@ -22,6 +22,7 @@ const MIX: &[(&str, &str, &[(&str, u64)])] = &[
     ("event", "other requests", &[("refused 4", 20), ("refused 5", 70)]),
     ("event", "at the limits", &[("accepted", 40), ("refused 4", 40)]),
     ("event", "lengths 0 to 40", &[("refused 1", 95), ("with a step", 1)]),
+    ("event", "near a row", &[("accepted", 100), ("with a step", 0)]),
     ("trace", "many lengths", &[("refused 1", 100)]),
     ("trace", "at the limits", &[("accepted", 20), ("refused 1", 45), ("refused 2", 6), ("refused 3", 10), ("refused 4", 2)]),
     ("trace", "up to 64 events", &[("accepted", 100), ("explained", 1_900), ("unexplained", 60), ("lost", 20)]),
@@ -52,11 +53,18 @@ const MIX: &[(&str, &str, &[(&str, u64)])] = &[
     ("capture", "drawn", &[("accepted", 100), ("explained", 1_000)]),
     ("capture", "drawn, damaged", &[("refused 3", 10), ("refused 4", 10), ("refused 5", 5), ("explained", 1_000)]),
     ("capture", "drawn, cut", &[("cut", 70), ("explained", 1_000)]),
+    ("answers", "every question", &[("accepted", 75), ("refused 9", 15), ("answers", 500), ("empty", 20)]),
+    ("answers", "each byte value", &[("refused 4", 80), ("refused 5", 15), ("accepted", 0), ("refused 9", 0)]),
+    ("answers", "several outside", &[("refused 4", 95), ("refused 5", 1), ("accepted", 0), ("refused 9", 0)]),
+    ("answers", "each length of room", &[("accepted", 60), ("refused 9", 30), ("empty", 25)]),
+    ("answers", "drawn", &[("accepted", 70), ("refused 9", 20), ("answers", 500)]),
+    ("answers", "drawn, damaged", &[("refused 4", 70), ("refused 5", 20)]),
+    ("answers", "anything", &[("accepted", 50), ("refused 4", 30), ("refused 5", 3), ("refused 9", 3)]),
 ];
 
-/// The cases of a call with fewer random ones than are usual.
+/// The cases of a call with fewer random ones than are usual, where these are many.
 fn few(call: &Call, seed: u64) -> Cases {
-    (call.cases)(&Definition::now(), seed, if call.random > 10_000 { 60_000 } else { call.random })
+    (call.cases)(&Definition::now(), seed, call.random.min(60_000))
 }
 
 /// The cases of a kind come to what they are made for, and what is counted has a column.
@@ -113,6 +121,15 @@ fn sweeps_are_whole() {
         let fits = |(n, part): (usize, &Vec<u8>)| part.len() <= rooms[n] * Lent::PARTS[n].1;
         assert!(lent.parts().into_iter().enumerate().all(fits));
     }
+    let questions = few(&answers::CALL, 1);
+    let asked: BTreeSet<Vec<u8>> = questions.of_kind("every question").map(|case| case.input[..6].to_vec()).collect();
+    assert_eq!((questions.kinds[0].count, asked.len()), (8 * 1_176, 1_176));
+    let values: BTreeSet<(usize, u8)> =
+        questions.of_kind("each byte value").enumerate().map(|(n, case)| (n / 256 % 6, case.input[n / 256 % 6])).collect();
+    assert_eq!(values.len(), 6 * 256);
+    let lengths = questions.of_kind("each length of room").map(|case| question_in(&case.input).1.len());
+    assert_eq!(lengths.collect::<BTreeSet<usize>>(), (0..=300).collect());
+    assert!((0..questions.total()).step_by(7).all(|number| questions.case(number).input.len() == 648));
 }
 
 /// Sheets that are to be run once take turns, but those about borders come out of a file; an empty capture arrives in every way.
@@ -144,6 +161,7 @@ fn differences_are_shown() {
     lent.push(0, &event, [9; 3]);
     let record = [&[0, 0][..], &event].concat();
     let line = "0,SnpClean,0,0,0,?,SnpResp_SC,Invalid,OK,-,?";
+    let question = question_record(&[1, 0, 0, 0, 0, 0], 20, &[9; 640]);
     let cases = [
         ("event", event_record(14, &event), 12, "  duty from UD: compare has 0 none, program has 1 Home\n"),
         ("event", event_record(14, &event), 3, "  set from UC: compare has 33 {I SC}, program has 32 {SC}\n"),
@@ -151,6 +169,11 @@ fn differences_are_shown() {
         ("trace", trace_case(&lent), 8, "  after-sets at 0: compare has 33 {I SC}, program has 32 {SC}\n"),
         ("sheet", format!("{}\r\n{line}", definition.header).into(), 27, "  line 2, to \"0,SnpClean,"),
         ("capture", record, 9, "  line 1: compare has \"1 events: 1 explained"),
+        ("answers", question.clone(), 3, "  place: compare has 0, program has 65536\n"),
+        ("answers", question.clone(), 4, "  count: compare has 2, program has 3\n"),
+        ("answers", question.clone(), 22, "  answer 1: compare has [0, 1, 0, 0, 0, 3, 0, 0, 0] request SnpShared, "),
+        ("answers", question.clone(), 26, "  room at 18: compare has 9, program has 8\n"),
+        ("answers", question, 28, "  past the room at 20: compare has 9, program has 8\n"),
     ];
     for (name, input, place, text) in cases {
         let call = call(name).unwrap();

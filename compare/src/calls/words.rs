@@ -6,8 +6,9 @@ use crate::definition::values::Definition;
 
 /// The names under which refusals are counted, each at its number.
 #[rustfmt::skip]
-pub const REFUSALS: [&str; 9] = [
+pub const REFUSALS: [&str; 10] = [
     "accepted", "refused 1", "refused 2", "refused 3", "refused 4", "refused 5", "refused 6", "refused 7", "refused 8",
+    "refused 9",
 ];
 
 /// The columns of verdicts and duties.

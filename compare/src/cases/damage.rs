@@ -40,15 +40,19 @@ pub fn damage(definition: &Definition, draw: &mut Draw, lent: &mut Lent, event: 
     }
 }
 
-/// Puts a value just past its limit, or far past it, into some byte after the first.
+/// Puts a value past its limit into some byte after the first.
 pub fn byte_outside(draw: &mut Draw, limits: &[u8], bytes: &mut [u8]) {
     let n = 1 + draw.place(bytes.len() - 1);
-    let limit = limits[n];
-    bytes[n] = match draw.below(4) {
+    bytes[n] = value_past(draw, limits[n]);
+}
+
+/// A value just past a limit, or far past it.
+pub fn value_past(draw: &mut Draw, limit: u8) -> u8 {
+    match draw.below(4) {
         0 | 1 => limit + 1,
         2 => 255,
         _ => limit + 1 + draw.below(255 - u64::from(limit)) as u8,
-    };
+    }
 }
 
 /// A request that is not judged, often near one that is.

@@ -4,6 +4,7 @@ use crate::cases::damage::{byte_outside, request_outside};
 use crate::cases::draw::Draw;
 use crate::cases::drawn::{any_in_range, byte_in_range, event_by_row, permitted_event};
 use crate::cases::kinds::{share, Cases, Kind, Made};
+use crate::cases::near::{beginnings, near_rows};
 use crate::cases::wire::{event_record, EVENT_ROOM};
 use crate::definition::codes::byte;
 use crate::definition::columns::{columns, Column};
@@ -35,6 +36,7 @@ pub fn events(definition: &Definition, seed: u64, random: u64) -> Cases {
         drawn("any in range", tenths(1), any_in_range),
         drawn("any bytes", tenths(1), |definition, draw| draw.bytes(definition.event_bytes())),
         Kind::new("lengths 0 to 40", tenths(1), any_length),
+        near_a_row(definition),
     ];
     Cases { definition: definition.clone(), seed, kinds }
 }
@@ -51,6 +53,16 @@ fn drawn(name: &'static str, count: u64, event: fn(&Definition, &mut Draw) -> Ve
     Kind::new(name, count, move |definition, draw, _| {
         let event = event(definition, draw);
         whole(event, draw)
+    })
+}
+
+/// For every question in range each answer near a row; one event is for the seven questions that differ in the state before
+/// alone, as its judgment tells of every state before.
+fn near_a_row(definition: &Definition) -> Kind {
+    let (beginnings, near) = (beginnings(definition), near_rows(definition));
+    Kind::new("near a row", (beginnings.len() * near.len()) as u64, move |_, draw, n| {
+        let n = n as usize;
+        whole([&beginnings[n / near.len()][..], &near[n % near.len()]].concat(), draw)
     })
 }
 

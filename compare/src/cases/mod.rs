@@ -7,6 +7,8 @@ pub mod drawn;
 pub mod events;
 pub mod kinds;
 pub mod lines;
+pub mod near;
+pub mod questions;
 pub mod sheet_draws;
 pub mod sheets;
 pub mod text;

@@ -1,11 +1,17 @@
 //! How cases are written that a program takes one after another.
 
+use crate::definition::answers::QUESTION_BYTES;
 use crate::definition::trace::Lent;
 use crate::definition::values::Definition;
 use std::io::{self, Read};
 
 /// How many bytes can be handed over as one event.
 pub const EVENT_ROOM: usize = 40;
+
+/// How many bytes can be lent for a list of answers.
+pub const LIST_ROOM: usize = 640;
+/// The place of the first of them in the record of a question, and in what it is answered with.
+pub const LIST_PLACE: usize = QUESTION_BYTES + 2;
 
 /// The most things that each part of a whole trace can have, in a case.
 pub fn trace_rooms(definition: &Definition) -> [usize; 6] {
@@ -29,6 +35,23 @@ pub fn handed_over(record: &[u8]) -> &[u8] {
 /// The next record of one event, or nothing where the input has ended.
 pub fn next_event(_: &Definition, input: &mut dyn Read) -> io::Result<Option<Vec<u8>>> {
     next(input, 1 + EVENT_ROOM, |record| (usize::from(record[0]) <= EVENT_ROOM).then_some(0))
+}
+
+/// The record of a question: its bytes, a length in 16 bits, and bytes of which so many are lent for the list.
+pub fn question_record(question: &[u8], length: usize, bytes: &[u8]) -> Vec<u8> {
+    [question, &(length as u16).to_le_bytes(), bytes].concat()
+}
+
+/// The question in a record, the room lent for its list, which is all that there is where the length says more, and the rest.
+pub fn question_in(record: &[u8]) -> (&[u8], &[u8], &[u8]) {
+    let length = u16::from_le_bytes([record[QUESTION_BYTES], record[QUESTION_BYTES + 1]]);
+    let (room, rest) = record[LIST_PLACE..].split_at(LIST_ROOM.min(length.into()));
+    (&record[..QUESTION_BYTES], room, rest)
+}
+
+/// The next record of a question, or nothing where the input has ended.
+pub fn next_question(_: &Definition, input: &mut dyn Read) -> io::Result<Option<Vec<u8>>> {
+    next(input, LIST_PLACE + LIST_ROOM, |_| Some(0))
 }
 
 /// The case of a whole trace: how many things each part has, 32 bits each, and then the parts.
@@ -152,5 +175,21 @@ mod tests {
         assert!(next_event(&definition, &mut &record[..40]).is_err());
         assert!(next_event(&definition, &mut &event_record(40, &[])[..]).is_ok());
         assert!(next_event(&definition, &mut &event_record(41, &[])[..]).is_err());
+    }
+
+    /// A question's record lends as many bytes as it says, but no more than there are; it is read again, and a cut one is not.
+    #[test]
+    fn questions() {
+        let definition = Definition::base();
+        let bytes: Vec<u8> = (0..640).map(|n| (n % 251) as u8).collect();
+        let record = question_record(&[1, 0, 1, 0, 2, 6], 258, &bytes);
+        assert_eq!((record.len(), &record[..9]), (648, &[1, 0, 1, 0, 2, 6, 2, 1, 0][..]));
+        assert_eq!(question_in(&record), (&[1, 0, 1, 0, 2, 6][..], &bytes[..258], &bytes[258..]));
+        for (length, lent) in [(0, 0), (1, 1), (640, 640), (641, 640), (65_535, 640)] {
+            assert_eq!(question_in(&question_record(&[0; 6], length, &bytes)).1, &bytes[..lent]);
+        }
+        assert_eq!(next_question(&definition, &mut &record[..]).unwrap(), Some(record.clone()));
+        assert_eq!(next_question(&definition, &mut &[][..]).unwrap(), None);
+        assert!(next_question(&definition, &mut &record[..647]).is_err());
     }
 }

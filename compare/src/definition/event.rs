@@ -15,9 +15,14 @@ pub const OTHER_REQUEST: u8 = 5;
 
 /// The refusal of as many bytes as an event has, or 0 if they are an event.
 pub fn refusal(definition: &Definition, event: &[u8]) -> u8 {
-    if (1..event.len()).any(|n| event[n] > definition.limits[n]) {
+    refusal_within(definition, &definition.limits, event)
+}
+
+/// The refusal of bytes that begin with a request, or 0 if each of the others is within its limit and the request is judged.
+pub fn refusal_within(definition: &Definition, limits: &[u8], bytes: &[u8]) -> u8 {
+    if (1..bytes.len()).any(|n| bytes[n] > limits[n]) {
         OUTSIDE_RANGE
-    } else if !is_request(definition, event[byte::REQUEST]) {
+    } else if !is_request(definition, bytes[byte::REQUEST]) {
         OTHER_REQUEST
     } else {
         ACCEPTED

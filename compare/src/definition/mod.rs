@@ -1,6 +1,7 @@
-//! What the documents define: values, rows, one event, a trace, its histories, the bench sheet and the capture.
+//! What the documents define: values, rows, one event, the list of answers, a trace, its histories, the bench sheet and the capture.
 //! Nothing else of this program is used in this folder.
 
+pub mod answers;
 pub mod capture;
 pub mod codes;
 pub mod columns;

@@ -1,5 +1,6 @@
 //! Tests of the definition: the notebook's entries, facts about the rows, and answers worked out by hand.
 
+use crate::definition::answers::{answers, list, list_in_words, question_in_words, questions, Listed, BEFORE};
 use crate::definition::codes::*;
 use crate::definition::event::{alone, Alone};
 use crate::definition::histories::enumerate;
@@ -8,7 +9,7 @@ use crate::definition::steps::{permitted, step};
 use crate::definition::trace::{judge, Judged, Lent};
 use crate::definition::values::Definition;
 use crate::definition::{capture, sheet};
-use std::collections::BTreeSet;
+use std::collections::{BTreeMap, BTreeSet};
 
 /// What is told of a line judged alone from a state: the states after and the duty.
 fn from(before: &str, line: &str) -> (String, &'static str) {
@@ -131,6 +132,95 @@ fn events_refused() {
             1 | 2 | 4 | 18 | 20 | 21 | 22 => assert_eq!(alone(&definition, &bytes).place, 1),
             _ => refused(&bytes, 5),
         }
+    }
+}
+
+/// Lists worked out by hand.
+#[test]
+fn lists() {
+    let definition = Definition::at_stage(1).unwrap();
+    for (question, answers) in [
+        ("SnpShared 0 0 0 Invalid I", "SnpResp_I,Invalid,OK,-,I SnpResp_I,Invalid,NDERR,-,I"),
+        ("SnpPreferUnique 1 1 1 Clean UCE", "SnpResp_I,Invalid,OK,-,I SnpResp_I,Invalid,NDERR,-,I"),
+        ("SnpPreferUniqueFwd 0 0 0 Clean UCE", "SnpResp_I,Invalid,OK,-,I SnpResp_I,Invalid,NDERR,-,I"),
+        (
+            "SnpClean 0 0 0 Invalid SC",
+            "SnpResp_I,Invalid,OK,-,I SnpResp_I,Invalid,NDERR,-,I SnpResp_SC,Invalid,OK,-,I SnpResp_SC,Invalid,OK,-,SC",
+        ),
+        ("SnpClean 0 0 0 Dirty UC", ""),
+        ("SnpCleanFwd 0 0 0 Dirty UDP", ""),
+        (
+            "SnpCleanFwd 1 0 1 Clean UDP",
+            "SnpResp_I,Invalid,NDERR,-,I SnpRespDataPtl_I_PD,Invalid,OK,-,I SnpRespDataPtl_I_PD,Invalid,DERR,-,I",
+        ),
+        (
+            "SnpPreferUniqueFwd 0 0 0 Invalid UC",
+            "SnpResp_I,Invalid,NDERR,-,I SnpResp_I_Fwded_UC,Invalid,OK,CompData_UC,I SnpResp_SC_Fwded_SC,Invalid,OK,CompData_SC,SC",
+        ),
+        ("SnpPreferUniqueFwd 0 0 1 Invalid UC", "SnpResp_I,Invalid,NDERR,-,I SnpResp_SC_Fwded_SC,Invalid,OK,CompData_SC,SC"),
+        (
+            "SnpPreferUniqueFwd 1 0 0 Dirty SD",
+            "SnpResp_I,Invalid,NDERR,-,I SnpRespData_I_PD,Update,OK,-,I SnpRespData_I_PD,Update,DERR,-,I \
+             SnpRespData_SD_Fwded_SC,Transfer,OK,CompData_SC,SD SnpRespData_SD_Fwded_SC,Transfer,DERR,CompData_SC,SD \
+             SnpRespData_SC_PD_Fwded_SC,Update,OK,CompData_SC,SC SnpRespData_SC_PD_Fwded_SC,Update,DERR,CompData_SC,SC",
+        ),
+    ] {
+        let words: Vec<&str> = question.split(' ').collect();
+        let text = list_in_words(&definition, &question_in_words(&definition, &words).unwrap());
+        let lines: Vec<&str> = text.lines().collect();
+        assert_eq!((lines[0], &lines[1..].join(" ")[..]), ("response,TagOp,RespErr,forward,final", answers), "{question}");
+        assert!(text.ends_with('\n'));
+    }
+}
+
+/// Every list has what the judgment of one event permits among all events of names, each answer once and in ascending order.
+#[test]
+fn lists_by_judgment() {
+    let definition = Definition::at_stage(1).unwrap();
+    let mut lists: BTreeMap<Vec<u8>, BTreeSet<Vec<u8>>> = BTreeMap::new();
+    for event in events_of_rows(&definition).iter().filter(|event| event[byte::TAG] != TAG_NOT_SEEN) {
+        let sets = alone(&definition, event).sets;
+        for before in 0..7 {
+            let list = lists.entry([&event[..BEFORE], &[before as u8]].concat()).or_default();
+            let after = (0..7).filter(|after| holds(sets[before], *after));
+            list.extend(after.map(|after| [&event[BEFORE..byte::AFTER], &[after]].concat()));
+        }
+    }
+    assert_eq!(questions(&definition), lists.keys().cloned().collect::<Vec<_>>());
+    assert_eq!((lists.len(), lists.values().map(BTreeSet::len).max()), (1_176, Some(29)));
+    for (question, list) in lists {
+        assert_eq!(answers(&definition, &question), list.into_iter().collect::<Vec<_>>(), "{question:?}");
+    }
+}
+
+/// A question is refused for a byte outside its range, then for its request, then for its room; else the list begins the room.
+#[test]
+fn lists_refused() {
+    let definition = Definition::at_stage(1).unwrap();
+    let good = [1, 0, 0, 0, 0, 0];
+    let refused = |question: [u8; 6], room: &[u8], refusal: u8| {
+        assert_eq!(list(&definition, &question, room), Listed { refusal, count: 0, room: room.to_vec() }, "{question:?}");
+    };
+    for (n, limit) in [1, 1, 1, 2, 6].into_iter().enumerate() {
+        for request in [1, 3] {
+            let mut question = good;
+            (question[0], question[1 + n]) = (request, limit + 1);
+            refused(question, &[], 4);
+            refused(question, &[7; 300], 4);
+            question[1 + n] = limit;
+            let accepted = list(&definition, &question, &[7; 300]).refusal;
+            assert_eq!(accepted, if request == 1 { 0 } else { 5 });
+        }
+    }
+    refused([0, 0, 0, 0, 0, 0], &[], 5);
+    (0..18).for_each(|length| refused(good, &vec![7; length], 9));
+    for more in [0, 1, 100] {
+        let own = list(&definition, &good, &vec![7; 18 + more]);
+        let room = [&[0, 1, 0, 0, 0, 0, 0, 0, 0, 0, 1, 0, 0, 0, 3, 0, 0, 0], &vec![7; more][..]].concat();
+        assert_eq!(own, Listed { refusal: 0, count: 2, room });
+    }
+    for room in [&[][..], &[7; 5]] {
+        assert_eq!(list(&definition, &[1, 0, 0, 0, 2, 0], room), Listed { refusal: 0, count: 0, room: room.to_vec() });
     }
 }
 

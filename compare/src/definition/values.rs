@@ -31,7 +31,7 @@ pub struct Definition {
 }
 
 /// The last follow-up request that is in force, or 0 where none is.
-pub const IN_FORCE: usize = 0;
+pub const IN_FORCE: usize = 1;
 
 /// Changes a definition as a follow-up request asks.
 type Change = fn(&mut Definition);

@@ -1,11 +1,12 @@
 //! The wrong judges, each with what it does.
 
 use crate::cases::text::fields_of;
-use crate::cases::wire::{handed_over, lent_in, trace_case};
+use crate::cases::wire::{handed_over, lent_in, number, question_in, trace_case, LIST_PLACE};
+use crate::definition::answers::{answer_bytes, answers, list, BEFORE, QUESTION_BYTES};
 use crate::definition::capture::{self, record_bytes};
 use crate::definition::codes::*;
 use crate::definition::event::{alone, is_request, refusal};
-use crate::definition::rows::{Row, B4_46, NDERR_ROW};
+use crate::definition::rows::{Row, B4_46, B4_60, NDERR_ROW};
 use crate::definition::sheet::{lines, CRLF, OUTPUT_HEADER};
 use crate::definition::trace::{event_of, judge_event, refused, whole_events, Lent};
 use crate::definition::values::Definition;
@@ -320,6 +321,113 @@ pub const WRONG: &[Wrong] = &[
         let lines = answer.output.split_inclusive(|byte| *byte == b'\n');
         answer.output = lines.filter(|line| !line.ends_with(b"lost\n")).collect::<Vec<&[u8]>>().concat();
     })),
+    // The list of answers. Its answer has refusal, place in three bytes, count in four, and the lent bytes with those past them.
+    wrong("answers", "an answer is listed twice", Tells(|d, record, answer| relist(d, record, answer, |list| {
+        list.extend_from_within(list.len().saturating_sub(1)..);
+    }))),
+    wrong("answers", "the last two answers are exchanged", Tells(|d, record, answer| relist(d, record, answer, |list| {
+        if let [.., one, other] = &mut list[..] {
+            std::mem::swap(one, other);
+        }
+    }))),
+    wrong("answers", "the list is descending", Tells(|d, record, answer| relist(d, record, answer, |list| list.reverse()))),
+    wrong("answers", "a state after not seen is listed too", Tells(|d, record, answer| {
+        relist(d, record, answer, |list| list_too(list, |_| true, byte::AFTER, STATE_NOT_SEEN));
+    })),
+    wrong("answers", "UDP has Transfer under a forwarding snoop", Tells(|d, record, answer| {
+        // Under the other snoops it has it anyway.
+        relist(d, record, answer, |list| list_too(list, |answer| answer.starts_with(&[DAT, 5]), byte::TAG_OP, TRANSFER));
+    })),
+    wrong("answers", "the rows that B4.59 and B4.60 share are listed twice", Tells(|d, record, answer| {
+        let question = question_in(record).0;
+        let of_table = |table: &str| {
+            let mut other = d.clone();
+            other.rows.retain(|row| row.table == table);
+            answers(&other, question)
+        };
+        let (mut shared, b4_60) = (of_table("B4.59"), of_table(B4_60));
+        shared.retain(|answer| b4_60.contains(answer));
+        relist(d, record, answer, |list| {
+            list.append(&mut shared);
+            list.sort();
+        });
+    })),
+    wrong("answers", "the NDERR answer is left out", Value(|d| d.rows.retain(|row| row.table != NDERR_ROW))),
+    wrong("answers", "the rows of B4.60 are left out", Value(|d| d.rows.retain(|row| row.table != B4_60))),
+    wrong("answers", "plain data follows the tag column of B4.57", Value(|d| d.any_tag_op.clear())),
+    wrong("answers", "RetToSrc is ignored", Value(|d| rows(d, |row| row.ret_to_src = None))),
+    wrong("answers", "DoNotGoToSD is ignored", Given(|_, record| record[byte::DO_NOT_GO_TO_SD] &= 254)),
+    wrong("answers", "excl is ignored", Given(|_, record| record[byte::EXCL] &= 254)),
+    wrong("answers", "UC has answers under Dirty tags", Given(|_, record| {
+        if [record[byte::TAG], record[BEFORE]] == [TAG_DIRTY, 1] {
+            record[byte::TAG] = 0;
+        }
+    })),
+    wrong("answers", "a tag state of 3 is taken for Invalid", Given(|_, record| {
+        if record[byte::TAG] == TAG_NOT_SEEN {
+            record[byte::TAG] = 0;
+        }
+    })),
+    wrong("answers", "a state before of 7 has an empty list", Given(|_, record| {
+        if record[byte::TAG] <= TAG_DIRTY && record[BEFORE] == STATE_NOT_SEEN {
+            (record[byte::TAG], record[BEFORE]) = (TAG_DIRTY, I);
+        }
+    })),
+    wrong("answers", "an empty list is refused", Tells(|d, record, answer| {
+        if listed(d, answer) == Some(0) {
+            list_nothing(record, answer, 9);
+        }
+    })),
+    wrong("answers", "just enough room is too little", Tells(|d, record, answer| {
+        if listed(d, answer) == Some(question_in(record).1.len()) {
+            list_nothing(record, answer, 9);
+        }
+    })),
+    wrong("answers", "a byte too little is enough", Given(|d, record| {
+        let (question, room, _) = question_in(record);
+        let length = room.len() + 1;
+        if list(d, question, room).refusal == 9 && answers(d, question).concat().len() == length {
+            record[QUESTION_BYTES..LIST_PLACE].copy_from_slice(&(length as u16).to_le_bytes());
+        }
+    })),
+    wrong("answers", "the room's length is its low byte", Given(|_, record| record[QUESTION_BYTES + 1] = 0)),
+    wrong("answers", "of a list that is too long is written what fits", Tells(|d, record, answer| {
+        let (question, room, _) = question_in(record);
+        if answer.output[0] == 9 {
+            answer.output[LIST_PLACE..][..room.len()].copy_from_slice(&answers(d, question).concat()[..room.len()]);
+        }
+    })),
+    wrong("answers", "a refusal clears the room", Tells(|_, record, answer| {
+        if answer.output[0] != 0 {
+            answer.output[LIST_PLACE..][..question_in(record).1.len()].fill(0);
+        }
+    })),
+    wrong("answers", "a byte is written behind the last answer", Tells(|d, record, answer| {
+        if let Some(length) = listed(d, answer).filter(|length| *length < question_in(record).1.len()) {
+            answer.output[LIST_PLACE + length] = 0;
+        }
+    })),
+    wrong("answers", "a byte is written behind the room", Tells(|_, record, answer| {
+        let (_, room, rest) = question_in(record);
+        if answer.output[0] == 0 && !rest.is_empty() {
+            answer.output[LIST_PLACE + room.len()] = 0;
+        }
+    })),
+    wrong("answers", "the count is one too high", Tells(|_, _, answer| answer.output[4] += u8::from(answer.output[0] == 0))),
+    wrong("answers", "the count is told though the list is refused", Tells(|d, record, answer| {
+        if answer.output[0] == 9 {
+            answer.output[4] = answers(d, question_in(record).0).len() as u8;
+        }
+    })),
+    wrong("answers", "an accepted question has place 1", Tells(|_, _, answer| answer.output[1] += u8::from(answer.output[0] == 0))),
+    wrong("answers", "a refused question has place 1", Tells(|_, _, answer| answer.output[1] += u8::from(answer.output[0] != 0))),
+    wrong("answers", "5 is told before 4", Tells(|d, record, answer| {
+        if answer.output[0] == 4 && !is_request(d, record[byte::REQUEST]) {
+            answer.output[0] = 5;
+        }
+    })),
+    wrong("answers", "9 is told before 5", Tells(|_, record, answer| no_room_first(record, answer, 5))),
+    wrong("answers", "9 is told before 4", Tells(|_, record, answer| no_room_first(record, answer, 4))),
 ];
 
 /// A wrong judge by its columns.
@@ -378,6 +486,51 @@ where
     }
     answer.output.truncate(5);
     lent.parts()[2..].iter().for_each(|part| answer.output.extend(*part));
+}
+
+/// How many bytes an accepted question's list has by the count that is told.
+fn listed(definition: &Definition, answer: &Answer) -> Option<usize> {
+    (answer.output[0] == 0).then(|| number(&answer.output[4..]) * answer_bytes(definition))
+}
+
+/// Answers a question with a number and without any list.
+fn list_nothing(record: &[u8], answer: &mut Answer, refusal: u8) {
+    answer.output = [&[refusal, 0, 0, 0, 0, 0, 0, 0][..], &record[LIST_PLACE..]].concat();
+}
+
+/// Refuses a question without room for that, and not with another number.
+fn no_room_first(record: &[u8], answer: &mut Answer, refusal: u8) {
+    if answer.output[0] == refusal && question_in(record).1.is_empty() {
+        answer.output[0] = 9;
+    }
+}
+
+/// Lists other answers to an accepted question, if there is room for them.
+fn relist<C>(definition: &Definition, record: &[u8], answer: &mut Answer, change: C)
+where
+    C: FnOnce(&mut Vec<Vec<u8>>),
+{
+    if answer.output[0] != 0 {
+        return;
+    }
+    let (question, room, _) = question_in(record);
+    let mut list = answers(definition, question);
+    change(&mut list);
+    let bytes = list.concat();
+    if bytes.len() <= room.len() {
+        list_nothing(record, answer, 0);
+        answer.output[4] = list.len() as u8;
+        answer.output[LIST_PLACE..][..bytes.len()].copy_from_slice(&bytes);
+    }
+}
+
+/// Adds to a list some of its answers with another value at a place of the event.
+fn list_too(list: &mut Vec<Vec<u8>>, some: fn(&[u8]) -> bool, place: usize, value: u8) {
+    let mut others: Vec<Vec<u8>> = list.iter().filter(|answer| some(answer)).cloned().collect();
+    others.iter_mut().for_each(|answer| answer[place - byte::CHANNEL] = value);
+    list.append(&mut others);
+    list.sort();
+    list.dedup();
 }
 
 /// Bytes in which some others stand in the place of these.

@@ -3,7 +3,7 @@
 // Each test uses a part of it.
 #![allow(dead_code)]
 
-use korehyumo::{judge_trace, Refusal};
+use korehyumo::{judge_trace, Answer, Forward, FwdState, Refusal, Resp};
 
 /// The four events of the definition's example sheet.
 pub const SHEET: [[u8; 14]; 4] = [
@@ -48,6 +48,14 @@ pub const RESPONSES: [(&str, [u8; 4]); 22] = [
     ("SnpRespData_SC_PD_Fwded_SC", [1, 6, 5, 1]),
 ];
 
+/// The names of forwarded data, with their codes.
+pub const FORWARDS: [(&str, u8); 4] = [
+    ("CompData_SC", 1),
+    ("CompData_UC", 2),
+    ("CompData_UD_PD", 6),
+    ("CompData_SD_PD", 7),
+];
+
 /// The six bytes of a response and of the forwarded data that its row has.
 pub fn wire(codes: [u8; 4]) -> [u8; 6] {
     let [channel, opcode, resp, fwd_state] = codes;
@@ -59,6 +67,26 @@ pub fn wire(codes: [u8; 4]) -> [u8; 6] {
         u8::from(fwd_state != 0),
         fwd_state,
     ]
+}
+
+/// Every value of `Answer`.
+pub fn all_answers() -> Vec<Answer> {
+    let mut forwards = vec![Forward::NoForward];
+    forwards.extend(FwdState::ALL.map(Forward::CompData));
+    let mut answers: Vec<Answer> = Resp::ALL.map(Answer::SnpRespDataPtl).to_vec();
+    for resp in Resp::ALL {
+        answers.extend(
+            forwards
+                .iter()
+                .map(|forward| Answer::SnpResp(resp, *forward)),
+        );
+        answers.extend(
+            forwards
+                .iter()
+                .map(|forward| Answer::SnpRespData(resp, *forward)),
+        );
+    }
+    answers
 }
 
 /// The six buffers of a call.

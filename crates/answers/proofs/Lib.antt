@@ -1,0 +1,5 @@
+pub mod Ascending
+pub mod Choices
+pub mod OfRows
+pub mod Sorted
+pub mod Table

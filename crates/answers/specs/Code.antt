@@ -1,0 +1,46 @@
+-- What private functions compute. No public claim names this file.
+use Prim.Native.Nat.{ℕ, _+_, _*_, _/_, _%_, _^_}
+use mathlib.Core.Bool.{Bool, cond}
+use mathlib.Core.List.{List, [], _∷_, map}
+use lib.Dec.{eqb}
+use lib.ListN.{getD, take, drop}
+use Rattle.kinds.specs.Tests.{_∈?_}
+use Rattle.kinds.specs.Codes.{SnpCleanFwd, SnpNotSharedDirtyFwd, SnpPreferUniqueFwd, tagDirty}
+use Rattle.answers.specs.declared.Question.{Question}
+use Rattle.answers.specs.Table.{lists, spans, numbers, answers}
+
+-- the tables that hold for a request and excl: 0 is B4.46, 1 is B4.57, 2 is B4.59, 3 is B4.59 with B4.60
+abbrev pub tablesOf : ℕ → ℕ → ℕ
+tablesOf request excl =
+    cond (eqb request SnpPreferUniqueFwd) (cond (eqb excl 0) 3 2) (cond (request ∈? (SnpCleanFwd ∷ SnpNotSharedDirtyFwd ∷ [])) 1 0)
+
+-- the context of a question: tables, RetToSrc, DoNotGoToSD, Dirty tags and state before
+abbrev pub contextOf : Question → ℕ
+contextOf q =
+    (((tablesOf (q .request .0) (q .excl) * 2 + q .«ret_to_src») * 2 + q .«do_not_go_to_sd») * 2 + cond (eqb (q .tag .0) tagDirty) 1 0) * 7 + q .before .0
+
+-- where the list of a question starts, times 64, plus how many answers it has
+unfoldable pub spanOf : Question → ℕ
+spanOf q = getD spans (getD lists (contextOf q) 0) 0
+
+-- the nine bytes of an answer from its number in one: eight bytes, the lowest first, and from bit 59 on the state after
+abbrev pub nineOf : ℕ → List ℕ
+nineOf w =
+    w % 2 ^ 59 % 256 ∷
+    w % 2 ^ 59 / 2 ^ 8 % 256 ∷
+    w % 2 ^ 59 / 2 ^ 16 % 256 ∷
+    w % 2 ^ 59 / 2 ^ 24 % 256 ∷
+    w % 2 ^ 59 / 2 ^ 32 % 256 ∷
+    w % 2 ^ 59 / 2 ^ 40 % 256 ∷
+    w % 2 ^ 59 / 2 ^ 48 % 256 ∷
+    w % 2 ^ 59 / 2 ^ 56 % 256 ∷
+    w / 2 ^ 59 % 256 ∷
+    []
+
+-- the answer with this number
+unfoldable pub answerAt : ℕ → List ℕ
+answerAt n = nineOf (getD answers n 0)
+
+-- the answers of a span
+unfoldable pub answersIn : ℕ → List (List ℕ)
+answersIn span = map answerAt (take (span % 64) (drop (span / 64) numbers))

@@ -1,0 +1,5 @@
+pub mod Answers
+pub mod Ascending
+pub mod Listed
+pub mod Table
+pub mod Code
