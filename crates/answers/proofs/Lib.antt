@@ -2,4 +2,6 @@ pub mod Ascending
 pub mod Choices
 pub mod OfRows
 pub mod Sorted
-pub mod Table
+pub mod Lists
+pub mod Laws
+pub mod Whole

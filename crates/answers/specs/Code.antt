@@ -41,6 +41,10 @@ nineOf w =
 unfoldable pub answerAt : ℕ → List ℕ
 answerAt n = nineOf (getD answers n 0)
 
+-- so many answers, by their numbers from `start` on
+abbrev pub answersAt : ℕ → ℕ → List (List ℕ)
+answersAt start count = map answerAt (take count (drop start numbers))
+
 -- the answers of a span
 unfoldable pub answersIn : ℕ → List (List ℕ)
-answersIn span = map answerAt (take (span % 64) (drop (span / 64) numbers))
+answersIn span = answersAt (span / 64) (span % 64)

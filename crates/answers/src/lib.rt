@@ -3,8 +3,24 @@ use kinds::LineState;
 use kinds::Refusal;
 use kinds::Request;
 use kinds::TagState;
+ghost use Prim.Native.Nat.{_+_, _*_, _≤_};
+ghost use mathlib.Core.Path.{_≡_};
+ghost use mathlib.Core.List.{_++_};
+ghost use lib.ListN.{length, getD, take, drop};
+ghost use Rattle.event.specs.Refusals.{issueE};
+ghost use Rattle.answers.specs.Listed.{answerLength, joined, faultOf, left, listed};
+ghost use Rattle.answers.specs.Table.{lists, spans, numbers};
+ghost use Rattle.answers.specs.Code.{tablesOf, contextOf, spanOf, nineOf, answersAt};
 
-// What is asked: a snoop, the snoopee's tag state, and the state of its line before (definition 11.1).
+mod table;
+
+// The length of an answer in bytes: event bytes 5 to 13 (definition 11.2).
+pub const ANSWER_BYTES: usize = 9;
+
+// The most answers of a list (definition 11.6).
+pub const MOST_ANSWERS: usize = 29;
+
+// What is asked: a snoop, the tag state of the snoopee and the state of its line before (definition 11.1).
 pub struct Question {
     pub request: Request,
     pub ret_to_src: u8,
@@ -14,9 +30,125 @@ pub struct Question {
     pub before: LineState,
 }
 
-// The result of a call: a refusal number, its place, and how many answers were put into the room (definition 11.4).
+// The result of a call: a refusal number, its place, and the number of answers that were put into the room (definition 11.4).
 pub struct Listed {
     pub refusal: Refusal,
     pub place: usize,
     pub count: usize,
+}
+
+// The refusal number for the bytes of a question: 4, then 5 (definition 11.5).
+fn fault(q: Question) -> Refusal
+    ensures { λ r. ⌜ r .0 ≡ faultOf issueE q ⌝ }
+{
+    let request = q.request;
+    let flags = (q.ret_to_src < 2) & (q.do_not_go_to_sd < 2) & (q.excl < 2);
+    let fine = flags & (q.tag.0 < 3) & (q.before.0 < 7);
+    let known = kinds::choose_byte(request.known(), Refusal::ACCEPTED.0, Refusal::REQUEST.0);
+    Refusal(kinds::choose_byte(fine, known, Refusal::RANGE.0))
+}
+
+// The tables that hold: 0 is B4.46, 1 is B4.57, 2 is B4.59, 3 is B4.59 with B4.60 (definition 5.2 to 5.6).
+fn tables(request: Request, excl: u8) -> u8
+    ensures { λ r. ⌜ r ≡ tablesOf (request .0) excl ⌝ }
+{
+    let n = request.0;
+    let forwards = (n == Request::SNP_CLEAN_FWD.0) | (n == Request::SNP_NOT_SHARED_DIRTY_FWD.0);
+    let plain = kinds::choose_byte(forwards, 1, 0);
+    let unique = kinds::choose_byte(excl == 0, 3, 2);
+    kinds::choose_byte(n == Request::SNP_PREFER_UNIQUE_FWD.0, unique, plain)
+}
+
+// What the list of a question depends on, in one number: tables, RetToSrc, DoNotGoToSD, Dirty tags and state before.
+fn context(q: Question) -> usize
+    ensures { λ r. ⌜ r ≡ contextOf q ⌝ }
+{
+    let tables = tables(q.request, q.excl) as usize;
+    let dirty = kinds::choose_byte(q.tag.0 == TagState::DIRTY.0, 1, 0) as usize;
+    let ret = q.ret_to_src as usize;
+    let no_sd = q.do_not_go_to_sd as usize;
+    (((tables * 2 + ret) * 2 + no_sd) * 2 + dirty) * 7 + q.before.0 as usize
+}
+
+// The number of the list of a context; list 0 past the last context.
+fn list_of(context: usize) -> u8
+    ensures { λ r. ⌜ r ≡ getD lists context 0 ⌝ }
+{
+    let lists = table::LISTS;
+    if context < table::CONTEXTS {
+        lists[context]
+    } else {
+        0
+    }
+}
+
+// Where a list starts, times 64, plus its number of answers; 0 past the last list.
+fn span_of(list: u8) -> u16
+    ensures { λ r. ⌜ r ≡ getD spans list 0 ⌝ }
+{
+    let spans = table::SPANS;
+    let at = list as usize;
+    if at < table::LIST_COUNT { spans[at] } else { 0 }
+}
+
+// Puts the nine bytes of an answer into the room, at an offset. They must fit.
+fn put_answer(room: &mut [u8], at: usize, answer: u64)
+    requires { ⌜ at + answerLength ≤ length (now room) ⌝ }
+    ensures { λ _. ⌜ now (room .exit) ≡ take at (now (room .entry)) ++ nineOf answer ++ drop (at + answerLength) (now (room .entry)) ⌝ }
+{
+    let bytes = answer % table::AFTER;
+    room[at] = (bytes % 256) as u8;
+    room[at + 1] = ((bytes >> 8) % 256) as u8;
+    room[at + 2] = ((bytes >> 16) % 256) as u8;
+    room[at + 3] = ((bytes >> 24) % 256) as u8;
+    room[at + 4] = ((bytes >> 32) % 256) as u8;
+    room[at + 5] = ((bytes >> 40) % 256) as u8;
+    room[at + 6] = ((bytes >> 48) % 256) as u8;
+    room[at + 7] = ((bytes >> 56) % 256) as u8;
+    room[at + 8] = ((answer / table::AFTER) % 256) as u8;
+}
+
+// Puts so many answers into the room, one after another, by their numbers from `start` on. They must fit.
+fn put_answers(room: &mut [u8], start: usize, count: usize)
+    requires { ⌜ start + count ≤ length numbers ⌝ }
+    requires { ⌜ answerLength * count ≤ length (now room) ⌝ }
+    ensures { λ _. ⌜ now (room .exit) ≡ joined (answersAt start count) ++ drop (answerLength * count) (now (room .entry)) ⌝ }
+{
+    let numbers = table::NUMBERS;
+    let mut k: usize = 0;
+    while k < count {
+        let answer = table::answer(numbers[start + k]);
+        put_answer(room, k * ANSWER_BYTES, answer);
+        k += 1;
+    }
+}
+
+// Lists every permitted answer to a question in the room, each once, ascending byte by byte (definition 11.3 to 11.5).
+pub fn list_answers(question: Question, room: &mut [u8]) -> Listed
+    ensures { λ r. ⌜ left r (now (room .exit)) ≡ listed issueE question (now (room .entry)) ⌝ }
+{
+    let refusal = fault(question);
+    let number = refusal.0;
+    if number != Refusal::ACCEPTED.0 {
+        return Listed {
+            refusal,
+            place: 0,
+            count: 0,
+        };
+    }
+    let span = span_of(list_of(context(question))) as usize;
+    let count = span % table::SPAN;
+    if room.len() < count * ANSWER_BYTES {
+        return Listed {
+            refusal: Refusal::ROOM,
+            place: 0,
+            count: 0,
+        };
+    }
+    put_answers(room, span / table::SPAN, count);
+    Listed {
+        refusal,
+        place: 0,
+        count,
+    }
 }

@@ -355,7 +355,7 @@ impl Duty {
     pub const LOST: Duty = Duty(3);
 }
 
-// Why a call is refused, or that it is accepted (definition 4.1, 8.7).
+// Why a call is refused, or that it is accepted (definition 4.1, 8.7, 11.5).
 pub struct Refusal(pub u8);
 
 impl Refusal {
@@ -376,6 +376,8 @@ impl Refusal {
     pub const LINE: Refusal = Refusal(7);
 
     pub const FIELDS: Refusal = Refusal(8);
+
+    pub const ROOM: Refusal = Refusal(9);
 }
 
 // The number of a pair, which is one line in one cache. Only this number looks up the table of sets (definition 1.3).

@@ -1,0 +1,168 @@
+-- Laws about the code of `list_answers`, over plain variables.
+-- Assumes nothing.
+use mathlib.Core.Path.{_≡_, refl, sym, _∙_, ap, ap₂, subst}
+use mathlib.Core.Bool.{Bool, true, false, cond, _&&_, _||_, and-true}
+use mathlib.Core.List.{List, [], _∷_, _++_, map, append-assoc, append-nil}
+use Prim.Native.Nat.{ℕ, zero, suc, _+_, _*_, _/_, _%_, _<_, _≤_}
+use native.Mathlib.Nat.{le-antisymm}
+use native.Mathlib.Numerals.{add-one}
+use native.Mathlib.Omega.{arith}
+use borrow.Author.Tests.{eq-eqb, ne-eqb, le-leb, lt-leb}
+use lib.Dec.{eqb, ltb, leb}
+use lib.ListN.{length, getD, take, drop, set, length-append, length-drop, length-map}
+use lib.Seq.{sets-eq, take-suc, take-at, drop-append-add, drop-drop, getD-drop, length-take-le}
+use Rattle.kinds.specs.Tests.{_∈?_}
+use Rattle.kinds.proofs.Laws.{one-of-2}
+use Rattle.event.specs.Refusals.{issueE, fault}
+use Rattle.answers.specs.declared.Question.{Question}
+use Rattle.answers.specs.declared.Listed.{Listed}
+use Rattle.answers.specs.Listed.{asking, faultOf, joined}
+use Rattle.answers.specs.Table.{beyond, lists, spans, numbers, answers}
+use Rattle.answers.specs.Code.{tablesOf, nineOf, answerAt, answersAt}
+
+-- a number that is none of the first n is past them
+pub beyond-le : (n number : ℕ) → beyond number n → n ≤ number
+beyond-le zero number h = omega arith
+beyond-le (suc n) number h = omega (arith, beyond-le n number (h .0), h .1)
+
+-- the choices of `tables`, each from the one before
+pub tables-by : (request excl plain unique r : ℕ) → plain ≡ cond (eqb request 18 || eqb request 20) 1 0 → unique ≡ cond (eqb excl 0) 3 2
+    → r ≡ cond (eqb request 22) unique plain → r ≡ tablesOf request excl
+tables-by request excl plain unique r hp hu hr =
+    hr ∙ ap₂ (cond (eqb request 22)) hu (hp ∙ ap (λ (b : Bool). cond b 1 0) (one-of-2 request 18 20))
+
+-- five tests one after another
+five-tests : (a b c d e : Bool) → a && b && c && d && e ≡ a && (b && (c && (d && (e && true))))
+five-tests true true true true e = sym (and-true e)
+five-tests true true true false e = refl
+five-tests true true false d e = refl
+five-tests true false c d e = refl
+five-tests false b c d e = refl
+
+-- the choices of `fault`, each from the one before
+pub fault-by : (q : Question) (known : Bool) (k r : ℕ) → known ≡ q .request .0 ∈? issueE .requests → k ≡ cond known 0 5
+    → r ≡ cond (ltb (q .«ret_to_src») 2 && ltb (q .«do_not_go_to_sd») 2 && ltb (q .excl) 2 && ltb (q .tag .0) 3 && ltb (q .before .0) 7) k 4
+    → r ≡ faultOf issueE q
+unfolding fault
+fault-by q known k r hn hk hr =
+    hr
+    ∙ ap₂ (λ (b : Bool) (n : ℕ). cond b n 4)
+    (five-tests (ltb (q .«ret_to_src») 2) (ltb (q .«do_not_go_to_sd») 2) (ltb (q .excl) 2) (ltb (q .tag .0) 3) (ltb (q .before .0) 7))
+    (hk ∙ ap (λ (b : Bool). cond b 0 5) hn)
+
+-- the lengths of the tables
+pub lists-length : length lists ≡ 224
+unfolding lists
+lists-length = refl
+
+pub spans-length : length spans ≡ 34
+unfolding spans
+spans-length = refl
+
+pub numbers-length : length numbers ≡ 330
+unfolding numbers
+numbers-length = refl
+
+-- nine stores, one behind another
+pub nine-stores : (l : List ℕ) (at b₀ b₁ b₂ b₃ b₄ b₅ b₆ b₇ b₈ : ℕ) → at + 9 ≤ length l
+    → set (set (set (set (set (set (set (set (set l at b₀) (at + 1) b₁) (at + 2) b₂) (at + 3) b₃) (at + 4) b₄) (at + 5) b₅) (at + 6) b₆) (at + 7) b₇) (at + 8) b₈
+    ≡ take at l ++ (b₀ ∷ b₁ ∷ b₂ ∷ b₃ ∷ b₄ ∷ b₅ ∷ b₆ ∷ b₇ ∷ b₈ ∷ []) ++ drop (at + 9) l
+nine-stores l at b₀ b₁ b₂ b₃ b₄ b₅ b₆ b₇ b₈ h =
+    let e₁ : at + 1 ≡ suc at = omega arith in
+    let e₂ : at + 2 ≡ suc (suc at) = omega arith in
+    let e₃ : at + 3 ≡ suc (suc (suc at)) = omega arith in
+    let e₄ : at + 4 ≡ suc (suc (suc (suc at))) = omega arith in
+    let e₅ : at + 5 ≡ suc (suc (suc (suc (suc at)))) = omega arith in
+    let e₆ : at + 6 ≡ suc (suc (suc (suc (suc (suc at))))) = omega arith in
+    let e₇ : at + 7 ≡ suc (suc (suc (suc (suc (suc (suc at)))))) = omega arith in
+    let e₈ : at + 8 ≡ suc (suc (suc (suc (suc (suc (suc (suc at))))))) = omega arith in
+    rw (e₁, e₂, e₃, e₄, e₅, e₆, e₇, e₈) (sets-eq (b₀ ∷ b₁ ∷ b₂ ∷ b₃ ∷ b₄ ∷ b₅ ∷ b₆ ∷ b₇ ∷ b₈ ∷ []) l at h)
+
+-- lists joined, with one more behind them
+joined-snoc : (ls : List (List ℕ)) (l : List ℕ) → joined (ls ++ (l ∷ [])) ≡ joined ls ++ l
+joined-snoc [] l = append-nil l
+joined-snoc (m ∷ ls) l = ap (λ (x : List ℕ). m ++ x) (joined-snoc ls l) ∙ sym (append-assoc m (joined ls) l)
+
+map-snoc : (f : ℕ → List ℕ) (ns : List ℕ) (n : ℕ) → map f (ns ++ (n ∷ [])) ≡ map f ns ++ (f n ∷ [])
+map-snoc f [] n = refl
+map-snoc f (m ∷ ns) n = ap (λ (x : List (List ℕ)). f m ∷ x) (map-snoc f ns n)
+
+-- answers joined have nine bytes each
+joined-length : (ns : List ℕ) → length (joined (map answerAt ns)) ≡ 9 * length ns
+unfolding answerAt
+joined-length [] = refl
+joined-length (n ∷ ns) = length-append (answerAt n) (joined (map answerAt ns)) ∙ omega (arith, joined-length ns)
+
+-- answers at numbers that are there
+at-length : (start count : ℕ) → start + count ≤ length numbers → length (take count (drop start numbers)) ≡ count
+at-length start count h = length-take-le count (drop start numbers) (subst (λ (n : ℕ). count ≤ n) (sym (length-drop start numbers)) (omega arith))
+
+pub answers-length : (start count : ℕ) → start + count ≤ length numbers → length (answersAt start count) ≡ count
+answers-length start count h = length-map (take count (drop start numbers)) answerAt ∙ at-length start count h
+
+-- one answer more
+answers-next : (start k : ℕ) → start + k < length numbers → joined (answersAt start (k + 1)) ≡ joined (answersAt start k) ++ answerAt (getD numbers (start + k) 0)
+answers-next start k h =
+    ap (λ (ns : List ℕ). joined (map answerAt ns))
+    (ap (λ (n : ℕ). take n (drop start numbers)) (add-one k)
+    ∙ take-suc (drop start numbers) k 0 (subst (λ (n : ℕ). k < n) (sym (length-drop start numbers)) (omega arith))
+    ∙ ap (λ (n : ℕ). take k (drop start numbers) ++ (n ∷ [])) (getD-drop start numbers k 0))
+    ∙ ap joined (map-snoc answerAt (take k (drop start numbers)) (getD numbers (start + k) 0))
+    ∙ joined-snoc (answersAt start k) (answerAt (getD numbers (start + k) 0))
+
+-- the loop of `put_answers` after k answers: `ns` is the code's list of numbers
+pub record Putting (room₀ : List ℕ) (start count : ℕ) (ns room : List ℕ) (k : ℕ) : Type 0 where
+  pub among : k ≤ count
+  pub table : ns ≡ numbers
+  pub put : room ≡ joined (answersAt start k) ++ drop (9 * k) room₀
+
+pub putting-start : (room : List ℕ) (start count : ℕ) (ns : List ℕ) → ns ≡ numbers → Putting room start count ns room 0
+putting-start room start count ns h = record { among = omega arith; table = h; put = refl }
+
+-- how much of the room is filled then
+filled : (start count k : ℕ) → start + count ≤ length numbers → k ≤ count → length (joined (answersAt start k)) ≡ 9 * k
+filled start count k h l = joined-length (take k (drop start numbers)) ∙ ap (λ (n : ℕ). 9 * n) (at-length start k (omega arith))
+
+module _ {room₀ ns room : List ℕ} {start count k : ℕ} (fits : start + count ≤ length numbers) (enough : 9 * count ≤ length room₀) where
+  -- the room keeps its length
+  pub putting-length : Putting room₀ start count ns room k → length room ≡ length room₀
+  putting-length p =
+      ap length (p .put)
+      ∙ length-append (joined (answersAt start k)) (drop (9 * k) room₀)
+      ∙ ap₂ _+_ (filled start count k fits (p .among)) (length-drop (9 * k) room₀)
+      ∙ omega (arith, p .among)
+
+  pub putting-next : (answer : ℕ) (next : List ℕ) → Putting room₀ start count ns room k → k < count → answer ≡ getD answers (getD ns (start + k) 0) 0
+      → next ≡ take (k * 9) room ++ nineOf answer ++ drop (k * 9 + 9) room → Putting room₀ start count ns next (k + 1)
+  unfolding answerAt
+  putting-next answer next p l ha hn = record { among = omega arith; table = p .table; put = put }
+    where
+      long : length (joined (answersAt start k)) ≡ k * 9
+      long = filled start count k fits (p .among) ∙ omega arith
+
+      front : take (k * 9) room ≡ (joined (answersAt start k))
+      front = ap (take (k * 9)) (p .put) ∙ take-at (joined (answersAt start k)) (drop (9 * k) room₀) (k * 9) long
+
+      back : drop (k * 9 + 9) room ≡ drop (9 * (k + 1)) room₀
+      back =
+          let further : 9 * k + 9 ≡ 9 * (k + 1) = omega arith in
+          ap (drop (k * 9 + 9)) (p .put)
+          ∙ ap (λ (n : ℕ). drop (n + 9) ((joined (answersAt start k)) ++ drop (9 * k) room₀)) (sym long)
+          ∙ drop-append-add (joined (answersAt start k)) (drop (9 * k) room₀) 9
+          ∙ drop-drop 9 (9 * k) room₀
+          ∙ ap (λ (n : ℕ). drop n room₀) further
+
+      this : nineOf answer ≡ answerAt (getD numbers (start + k) 0)
+      this = ap nineOf (ha ∙ ap (λ (x : List ℕ). getD answers (getD x (start + k) 0) 0) (p .table))
+
+      put : next ≡ joined (answersAt start (k + 1)) ++ drop (9 * (k + 1)) room₀
+      put =
+          hn
+          ∙ ap₂ (λ (x y : List ℕ). x ++ nineOf answer ++ y) front back
+          ∙ ap (λ (x : List ℕ). (joined (answersAt start k)) ++ x ++ drop (9 * (k + 1)) room₀) this
+          ∙ ap (λ (x : List ℕ). x ++ drop (9 * (k + 1)) room₀) (sym (answers-next start k (omega arith)))
+
+pub putting-end : {room₀ ns room : List ℕ} {start count k : ℕ} → Putting room₀ start count ns room k → count ≤ k
+    → room ≡ joined (answersAt start count) ++ drop (9 * count) room₀
+putting-end {room₀} {ns} {room} {start} {count} {k} p h =
+    subst (λ (n : ℕ). room ≡ joined (answersAt start n) ++ drop (9 * n) room₀) (le-antisymm (p .among) h) (p .put)

@@ -1,0 +1,23 @@
+-- `answers::fault` meets its contract: the choices of the code are those of `faultOf`.
+-- Assumes nothing.
+use Rattle.answers.proofs.Laws.{fault-by}
+use borrow.Author.Needs.{needs}
+use Rattle.answers.proofs.fault.Statement.{statement}
+use Rattle.answers.proofs.fault.Tie as tie
+
+known-requires : tie.Need-known-requires
+known-requires c κs = search needs
+
+choose-byte-requires : tie.Need-choose-byte-requires
+choose-byte-requires c κs = search needs
+
+choose-byte-requires-2 : tie.Need-choose-byte-requires-2
+choose-byte-requires-2 c κs = search needs
+
+returns : tie.Need-returns
+returns c =
+    fault-by (c .before .before .before .before .before .before .before .before .before .args .q) (c .before .before .known .result) (c .before .choose-byte .result) (c .choose-byte2 .result) (c .before .before .known .ensures) (c .before .choose-byte .ensures) (c .choose-byte2 .ensures)
+
+pub fault-spec : {M : Type 1} → statement M
+fault-spec =
+    tie.close (tie.spec known-requires choose-byte-requires choose-byte-requires-2 returns)

@@ -1,0 +1,68 @@
+-- `answers::put_answers` meets its contract: after k answers those stand at the front of the room. The measure is what is left of them.
+-- Assumes nothing.
+use mathlib.Core.Path.{refl}
+use Prim.Native.Nat.{_-_}
+use native.Mathlib.Omega.{arith}
+use Rattle.answers.specs.Table.{numbers}
+use Rattle.answers.proofs.Laws.{numbers-length, Putting, putting-start, putting-next, putting-length, putting-end}
+use borrow.Author.Needs.{needs}
+use Rattle.answers.proofs.put_answers.Statement.{statement}
+use Rattle.answers.proofs.put_answers.Tie as tie
+
+abbrev Inv-loop : tie.InvT-loop
+Inv-loop room₀ start count ns k₀ room k = Putting room₀ start count ns room k
+
+abbrev μ-loop : tie.MeasureT-loop
+μ-loop room₀ start count ns k₀ room k = count - k
+
+loop-holds : tie.Need-loop-holds Inv-loop μ-loop
+unfolding numbers
+loop-holds c = putting-start _ _ _ _ refl
+
+add-answer : tie.Need-add-answer Inv-loop μ-loop
+add-answer c = omega (arith, numbers-length)
+
+array-read-answer : tie.Need-array-read-answer Inv-loop μ-loop
+array-read-answer c = omega (arith, numbers-length)
+
+answer-requires : tie.Need-answer-requires Inv-loop μ-loop
+answer-requires c κs = search needs
+
+mul-put-answer : tie.Need-mul-put-answer Inv-loop μ-loop
+mul-put-answer c = omega (arith, numbers-length)
+
+put-answer-requires : tie.Need-put-answer-requires Inv-loop μ-loop
+put-answer-requires c κs = omega (arith, putting-length (c .before .before .before .before .before .pre .0) (c .before .before .before .before .before .pre .1) (c .before .before .before .loop .inv))
+
+add-k : tie.Need-add-k Inv-loop μ-loop
+add-k c = omega arith
+
+loop-less : tie.Need-loop-less Inv-loop μ-loop
+loop-less c = omega arith
+
+loop-again : tie.Need-loop-again Inv-loop μ-loop
+loop-again c = putting-next (c .before .before .before .before .before .before .before .before .pre .0) (c .before .before .before .before .before .before .before .before .pre .1) (c .before .before .before .before .answer .result) _ (c .before .before .before .before .before .before .loop .inv) (c .before .before .before .before .before .loop-test .taken) (c .before .before .before .before .answer .ensures) (c .before .before .put-answer .ensures)
+
+same-length : tie.Need-same-length Inv-loop μ-loop
+same-length c = putting-length (c .before .before .before .pre .0) (c .before .before .before .pre .1) (c .before .loop .inv)
+
+returns : tie.Need-returns Inv-loop μ-loop
+returns c = putting-end (c .before .loop .inv) (c .loop-test .left)
+
+pub put-answers-spec : {M : Type 1} → statement M
+put-answers-spec =
+    tie.close
+    (tie.spec
+    Inv-loop
+    μ-loop
+    loop-holds
+    add-answer
+    array-read-answer
+    answer-requires
+    mul-put-answer
+    put-answer-requires
+    add-k
+    loop-less
+    loop-again
+    same-length
+    returns)

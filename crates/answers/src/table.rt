@@ -1,0 +1,318 @@
+// The lists of permitted answers as the code reads them. scripts/answer-lists writes this file from the printed rows.
+ghost use mathlib.Core.Path.{_≡_};
+ghost use lib.ListN.{getD};
+ghost use Rattle.answers.specs.Table.{answers, beyond};
+
+// How many contexts there are.
+pub const CONTEXTS: usize = 224;
+
+// How many lists there are.
+pub const LIST_COUNT: usize = 34;
+
+// What the start of a list is multiplied by in its span.
+pub const SPAN: usize = 64;
+
+// The weight of the state after in the number of an answer.
+pub const AFTER: u64 = 1 << 59;
+
+// the list of each context: tables, RetToSrc, DoNotGoToSD, Dirty tags, state before; a line has two contexts but for the state.
+pub const LISTS: [u8; CONTEXTS] = *b"\
+\x00\x01\x00\x02\x03\x04\x02\x05\x05\x05\x02\x05\x05\x02\
+\x00\x01\x00\x06\x03\x04\x06\x05\x05\x05\x06\x05\x05\x06\
+\x00\x01\x00\x02\x03\x07\x02\x05\x05\x05\x02\x05\x05\x02\
+\x00\x01\x00\x06\x03\x07\x06\x05\x05\x05\x06\x05\x05\x06\
+\x00\x08\x00\x09\x0a\x08\x09\x05\x05\x05\x0b\x05\x05\x0b\
+\x00\x08\x00\x0c\x0a\x08\x0c\x05\x05\x05\x0d\x05\x05\x0d\
+\x00\x0e\x00\x0f\x0a\x0e\x0f\x05\x05\x05\x10\x05\x05\x10\
+\x00\x0e\x00\x11\x0a\x0e\x11\x05\x05\x05\x0d\x05\x05\x0d\
+\x00\x12\x00\x13\x0a\x12\x13\x05\x05\x05\x14\x05\x05\x14\
+\x00\x12\x00\x15\x0a\x12\x15\x05\x05\x05\x16\x05\x05\x16\
+\x00\x17\x00\x18\x0a\x17\x18\x05\x05\x05\x19\x05\x05\x19\
+\x00\x17\x00\x15\x0a\x17\x15\x05\x05\x05\x16\x05\x05\x16\
+\x00\x1a\x00\x1b\x0a\x1a\x1b\x05\x05\x05\x1c\x05\x05\x1c\
+\x00\x1a\x00\x1d\x0a\x1a\x1d\x05\x05\x05\x1e\x05\x05\x1e\
+\x00\x1f\x00\x20\x0a\x1f\x20\x05\x05\x05\x21\x05\x05\x21\
+\x00\x1f\x00\x1d\x0a\x1f\x1d\x05\x05\x05\x1e\x05\x05\x1e";
+
+// where each list starts among the numbers, times 64, plus how many answers it has.
+pub const SPANS: [u16; LIST_COUNT] = [
+    2,
+    150,
+    1561,
+    3143,
+    3588,
+    3840,
+    3859,
+    5075,
+    6276,
+    6545,
+    7619,
+    7816,
+    8336,
+    9351,
+    9805,
+    10653,
+    12489,
+    13081,
+    14658,
+    14790,
+    15172,
+    15429,
+    15747,
+    15941,
+    16265,
+    16837,
+    17155,
+    17355,
+    18054,
+    18442,
+    19077,
+    19398,
+    19790,
+    20679,
+];
+
+// the numbers of the answers of each list, one list after another.
+pub const NUMBERS: [u8; 330] = *b"\
+\x00\x01\x00\x01\x02\x03\x0d\x0e\x0f\x10\x11\x12\x13\x14\x15\x16\x17\x18\x19\x1a\x1b\x1c\x1d\x1e\x01\x1f\x20\x21\x22\x23\
+\x24\x25\x26\x27\x28\x29\x2a\x2b\x2c\x2d\x2e\x2f\x30\x31\x32\x33\x34\x35\x36\x01\x37\x38\x39\x3a\x3b\x3c\x00\x01\x02\x03\
+\x01\x25\x26\x27\x28\x29\x2a\x2b\x2c\x2d\x2e\x2f\x30\x31\x32\x33\x34\x35\x36\x01\x0d\x0e\x0f\x10\x11\x12\x13\x14\x15\x16\
+\x17\x18\x19\x1a\x1b\x1c\x1d\x1e\x01\x04\x08\x09\x01\x07\x0a\x0b\x0c\x59\x5a\x5b\x5c\x5f\x60\x61\x62\x63\x64\x65\x66\x01\
+\x37\x38\x01\x0c\x5d\x5e\x67\x68\x69\x6a\x01\x07\x0a\x0b\x59\x5a\x5b\x5c\x5f\x60\x61\x62\x63\x64\x65\x66\x01\x5d\x5e\x67\
+\x68\x69\x6a\x01\x3d\x3e\x3f\x40\x45\x46\x47\x48\x49\x4a\x4b\x4c\x01\x41\x42\x43\x44\x4d\x4e\x4f\x50\x51\x52\x53\x54\x55\
+\x56\x57\x58\x59\x5a\x5b\x5c\x5f\x60\x61\x62\x63\x64\x65\x66\x01\x57\x58\x5d\x5e\x67\x68\x69\x6a\x01\x41\x42\x43\x44\x4d\
+\x4e\x4f\x50\x51\x52\x53\x54\x59\x5a\x5b\x5c\x5f\x60\x61\x62\x63\x64\x65\x66\x01\x09\x01\x0c\x60\x62\x64\x66\x01\x0c\x68\
+\x6a\x01\x60\x62\x64\x66\x01\x68\x6a\x01\x46\x48\x4a\x4c\x01\x55\x56\x57\x58\x60\x62\x64\x66\x01\x57\x58\x68\x6a\x01\x05\
+\x09\x01\x06\x0c\x25\x26\x27\x28\x60\x62\x64\x66\x01\x0c\x29\x2a\x68\x6a\x01\x06\x25\x26\x27\x28\x60\x62\x64\x66\x01\x29\
+\x2a\x68\x6a\x01\x05\x46\x48\x4a\x4c\x01\x06\x25\x26\x27\x28\x55\x56\x57\x58\x60\x62\x64\x66\x01\x29\x2a\x57\x58\x68\x6a";
+
+// The answer past the last number: 0.
+fn past(number: u8) -> u64
+    requires { ⌜ beyond number 107 ⌝ }
+    ensures { λ r. ⌜ r ≡ getD answers number 0 ⌝ }
+{
+    0
+}
+
+// The answer with this number: the first eight bytes, the lowest first, and from bit 59 on the state after.
+pub fn answer(number: u8) -> u64
+    ensures { λ r. ⌜ r ≡ getD answers number 0 ⌝ }
+{
+    match number {
+        // SnpResp_I, Invalid, OK, I
+        0 => 0x0000000000000100,
+        // SnpResp_I, Invalid, NDERR, I
+        1 => 0x0000030000000100,
+        // SnpResp_SC, Invalid, OK, I
+        2 => 0x0000000000010100,
+        // SnpResp_SC, Invalid, OK, SC
+        3 => 0x2800000000010100,
+        // SnpResp_I_Fwded_SC, Invalid, OK, I
+        4 => 0x0101000001000900,
+        // SnpResp_I_Fwded_UC, Invalid, OK, I
+        5 => 0x0201000002000900,
+        // SnpResp_I_Fwded_UD_PD, Invalid, OK, I
+        6 => 0x0601000006000900,
+        // SnpResp_I_Fwded_SD_PD, Invalid, OK, I
+        7 => 0x0701000007000900,
+        // SnpResp_SC_Fwded_SC, Invalid, OK, I
+        8 => 0x0101000001010900,
+        // SnpResp_SC_Fwded_SC, Invalid, OK, SC
+        9 => 0x2901000001010900,
+        // SnpResp_SC_Fwded_SD_PD, Invalid, OK, I
+        10 => 0x0701000007010900,
+        // SnpResp_SC_Fwded_SD_PD, Invalid, OK, SC
+        11 => 0x2f01000007010900,
+        // SnpResp_SD_Fwded_SC, Invalid, OK, SD
+        12 => 0x3101000001030900,
+        // SnpRespData_I, Invalid, OK, I
+        13 => 0x0000000000000101,
+        // SnpRespData_I, Invalid, DERR, I
+        14 => 0x0000020000000101,
+        // SnpRespData_I, Transfer, OK, I
+        15 => 0x0000000100000101,
+        // SnpRespData_I, Transfer, DERR, I
+        16 => 0x0000020100000101,
+        // SnpRespData_I, Update, OK, I
+        17 => 0x0000000200000101,
+        // SnpRespData_I, Update, DERR, I
+        18 => 0x0000020200000101,
+        // SnpRespData_SC, Invalid, OK, I
+        19 => 0x0000000000010101,
+        // SnpRespData_SC, Invalid, OK, SC
+        20 => 0x2800000000010101,
+        // SnpRespData_SC, Invalid, DERR, I
+        21 => 0x0000020000010101,
+        // SnpRespData_SC, Invalid, DERR, SC
+        22 => 0x2800020000010101,
+        // SnpRespData_SC, Transfer, OK, I
+        23 => 0x0000000100010101,
+        // SnpRespData_SC, Transfer, OK, SC
+        24 => 0x2800000100010101,
+        // SnpRespData_SC, Transfer, DERR, I
+        25 => 0x0000020100010101,
+        // SnpRespData_SC, Transfer, DERR, SC
+        26 => 0x2800020100010101,
+        // SnpRespData_SC, Update, OK, I
+        27 => 0x0000000200010101,
+        // SnpRespData_SC, Update, OK, SC
+        28 => 0x2800000200010101,
+        // SnpRespData_SC, Update, DERR, I
+        29 => 0x0000020200010101,
+        // SnpRespData_SC, Update, DERR, SC
+        30 => 0x2800020200010101,
+        // SnpRespData_SD, Invalid, OK, SD
+        31 => 0x3000000000030101,
+        // SnpRespData_SD, Invalid, DERR, SD
+        32 => 0x3000020000030101,
+        // SnpRespData_SD, Transfer, OK, SD
+        33 => 0x3000000100030101,
+        // SnpRespData_SD, Transfer, DERR, SD
+        34 => 0x3000020100030101,
+        // SnpRespData_SD, Update, OK, SD
+        35 => 0x3000000200030101,
+        // SnpRespData_SD, Update, DERR, SD
+        36 => 0x3000020200030101,
+        // SnpRespData_I_PD, Invalid, OK, I
+        37 => 0x0000000000040101,
+        // SnpRespData_I_PD, Invalid, DERR, I
+        38 => 0x0000020000040101,
+        // SnpRespData_I_PD, Transfer, OK, I
+        39 => 0x0000000100040101,
+        // SnpRespData_I_PD, Transfer, DERR, I
+        40 => 0x0000020100040101,
+        // SnpRespData_I_PD, Update, OK, I
+        41 => 0x0000000200040101,
+        // SnpRespData_I_PD, Update, DERR, I
+        42 => 0x0000020200040101,
+        // SnpRespData_SC_PD, Invalid, OK, I
+        43 => 0x0000000000050101,
+        // SnpRespData_SC_PD, Invalid, OK, SC
+        44 => 0x2800000000050101,
+        // SnpRespData_SC_PD, Invalid, DERR, I
+        45 => 0x0000020000050101,
+        // SnpRespData_SC_PD, Invalid, DERR, SC
+        46 => 0x2800020000050101,
+        // SnpRespData_SC_PD, Transfer, OK, I
+        47 => 0x0000000100050101,
+        // SnpRespData_SC_PD, Transfer, OK, SC
+        48 => 0x2800000100050101,
+        // SnpRespData_SC_PD, Transfer, DERR, I
+        49 => 0x0000020100050101,
+        // SnpRespData_SC_PD, Transfer, DERR, SC
+        50 => 0x2800020100050101,
+        // SnpRespData_SC_PD, Update, OK, I
+        51 => 0x0000000200050101,
+        // SnpRespData_SC_PD, Update, OK, SC
+        52 => 0x2800000200050101,
+        // SnpRespData_SC_PD, Update, DERR, I
+        53 => 0x0000020200050101,
+        // SnpRespData_SC_PD, Update, DERR, SC
+        54 => 0x2800020200050101,
+        // SnpRespDataPtl_I_PD, Invalid, OK, I
+        55 => 0x0000000000040501,
+        // SnpRespDataPtl_I_PD, Invalid, DERR, I
+        56 => 0x0000020000040501,
+        // SnpRespDataPtl_I_PD, Transfer, OK, I
+        57 => 0x0000000100040501,
+        // SnpRespDataPtl_I_PD, Transfer, DERR, I
+        58 => 0x0000020100040501,
+        // SnpRespDataPtl_I_PD, Update, OK, I
+        59 => 0x0000000200040501,
+        // SnpRespDataPtl_I_PD, Update, DERR, I
+        60 => 0x0000020200040501,
+        // SnpRespData_I_Fwded_SC, Invalid, OK, I
+        61 => 0x0101000001000601,
+        // SnpRespData_I_Fwded_SC, Invalid, DERR, I
+        62 => 0x0101020001000601,
+        // SnpRespData_I_Fwded_SC, Transfer, OK, I
+        63 => 0x0101000101000601,
+        // SnpRespData_I_Fwded_SC, Transfer, DERR, I
+        64 => 0x0101020101000601,
+        // SnpRespData_I_Fwded_SD_PD, Invalid, OK, I
+        65 => 0x0701000007000601,
+        // SnpRespData_I_Fwded_SD_PD, Invalid, DERR, I
+        66 => 0x0701020007000601,
+        // SnpRespData_I_Fwded_SD_PD, Transfer, OK, I
+        67 => 0x0701000107000601,
+        // SnpRespData_I_Fwded_SD_PD, Transfer, DERR, I
+        68 => 0x0701020107000601,
+        // SnpRespData_SC_Fwded_SC, Invalid, OK, I
+        69 => 0x0101000001010601,
+        // SnpRespData_SC_Fwded_SC, Invalid, OK, SC
+        70 => 0x2901000001010601,
+        // SnpRespData_SC_Fwded_SC, Invalid, DERR, I
+        71 => 0x0101020001010601,
+        // SnpRespData_SC_Fwded_SC, Invalid, DERR, SC
+        72 => 0x2901020001010601,
+        // SnpRespData_SC_Fwded_SC, Transfer, OK, I
+        73 => 0x0101000101010601,
+        // SnpRespData_SC_Fwded_SC, Transfer, OK, SC
+        74 => 0x2901000101010601,
+        // SnpRespData_SC_Fwded_SC, Transfer, DERR, I
+        75 => 0x0101020101010601,
+        // SnpRespData_SC_Fwded_SC, Transfer, DERR, SC
+        76 => 0x2901020101010601,
+        // SnpRespData_SC_Fwded_SD_PD, Invalid, OK, I
+        77 => 0x0701000007010601,
+        // SnpRespData_SC_Fwded_SD_PD, Invalid, OK, SC
+        78 => 0x2f01000007010601,
+        // SnpRespData_SC_Fwded_SD_PD, Invalid, DERR, I
+        79 => 0x0701020007010601,
+        // SnpRespData_SC_Fwded_SD_PD, Invalid, DERR, SC
+        80 => 0x2f01020007010601,
+        // SnpRespData_SC_Fwded_SD_PD, Transfer, OK, I
+        81 => 0x0701000107010601,
+        // SnpRespData_SC_Fwded_SD_PD, Transfer, OK, SC
+        82 => 0x2f01000107010601,
+        // SnpRespData_SC_Fwded_SD_PD, Transfer, DERR, I
+        83 => 0x0701020107010601,
+        // SnpRespData_SC_Fwded_SD_PD, Transfer, DERR, SC
+        84 => 0x2f01020107010601,
+        // SnpRespData_SD_Fwded_SC, Invalid, OK, SD
+        85 => 0x3101000001030601,
+        // SnpRespData_SD_Fwded_SC, Invalid, DERR, SD
+        86 => 0x3101020001030601,
+        // SnpRespData_SD_Fwded_SC, Transfer, OK, SD
+        87 => 0x3101000101030601,
+        // SnpRespData_SD_Fwded_SC, Transfer, DERR, SD
+        88 => 0x3101020101030601,
+        // SnpRespData_I_PD_Fwded_SC, Invalid, OK, I
+        89 => 0x0101000001040601,
+        // SnpRespData_I_PD_Fwded_SC, Invalid, DERR, I
+        90 => 0x0101020001040601,
+        // SnpRespData_I_PD_Fwded_SC, Transfer, OK, I
+        91 => 0x0101000101040601,
+        // SnpRespData_I_PD_Fwded_SC, Transfer, DERR, I
+        92 => 0x0101020101040601,
+        // SnpRespData_I_PD_Fwded_SC, Update, OK, I
+        93 => 0x0101000201040601,
+        // SnpRespData_I_PD_Fwded_SC, Update, DERR, I
+        94 => 0x0101020201040601,
+        // SnpRespData_SC_PD_Fwded_SC, Invalid, OK, I
+        95 => 0x0101000001050601,
+        // SnpRespData_SC_PD_Fwded_SC, Invalid, OK, SC
+        96 => 0x2901000001050601,
+        // SnpRespData_SC_PD_Fwded_SC, Invalid, DERR, I
+        97 => 0x0101020001050601,
+        // SnpRespData_SC_PD_Fwded_SC, Invalid, DERR, SC
+        98 => 0x2901020001050601,
+        // SnpRespData_SC_PD_Fwded_SC, Transfer, OK, I
+        99 => 0x0101000101050601,
+        // SnpRespData_SC_PD_Fwded_SC, Transfer, OK, SC
+        100 => 0x2901000101050601,
+        // SnpRespData_SC_PD_Fwded_SC, Transfer, DERR, I
+        101 => 0x0101020101050601,
+        // SnpRespData_SC_PD_Fwded_SC, Transfer, DERR, SC
+        102 => 0x2901020101050601,
+        // SnpRespData_SC_PD_Fwded_SC, Update, OK, I
+        103 => 0x0101000201050601,
+        // SnpRespData_SC_PD_Fwded_SC, Update, OK, SC
+        104 => 0x2901000201050601,
+        // SnpRespData_SC_PD_Fwded_SC, Update, DERR, I
+        105 => 0x0101020201050601,
+        // SnpRespData_SC_PD_Fwded_SC, Update, DERR, SC
+        106 => 0x2901020201050601,
+        _ => past(number),
+    }
+}
