@@ -23,7 +23,7 @@ pub const CALL: Call = Call {
     told,
 };
 
-/// The right answer: refusal, place in three bytes, count in four, and the lent bytes with those past them.
+/// The right answer: refusal, place in three bytes, which is always 0, count in four, and the lent bytes with those past them.
 fn right(definition: &Definition, record: &[u8]) -> Right {
     let (question, room, rest) = question_in(record);
     let own = list(definition, question, room);

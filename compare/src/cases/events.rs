@@ -1,4 +1,5 @@
-//! Single events: every combination of the codes that the definition names, and events drawn with and without damage.
+//! Single events: every combination of the codes that the definition names, events drawn with and without damage, and events
+//! near the rows.
 
 use crate::cases::damage::{byte_outside, request_outside};
 use crate::cases::draw::Draw;

@@ -1,6 +1,6 @@
 //! Answers near the rows.
 
-use crate::definition::answers::{answers_of, questions, BEFORE};
+use crate::definition::answers::{all_questions, answers_of, BEFORE};
 use crate::definition::codes::{byte, TAG_NOT_SEEN};
 use crate::definition::event::has_a_step;
 use crate::definition::rows::Row;
@@ -31,7 +31,7 @@ fn with_another_byte(definition: &Definition, answer: &[u8]) -> Vec<Vec<u8>> {
 
 /// What the events of all questions in range begin with; those that differ in the state before alone begin alike.
 pub fn beginnings(definition: &Definition) -> Vec<Vec<u8>> {
-    let mut beginnings: Vec<Vec<u8>> = questions(definition).iter().map(|question| question[..BEFORE].to_vec()).collect();
+    let mut beginnings: Vec<Vec<u8>> = all_questions(definition).iter().map(|question| question[..BEFORE].to_vec()).collect();
     beginnings.dedup();
     beginnings
 }

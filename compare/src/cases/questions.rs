@@ -5,7 +5,7 @@ use crate::cases::damage::{byte_outside, request_outside, value_past};
 use crate::cases::draw::Draw;
 use crate::cases::kinds::{share, Cases, Kind};
 use crate::cases::wire::{question_record, LIST_ROOM};
-use crate::definition::answers::{self, answer_bytes, answers, limits, QUESTION_BYTES};
+use crate::definition::answers::{all_questions, answer_bytes, answers, limits, QUESTION_BYTES};
 use crate::definition::codes::byte;
 use crate::definition::values::Definition;
 use std::collections::BTreeSet;
@@ -28,9 +28,11 @@ type Make = fn(&Definition, &mut Draw, &[Known], usize) -> (Vec<u8>, usize);
 
 /// The cases of the list of answers.
 pub fn questions(definition: &Definition, seed: u64, random: u64) -> Cases {
-    let bytes = |question: &[u8]| answers(definition, question).concat().len();
-    let known = answers::questions(definition).into_iter().map(|question| (question.clone(), bytes(&question)));
-    let known: Arc<Vec<Known>> = Arc::new(known.collect());
+    let with_bytes = |question: Vec<u8>| {
+        let bytes = answers(definition, &question).concat().len();
+        (question, bytes)
+    };
+    let known: Arc<Vec<Known>> = Arc::new(all_questions(definition).into_iter().map(with_bytes).collect());
     let longest = known.iter().map(|(_, bytes)| *bytes).max().unwrap_or(0);
     let tenths = |tenths| share(random, tenths, 10) as usize;
     let kind = |name, count: usize, make: Make| {
@@ -43,7 +45,7 @@ pub fn questions(definition: &Definition, seed: u64, random: u64) -> Cases {
     let kinds = vec![
         kind("every question", known.len() * ROOMS, every_question),
         kind("each byte value", SWEEPS * QUESTION_BYTES * 256, each_byte_value).alike(256),
-        kind("several outside", TIMES_OUTSIDE * 3 << QUESTION_BYTES, several_outside),
+        kind("several outside", (TIMES_OUTSIDE * 3) << QUESTION_BYTES, several_outside),
         kind("each length of room", 4 * (longest + PAST_LONGEST + 1), each_length),
         kind("drawn", tenths(5), in_range),
         kind("drawn, damaged", tenths(3), damaged),

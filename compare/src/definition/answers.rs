@@ -53,7 +53,7 @@ fn refusal(definition: &Definition, question: &[u8]) -> u8 {
 }
 
 /// All the questions in range.
-pub fn questions(definition: &Definition) -> Vec<Vec<u8>> {
+pub fn all_questions(definition: &Definition) -> Vec<Vec<u8>> {
     let requests = definition.requests.iter().map(|(_, code)| *code).collect();
     let others = limits(definition).into_iter().skip(1).map(|limit| (0..=limit).collect());
     one_at_each_place([requests].into_iter().chain(others))

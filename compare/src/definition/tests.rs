@@ -1,6 +1,6 @@
 //! Tests of the definition: the notebook's entries, facts about the rows, and answers worked out by hand.
 
-use crate::definition::answers::{answers, list, list_in_words, question_in_words, questions, Listed, BEFORE};
+use crate::definition::answers::{all_questions, answers, list, list_in_words, question_in_words, Listed, BEFORE};
 use crate::definition::codes::*;
 use crate::definition::event::{alone, Alone};
 use crate::definition::histories::enumerate;
@@ -179,14 +179,13 @@ fn lists_by_judgment() {
     let definition = Definition::at_stage(1).unwrap();
     let mut lists: BTreeMap<Vec<u8>, BTreeSet<Vec<u8>>> = BTreeMap::new();
     for event in events_of_rows(&definition).iter().filter(|event| event[byte::TAG] != TAG_NOT_SEEN) {
-        let sets = alone(&definition, event).sets;
-        for before in 0..7 {
-            let list = lists.entry([&event[..BEFORE], &[before as u8]].concat()).or_default();
-            let after = (0..7).filter(|after| holds(sets[before], *after));
+        for (before, set) in (0..).zip(alone(&definition, event).sets) {
+            let list = lists.entry([&event[..BEFORE], &[before]].concat()).or_default();
+            let after = (0..7).filter(|after| holds(set, *after));
             list.extend(after.map(|after| [&event[BEFORE..byte::AFTER], &[after]].concat()));
         }
     }
-    assert_eq!(questions(&definition), lists.keys().cloned().collect::<Vec<_>>());
+    assert_eq!(all_questions(&definition), lists.keys().cloned().collect::<Vec<_>>());
     assert_eq!((lists.len(), lists.values().map(BTreeSet::len).max()), (1_176, Some(29)));
     for (question, list) in lists {
         assert_eq!(answers(&definition, &question), list.into_iter().collect::<Vec<_>>(), "{question:?}");
