@@ -12,8 +12,10 @@ use korehyumo::{
 /// The byte that fills a room before a call; no answer has it.
 const LENT: u8 = 201;
 
-/// SnpCleanFwd to a line in UDP, and its three answers.
+/// SnpCleanFwd to a line in UDP.
 const PARTIAL: [u8; 6] = [18, 0, 0, 0, 0, 4];
+
+/// Its three answers.
 const PARTIAL_LIST: [u8; 27] = [
     0, 1, 0, 0, 0, 3, 0, 0, 0, //
     1, 5, 4, 0, 0, 0, 0, 0, 0, //
