@@ -3,10 +3,12 @@
 use mathlib.Core.Path.{_≡_, refl, sym, _∙_, ap, ap₂, subst}
 use mathlib.Core.Bool.{Bool, true, false, _&&_, _||_, false≢true, true≢false}
 use mathlib.Core.List.{List, [], _∷_, _++_, map}
-use Prim.Native.Nat.{ℕ, _≤_}
+use Prim.Native.Nat.{ℕ, zero, suc, _<_}
+use native.Mathlib.Nat.{le-of-suc-le-suc}
 use native.Mathlib.Omega.{arith}
 use borrow.Author.Tests.{ltb-true, ltb-false, eqb-true, eq-eqb, ne-eqb, le-ltb}
 use lib.Dec.{eqb, ltb}
+use lib.ListN.{length, getD}
 use Rattle.kinds.specs.Tests.{any, all, same}
 use Rattle.kinds.proofs.Lists.{and-left, and-right, and-both, or-left, any-found, all-at, same-equal}
 use Rattle.answers.specs.Ascending.{comesBefore, ascending}
@@ -111,3 +113,17 @@ same-members (l ∷ ls) (m ∷ ms) h k f =
         after =
             all-member (comesBefore m) ms l lowest′
             (sym (ap (λ (x : Bool). x || any (same l) ms) p) ∙ sym (f l) ∙ or-left (any (same l) ls) (same-self l))
+
+-- in an ascending list an earlier one comes before a later one
+pub ascending-at : (ls : List (List ℕ)) → ascending ls ≡ true → (i j : ℕ) → i < j → j < length ls → comesBefore (getD ls i []) (getD ls j []) ≡ true
+ascending-at [] h i j l b = absurd (omega arith)
+ascending-at (x ∷ ls) h i zero l b = absurd (omega arith)
+ascending-at (x ∷ ls) h zero (suc j) l b =
+    each ls j (le-of-suc-le-suc b) (and-left (all (comesBefore x) ls) (ascending ls) h)
+  where
+    each : (ms : List (List ℕ)) (k : ℕ) → k < length ms → all (comesBefore x) ms ≡ true → comesBefore x (getD ms k []) ≡ true
+    each [] k m a = absurd (omega arith)
+    each (y ∷ ms) zero m a = and-left (comesBefore x y) (all (comesBefore x) ms) a
+    each (y ∷ ms) (suc k) m a = each ms k (le-of-suc-le-suc m) (and-right (comesBefore x y) (all (comesBefore x) ms) a)
+ascending-at (x ∷ ls) h (suc i) (suc j) l b =
+    ascending-at ls (and-right (all (comesBefore x) ls) (ascending ls) h) i j (le-of-suc-le-suc l) (le-of-suc-le-suc b)

@@ -5,3 +5,4 @@ pub mod Sorted
 pub mod Lists
 pub mod Laws
 pub mod Whole
+pub mod Given

@@ -14,7 +14,7 @@ use Rattle.rows.specs.Rows.{rows}
 use Rattle.rows.specs.Permitted.{asked}
 use Rattle.event.specs.Refusals.{issueE, below, fault}
 use Rattle.answers.specs.declared.Question.{Question}
-use Rattle.answers.specs.Answers.{questionBytes, answerLimits, permits, numbersFrom, choices, allBelow, answersTo}
+use Rattle.answers.specs.Answers.{question, questionBytes, answerLimits, permits, numbersFrom, choices, allBelow, answersTo}
 use Rattle.answers.specs.Ascending.{ascending}
 use Rattle.answers.specs.Listed.{asking, faultOf}
 use Rattle.answers.specs.Table.{lists, spans, numbers, answers}
@@ -30,15 +30,7 @@ questions = choices (asking issueE .requests ∷ map (numbersFrom 0) (asking iss
 
 -- the question with these six bytes
 abbrev pub questionAt : List ℕ → Question
-questionAt b =
-    record {
-      request = record { 0 = byte b 0 };
-      «ret_to_src» = byte b 1;
-      «do_not_go_to_sd» = byte b 2;
-      excl = byte b 3;
-      tag = record { 0 = byte b 4 };
-      before = record { 0 = byte b 5 };
-    }
+questionAt b = question (byte b 0) (byte b 1) (byte b 2) (byte b 3) (byte b 4) (byte b 5)
 
 -- a question that is not refused with 4 or 5 is one of them
 in-range : (b r : Bool) → _≡_ {A = ℕ} (cond b (cond r 0 5) 4) 0 → (b ≡ true) × (r ≡ true)
@@ -92,7 +84,7 @@ added-test true false b h = refl
 added-test false true b h = refl
 added-test false false b h = refl
 
-answers-ascend : (q : Question) → ascending (answersTo issueE q) ≡ true
+pub answers-ascend : (q : Question) → ascending (answersTo issueE q) ≡ true
 unfolding answersTo
 answers-ascend q = keep-ascending (permits q) (allBelow (answerLimits issueE)) (allBelow-ascending (answerLimits issueE))
 

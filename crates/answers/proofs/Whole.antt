@@ -14,7 +14,7 @@ use Rattle.event.specs.Refusals.{issueE}
 use Rattle.answers.specs.declared.Question.{Question}
 use Rattle.answers.specs.declared.Listed.{Listed}
 use Rattle.answers.specs.Answers.{answersTo}
-use Rattle.answers.specs.Listed.{answerLength, faultOf, joined, Left, left, result, acceptedList, refusedList, listedIn, listed}
+use Rattle.answers.specs.Listed.{answerLength, faultOf, joined, ListLeft, listLeft, result, acceptedList, refusedList, listedIn, listed}
 use Rattle.answers.specs.Table.{lists, spans, numbers}
 use Rattle.answers.specs.Code.{contextOf, spanOf, answersAt, answersIn}
 use Rattle.answers.proofs.Lists.{questions, questionAt, every-question, table-right}
@@ -66,24 +66,24 @@ left-accepted q room h l =
 
 -- the three ways out of `list_answers`
 pub refused-question : (q : Question) (room : List ℕ) (r : Refusal) → r .0 ≡ faultOf issueE q → (r .0 ≡ 0 → ⊥)
-    → left (record { refusal = r; place = 0; count = 0 }) room ≡ listed issueE q room
-refused-question q room r h k = ap (λ (n : ℕ). left (result n 0 0) room) h ∙ sym (left-fault q room (λ z. k (h ∙ z)))
+    → listLeft (record { refusal = r; place = 0; count = 0 }) room ≡ listed issueE q room
+refused-question q room r h k = ap (λ (n : ℕ). listLeft (result n 0 0) room) h ∙ sym (left-fault q room (λ z. k (h ∙ z)))
 
 module _ (q : Question) (room : List ℕ) (r : Refusal) (span : ℕ) (h : r .0 ≡ faultOf issueE q) (ok : r .0 ≡ 0) (s : span ≡ spanOf q) where
   counted : length (answersTo issueE q) ≡ span % 64
   counted = list-length q (sym h ∙ ok) ∙ ap (λ (n : ℕ). n % 64) (sym s)
 
-  pub short-room : length room < span % 64 * 9 → left (result 9 0 0) room ≡ listed issueE q room
+  pub short-room : length room < span % 64 * 9 → listLeft (result 9 0 0) room ≡ listed issueE q room
   short-room l = sym (left-short q room (sym h ∙ ok) (omega (arith, counted)))
 
   pub fitting : span / 64 + span % 64 ≤ length numbers
   fitting = subst (λ (n : ℕ). n / 64 + n % 64 ≤ length numbers) (sym s) (span-fits q (sym h ∙ ok))
 
   pub accepted-question : (room′ : List ℕ) → span % 64 * 9 ≤ length room → room′ ≡ joined (answersAt (span / 64) (span % 64)) ++ drop (answerLength * (span % 64)) room
-      → left (record { refusal = r; place = 0; count = span % 64 }) room′ ≡ listed issueE q room
+      → listLeft (record { refusal = r; place = 0; count = span % 64 }) room′ ≡ listed issueE q room
   unfolding answersIn
   accepted-question room′ l put =
-      ap₂ (λ (n : ℕ) (x : List ℕ). left (result n 0 (span % 64)) x) ok put
-      ∙ ap₂ (λ (ls : List (List ℕ)) (n : ℕ). left (result 0 0 n) (joined ls ++ drop (answerLength * n) room))
+      ap₂ (λ (n : ℕ) (x : List ℕ). listLeft (result n 0 (span % 64)) x) ok put
+      ∙ ap₂ (λ (ls : List (List ℕ)) (n : ℕ). listLeft (result 0 0 n) (joined ls ++ drop (answerLength * n) room))
       (ap answersIn s ∙ table-right q (sym h ∙ ok)) (sym counted)
       ∙ sym (left-accepted q room (sym h ∙ ok) (omega (arith, counted)))

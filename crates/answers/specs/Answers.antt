@@ -8,6 +8,18 @@ use Rattle.rows.specs.Event.{stateAfterOf}
 use Rattle.rows.specs.Permitted.{permitted}
 use Rattle.answers.specs.declared.Question.{Question}
 
+-- a question from its six bytes
+abbrev pub question : ℕ → ℕ → ℕ → ℕ → ℕ → ℕ → Question
+question request ret noSD excl tag before =
+    record {
+      request = record { 0 = request };
+      «ret_to_src» = ret;
+      «do_not_go_to_sd» = noSD;
+      excl = excl;
+      tag = record { 0 = tag };
+      before = record { 0 = before };
+    }
+
 -- the six bytes of a question: bytes 0 to 4 of an event, and the state before
 abbrev pub questionBytes : Question → List ℕ
 questionBytes q = q .request .0 ∷ q .«ret_to_src» ∷ q .«do_not_go_to_sd» ∷ q .excl ∷ q .tag .0 ∷ q .before .0 ∷ []

@@ -1,5 +1,6 @@
 pub mod Answers
 pub mod Ascending
 pub mod Listed
+pub mod Given
 pub mod Table
 pub mod Code

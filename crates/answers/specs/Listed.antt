@@ -31,29 +31,29 @@ joined [] = []
 joined (l ∷ ls) = l ++ joined ls
 
 -- the result, and the room as it is left
-pub record Left : Type 0 where
+pub record ListLeft : Type 0 where
   pub result : Listed
   pub room : List ℕ
 
-abbrev pub left : Listed → List ℕ → Left
-left result room = record { result = result; room = room }
+abbrev pub listLeft : Listed → List ℕ → ListLeft
+listLeft result room = record { result = result; room = room }
 
 -- a result: number, place, count
 abbrev pub result : ℕ → ℕ → ℕ → Listed
 result number place count = record { refusal = record { 0 = number }; place = place; count = count }
 
 -- an accepted question: the answers stand at the front of the room, and the bytes behind them are as they were
-abbrev pub acceptedList : List (List ℕ) → List ℕ → Left
-acceptedList answers room = left (result 0 0 (length answers)) (joined answers ++ drop (answerLength * length answers) room)
+abbrev pub acceptedList : List (List ℕ) → List ℕ → ListLeft
+acceptedList answers room = listLeft (result 0 0 (length answers)) (joined answers ++ drop (answerLength * length answers) room)
 
 -- a refused question: place 0, count 0, and the room as it was
-abbrev pub refusedList : ℕ → List ℕ → Left
-refusedList number room = left (result number 0 0) room
+abbrev pub refusedList : ℕ → List ℕ → ListLeft
+refusedList number room = listLeft (result number 0 0) room
 
 -- 9 if the answers don't fit into the room
-abbrev pub listedIn : List (List ℕ) → List ℕ → Left
+abbrev pub listedIn : List (List ℕ) → List ℕ → ListLeft
 listedIn answers room = cond (leb (answerLength * length answers) (length room)) (acceptedList answers room) (refusedList 9 room)
 
 -- THE WHOLE ANSWER: what a call leaves, accepted or refused; 4, then 5, then 9
-unfoldable pub listed : Issue → Question → List ℕ → Left
+unfoldable pub listed : Issue → Question → List ℕ → ListLeft
 listed issue q room = cond (eqb (faultOf issue q) 0) (listedIn (answersTo issue q) room) (refusedList (faultOf issue q) room)

@@ -8,7 +8,7 @@ ghost use mathlib.Core.Path.{_≡_};
 ghost use mathlib.Core.List.{_++_};
 ghost use lib.ListN.{length, getD, take, drop};
 ghost use Rattle.event.specs.Refusals.{issueE};
-ghost use Rattle.answers.specs.Listed.{answerLength, joined, faultOf, left, listed};
+ghost use Rattle.answers.specs.Listed.{answerLength, joined, faultOf, listLeft, listed};
 ghost use Rattle.answers.specs.Table.{lists, spans, numbers};
 ghost use Rattle.answers.specs.Code.{tablesOf, contextOf, spanOf, nineOf, answersAt};
 
@@ -125,7 +125,7 @@ fn put_answers(room: &mut [u8], start: usize, count: usize)
 
 // Lists every permitted answer to a question in the room, each once, ascending byte by byte (definition 11.3 to 11.5).
 pub fn list_answers(question: Question, room: &mut [u8]) -> Listed
-    ensures { λ r. ⌜ left r (now (room .exit)) ≡ listed issueE question (now (room .entry)) ⌝ }
+    ensures { λ r. ⌜ listLeft r (now (room .exit)) ≡ listed issueE question (now (room .entry)) ⌝ }
 {
     let refusal = fault(question);
     let number = refusal.0;

@@ -3,7 +3,7 @@
 use mathlib.Core.Path.{_≡_, sym, _∙_, ap, ap₂, subst}
 use mathlib.Core.Bool.{Bool, true, false, cond}
 use mathlib.Core.List.{List}
-use Prim.Native.Nat.{ℕ, _<_, _/_, _%_, _^_}
+use Prim.Native.Nat.{ℕ, _<_, _≤_, _/_, _%_, _^_}
 use native.Mathlib.Omega.{arith}
 use lib.Arith.{digits-div, digits-mod}
 use lib.Dec.{eqb}
@@ -11,7 +11,7 @@ use lib.ListN.{length}
 use Rattle.kinds.specs.Tests.{_∈?_}
 use Rattle.kinds.specs.Places.{eventLength}
 use Rattle.rows.specs.Event.{requestOf}
-use Rattle.event.specs.Refusals.{Issue, below, fault, refusalAlone}
+use Rattle.event.specs.Refusals.{Issue, issueE, below, fault, refusalAlone}
 use Rattle.event.specs.Alone.{acceptedAlone, refusedAlone, judgedAlone}
 use Rattle.event.specs.declared.Judgment.{Judgment}
 use Rattle.trace.specs.declared.Outcome.{Outcome}
@@ -21,7 +21,11 @@ use Rattle.trace.specs.Given.{Given, accepted, bad-lengths, bad-set, bad-pair, 
 use Rattle.trace.specs.Judged.{judged}
 use Rattle.trace.proofs.Given.{given}
 use Rattle.trace.proofs.Whole.{judged-outcome}
-use Rattle.korehyumo.specs.Calls.{placesEnd, inOne, eventCall, eventTold, traceCall, traceTold}
+use Rattle.answers.specs.declared.Question.{Question}
+use Rattle.answers.specs.declared.Listed.{Listed}
+use Rattle.answers.specs.Listed.{mostAnswers, ListLeft, listLeft, listed}
+use Rattle.answers.proofs.Given.{Small, small}
+use Rattle.korehyumo.specs.Calls.{placesEnd, inOne, withMore, eventCall, eventTold, traceCall, traceTold, answersCall, answersTold}
 
 -- the refusal number and the place, read back from the packed number
 pub number-in : (number place : ℕ) → number < 256 → inOne number place % 256 ≡ number
@@ -109,3 +113,31 @@ event-told j j′ r h k = ap (λ (n : ℕ). eventCall n (j .sets) (j .duties)) h
 pub trace-told : (o : Outcome) (table verdicts duties afters : List ℕ) (l : Left) (r : ℕ) → r ≡ inOne (o .refusal .0) (o .place)
     → left o table verdicts duties afters ≡ l → traceCall r table verdicts duties afters ≡ traceTold l
 trace-told o table verdicts duties afters l r h k = ap (λ (n : ℕ). traceCall n table verdicts duties afters) h ∙ ap traceTold k
+
+-- the lower half and the upper half, read back from a result
+pub lower-in : (packed more : ℕ) → packed < 2 ^ 32 → withMore packed more % 2 ^ 32 ≡ packed
+unfolding withMore
+lower-in packed more h = digits-mod more h
+
+pub upper-in : (packed more : ℕ) → packed < 2 ^ 32 → withMore packed more / 2 ^ 32 ≡ more
+unfolding withMore
+upper-in packed more h = digits-div more h
+
+-- what the list of permitted answers leaves is small
+pub list-place : (q : Question) (room : List ℕ) (l : ListLeft) → l ≡ listed issueE q room → l .result .place < placesEnd
+list-place q room l h = subst (λ (x : ListLeft). x .result .place < placesEnd) (sym h) (omega (arith, small q room .place))
+
+pub list-count : (q : Question) (room : List ℕ) (l : ListLeft) → l ≡ listed issueE q room → l .result .count ≤ mostAnswers
+list-count q room l h = subst (λ (x : ListLeft). x .result .count ≤ mostAnswers) (sym h) (small q room .count)
+
+pub list-packed : (q : Question) (room : List ℕ) (l : ListLeft) (packed : ℕ) → l ≡ listed issueE q room → packed ≡ inOne (l .result .refusal .0) (l .result .place)
+    → packed < 2 ^ 32
+list-packed q room l packed h p =
+    subst (λ (n : ℕ). n < 2 ^ 32) (sym p)
+    (one-below (l .result .refusal .0) (l .result .place)
+    (subst (λ (x : ListLeft). x .result .refusal .0 < 256) (sym h) (small q room .number))
+    (list-place q room l h))
+
+pub answers-told : (l : Listed) (room : List ℕ) (t : ListLeft) (packed r : ℕ) → packed ≡ inOne (l .refusal .0) (l .place) → r ≡ withMore packed (l .count)
+    → listLeft l room ≡ t → answersCall r room ≡ answersTold t
+answers-told l room t packed r p h k = ap (λ (n : ℕ). answersCall n room) (h ∙ ap (λ (n : ℕ). withMore n (l .count)) p) ∙ ap answersTold k

@@ -1,12 +1,21 @@
-// The judge for other languages: one event alone and a whole trace, as functions for a C program to link (definition 10).
-// include/korehyumo.h says in words what these claims say.
-ghost use Prim.Native.Nat.{_<_};
+// The judge for other languages: one event alone, a whole trace and the list of permitted answers, as functions for a C program to link
+// (definition 10). include/korehyumo.h says in words what these claims say.
+use answers::Question;
+use kinds::LineState;
+use kinds::Request;
+use kinds::TagState;
+ghost use Prim.Native.Nat.{_<_, _≤_, _^_};
 ghost use mathlib.Core.Path.{_≡_};
 ghost use Rattle.event.specs.Refusals.{issueE};
 ghost use Rattle.event.specs.Alone.{judgedAlone};
 ghost use Rattle.trace.specs.Lent.{lent};
 ghost use Rattle.trace.specs.Judged.{judged};
-ghost use Rattle.korehyumo.specs.Calls.{placesEnd, inOne, eventCall, eventTold, traceCall, traceTold};
+ghost use Rattle.answers.specs.Answers.{question};
+ghost use Rattle.answers.specs.Listed.{mostAnswers, listed};
+ghost use Rattle.korehyumo.specs.Calls.{placesEnd, inOne, withMore, eventCall, eventTold, traceCall, traceTold, answersCall, answersTold};
+
+// What the upper half of a result is multiplied by.
+const UPPER: u64 = 1 << 32;
 
 // A refusal number and its place packed into one number.
 fn in_one(number: u8, place: usize) -> u64
@@ -14,6 +23,15 @@ fn in_one(number: u8, place: usize) -> u64
     ensures { λ r. ⌜ r ≡ inOne number place ⌝ }
 {
     (place as u64) * 256 + (number as u64)
+}
+
+// A packed number with what more a call answers in its upper half.
+fn with_more(packed: u64, more: usize) -> u64
+    requires { ⌜ packed < 2 ^ 32 ⌝ }
+    requires { ⌜ more ≤ mostAnswers ⌝ }
+    ensures { λ r. ⌜ r ≡ withMore packed more ⌝ }
+{
+    (more as u64) * UPPER + packed
 }
 
 // Judges one event alone: for each of the seven states before, the set of states after and the duty. The result packs number and place.
@@ -47,4 +65,31 @@ pub extern "C" fn korehyumo_trace(
 {
     let outcome = trace::judge_trace(events, pairs, table, verdicts, duties, afters);
     in_one(outcome.refusal.0, outcome.place)
+}
+
+// Lists every permitted answer to a question in the room. The result packs number and place, and has the count in its upper half.
+// A refused question leaves the room as it was.
+#[no_mangle]
+pub extern "C" fn korehyumo_answers(
+    request: u8,
+    ret_to_src: u8,
+    do_not_go_to_sd: u8,
+    excl: u8,
+    tag: u8,
+    before: u8,
+    room: &mut [u8],
+) -> u64
+    ensures { λ r. ⌜ answersCall r (now (room .exit))
+        ≡ answersTold (listed issueE (question request «ret_to_src» «do_not_go_to_sd» excl tag before) (now (room .entry))) ⌝ }
+{
+    let question = Question {
+        request: Request(request),
+        ret_to_src,
+        do_not_go_to_sd,
+        excl,
+        tag: TagState(tag),
+        before: LineState(before),
+    };
+    let listed = answers::list_answers(question, room);
+    with_more(in_one(listed.refusal.0, listed.place), listed.count)
 }

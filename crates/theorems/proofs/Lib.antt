@@ -4,3 +4,5 @@ pub mod Judged
 pub mod Theorems
 pub mod OnTrace
 pub mod TraceTheorems
+pub mod Listing
+pub mod AnswerTheorems

@@ -2,3 +2,4 @@ pub mod Alone
 pub mod Notebook
 pub mod Duties
 pub mod Traces
+pub mod Listing
