@@ -12,12 +12,13 @@ use lib.Dec.{eqb, ltb, leb}
 use lib.ListN.{length, getD, take, drop, set, length-append, length-drop, length-map}
 use lib.Seq.{sets-eq, take-suc, take-at, drop-append-add, drop-drop, getD-drop, length-take-le}
 use Rattle.kinds.specs.Tests.{_∈?_}
+use Rattle.kinds.specs.Codes.{RSP, DAT}
 use Rattle.kinds.proofs.Laws.{one-of-2}
 use Rattle.event.specs.Refusals.{issueE, fault}
 use Rattle.answers.specs.declared.Question.{Question}
 use Rattle.answers.specs.declared.Listed.{Listed}
 use Rattle.answers.specs.Listed.{asking, faultOf, joined}
-use Rattle.answers.specs.Table.{beyond, lists, spans, numbers, answers}
+use Rattle.answers.specs.Table.{beyond, lists, spans, numbers, answers, firstOnDat}
 use Rattle.answers.specs.Code.{tablesOf, nineOf, answerAt, answersAt}
 
 -- a number that is none of the first n is past them
@@ -132,10 +133,11 @@ module _ {room₀ ns room : List ℕ} {start count k : ℕ} (fits : start + coun
       ∙ ap₂ _+_ (filled start count k fits (p .among)) (length-drop (9 * k) room₀)
       ∙ omega (arith, p .among)
 
-  pub putting-next : (answer : ℕ) (next : List ℕ) → Putting room₀ start count ns room k → k < count → answer ≡ getD answers (getD ns (start + k) 0) 0
-      → next ≡ take (k * 9) room ++ nineOf answer ++ drop (k * 9 + 9) room → Putting room₀ start count ns next (k + 1)
+  pub putting-next : (channel rest : ℕ) (next : List ℕ) → Putting room₀ start count ns room k → k < count
+      → channel ≡ cond (ltb (getD ns (start + k) 0) firstOnDat) RSP DAT → rest ≡ getD answers (getD ns (start + k) 0) 0
+      → next ≡ take (k * 9) room ++ nineOf channel rest ++ drop (k * 9 + 9) room → Putting room₀ start count ns next (k + 1)
   unfolding answerAt
-  putting-next answer next p l ha hn = record { among = omega arith; table = p .table; put = put }
+  putting-next channel rest next p l hc hr hn = record { among = omega arith; table = p .table; put = put }
     where
       long : length (joined (answersAt start k)) ≡ k * 9
       long = filled start count k fits (p .among) ∙ omega arith
@@ -152,13 +154,13 @@ module _ {room₀ ns room : List ℕ} {start count k : ℕ} (fits : start + coun
           ∙ drop-drop 9 (9 * k) room₀
           ∙ ap (λ (n : ℕ). drop n room₀) further
 
-      this : nineOf answer ≡ answerAt (getD numbers (start + k) 0)
-      this = ap nineOf (ha ∙ ap (λ (x : List ℕ). getD answers (getD x (start + k) 0) 0) (p .table))
+      this : nineOf channel rest ≡ answerAt (getD numbers (start + k) 0)
+      this = ap₂ nineOf hc hr ∙ ap (λ (x : List ℕ). answerAt (getD x (start + k) 0)) (p .table)
 
       put : next ≡ joined (answersAt start (k + 1)) ++ drop (9 * (k + 1)) room₀
       put =
           hn
-          ∙ ap₂ (λ (x y : List ℕ). x ++ nineOf answer ++ y) front back
+          ∙ ap₂ (λ (x y : List ℕ). x ++ nineOf channel rest ++ y) front back
           ∙ ap (λ (x : List ℕ). (joined (answersAt start k)) ++ x ++ drop (9 * (k + 1)) room₀) this
           ∙ ap (λ (x : List ℕ). x ++ drop (9 * (k + 1)) room₀) (sym (answers-next start k (omega arith)))
 

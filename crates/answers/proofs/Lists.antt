@@ -5,9 +5,10 @@ use mathlib.Core.Bool.{Bool, true, false, cond, _&&_, and-comm}
 use mathlib.Core.List.{List, [], _∷_, map}
 use Prim.Native.Nat.{ℕ, zero, suc, _/_, _%_}
 use native.Mathlib.Omega.{arith}
-use lib.Dec.{eqb}
+use lib.Dec.{eqb, ltb}
 use lib.ListN.{length, getD, take, drop}
 use Rattle.kinds.specs.Tests.{any, all, same, _∈?_}
+use Rattle.kinds.specs.Codes.{RSP, DAT}
 use Rattle.kinds.proofs.Lists.{and-left, and-right, and-both}
 use Rattle.rows.specs.Event.{byte}
 use Rattle.rows.specs.Rows.{rows}
@@ -17,7 +18,7 @@ use Rattle.answers.specs.declared.Question.{Question}
 use Rattle.answers.specs.Answers.{question, questionBytes, answerLimits, permits, numbersFrom, choices, allBelow, answersTo}
 use Rattle.answers.specs.Ascending.{ascending}
 use Rattle.answers.specs.Listed.{asking, faultOf}
-use Rattle.answers.specs.Table.{lists, spans, numbers, answers}
+use Rattle.answers.specs.Table.{lists, spans, numbers, answers, firstOnDat}
 use Rattle.answers.specs.Code.{spanOf, nineOf, answerAt, answersIn}
 use Rattle.answers.proofs.Ascending.{all-member, same-members}
 use Rattle.answers.proofs.Choices.{chosen, choices-members, chosen-below, allBelow-members, allBelow-ascending, keep-members, keep-ascending}
@@ -58,24 +59,28 @@ all-right : all (λ b. rightList (questionAt b)) questions ≡ true
 unfolding rightList questions rows asked rowChoices rowAsked answersOf order insert sorted alike lists spans numbers spanOf answerAt answersIn
 all-right = refl
 
--- every answer of the table is in range
-inRange : ℕ → Bool
-inRange w = below (nineOf w) 0 (answerLimits issueE)
+-- every answer of the table is in range, on either channel
+inRange : ℕ → ℕ → Bool
+inRange channel w = below (nineOf channel w) 0 (answerLimits issueE)
 
-words-in-range : all inRange answers ≡ true
+words-in-range : all (λ w. inRange RSP w && inRange DAT w) answers ≡ true
 unfolding inRange
 words-in-range = refl
 
-at-in-range : (ws : List ℕ) → all inRange ws ≡ true → (n : ℕ) → inRange (getD ws n 0) ≡ true
+at-in-range : (ws : List ℕ) → all (λ w. inRange RSP w && inRange DAT w) ws ≡ true → (n : ℕ) → inRange RSP (getD ws n 0) && inRange DAT (getD ws n 0) ≡ true
 unfolding inRange
 at-in-range [] h n = refl
-at-in-range (w ∷ ws) h zero = and-left (inRange w) (all inRange ws) h
-at-in-range (w ∷ ws) h (suc n) = at-in-range ws (and-right (inRange w) (all inRange ws) h) n
+at-in-range (w ∷ ws) h zero = and-left (inRange RSP w && inRange DAT w) (all (λ x. inRange RSP x && inRange DAT x) ws) h
+at-in-range (w ∷ ws) h (suc n) = at-in-range ws (and-right (inRange RSP w && inRange DAT w) (all (λ x. inRange RSP x && inRange DAT x) ws) h) n
+
+on-either : (b : Bool) (w : ℕ) → inRange RSP w && inRange DAT w ≡ true → inRange (cond b RSP DAT) w ≡ true
+on-either true w h = and-left (inRange RSP w) (inRange DAT w) h
+on-either false w h = and-right (inRange RSP w) (inRange DAT w) h
 
 all-in-range : (ns : List ℕ) → all (λ a. below a 0 (answerLimits issueE)) (map answerAt ns) ≡ true
 unfolding answerAt inRange
 all-in-range [] = refl
-all-in-range (n ∷ ns) = and-both (at-in-range answers words-in-range n) (all-in-range ns)
+all-in-range (n ∷ ns) = and-both (on-either (ltb n firstOnDat) (getD answers n 0) (at-in-range answers words-in-range n)) (all-in-range ns)
 
 -- a test that follows from the other two
 added-test : (n p b : Bool) → (n && p ≡ true → b ≡ true) → n && p ≡ p && (n && b)

@@ -2,12 +2,12 @@
 use Prim.Native.Nat.{ℕ, _+_, _*_, _/_, _%_, _^_}
 use mathlib.Core.Bool.{Bool, cond}
 use mathlib.Core.List.{List, [], _∷_, map}
-use lib.Dec.{eqb}
+use lib.Dec.{eqb, ltb}
 use lib.ListN.{getD, take, drop}
 use Rattle.kinds.specs.Tests.{_∈?_}
-use Rattle.kinds.specs.Codes.{SnpCleanFwd, SnpNotSharedDirtyFwd, SnpPreferUniqueFwd, tagDirty}
+use Rattle.kinds.specs.Codes.{SnpCleanFwd, SnpNotSharedDirtyFwd, SnpPreferUniqueFwd, tagDirty, RSP, DAT}
 use Rattle.answers.specs.declared.Question.{Question}
-use Rattle.answers.specs.Table.{lists, spans, numbers, answers}
+use Rattle.answers.specs.Table.{lists, spans, numbers, answers, firstOnDat}
 
 -- the tables that hold for a request and excl: 0 is B4.46, 1 is B4.57, 2 is B4.59, 3 is B4.59 with B4.60
 abbrev pub tablesOf : ℕ → ℕ → ℕ
@@ -23,23 +23,23 @@ contextOf q =
 unfoldable pub spanOf : Question → ℕ
 spanOf q = getD spans (getD lists (contextOf q) 0) 0
 
--- the nine bytes of an answer from its number in one: eight bytes, the lowest first, and from bit 59 on the state after
-abbrev pub nineOf : ℕ → List ℕ
-nineOf w =
-    w % 2 ^ 59 % 256 ∷
-    w % 2 ^ 59 / 2 ^ 8 % 256 ∷
-    w % 2 ^ 59 / 2 ^ 16 % 256 ∷
-    w % 2 ^ 59 / 2 ^ 24 % 256 ∷
-    w % 2 ^ 59 / 2 ^ 32 % 256 ∷
-    w % 2 ^ 59 / 2 ^ 40 % 256 ∷
-    w % 2 ^ 59 / 2 ^ 48 % 256 ∷
-    w % 2 ^ 59 / 2 ^ 56 % 256 ∷
-    w / 2 ^ 59 % 256 ∷
+-- nine bytes: a channel, and eight bytes from one number, the lowest first
+abbrev pub nineOf : ℕ → ℕ → List ℕ
+nineOf channel w =
+    channel ∷
+    w % 256 ∷
+    w / 2 ^ 8 % 256 ∷
+    w / 2 ^ 16 % 256 ∷
+    w / 2 ^ 24 % 256 ∷
+    w / 2 ^ 32 % 256 ∷
+    w / 2 ^ 40 % 256 ∷
+    w / 2 ^ 48 % 256 ∷
+    w / 2 ^ 56 % 256 ∷
     []
 
--- the answer with this number
+-- the answer with this number: those on RSP come first
 unfoldable pub answerAt : ℕ → List ℕ
-answerAt n = nineOf (getD answers n 0)
+answerAt n = nineOf (cond (ltb n firstOnDat) RSP DAT) (getD answers n 0)
 
 -- so many answers, by their numbers from `start` on
 abbrev pub answersAt : ℕ → ℕ → List (List ℕ)

@@ -1,4 +1,5 @@
 // Every answer that a cache could have given to a snoop, listed (definition 11).
+use kinds::Channel;
 use kinds::LineState;
 use kinds::Refusal;
 use kinds::Request;
@@ -91,21 +92,20 @@ fn span_of(list: u8) -> u16
     if at < table::LIST_COUNT { spans[at] } else { 0 }
 }
 
-// Puts the nine bytes of an answer into the room, at an offset. They must fit.
-fn put_answer(room: &mut [u8], at: usize, answer: u64)
+// Puts the nine bytes of an answer into the room, at an offset: its channel, and the eight bytes of `rest`, the lowest first. They must fit.
+fn put_answer(room: &mut [u8], at: usize, channel: u8, rest: u64)
     requires { ⌜ at + answerLength ≤ length (now room) ⌝ }
-    ensures { λ _. ⌜ now (room .exit) ≡ take at (now (room .entry)) ++ nineOf answer ++ drop (at + answerLength) (now (room .entry)) ⌝ }
+    ensures { λ _. ⌜ now (room .exit) ≡ take at (now (room .entry)) ++ nineOf channel rest ++ drop (at + answerLength) (now (room .entry)) ⌝ }
 {
-    let bytes = answer % table::AFTER;
-    room[at] = (bytes % 256) as u8;
-    room[at + 1] = ((bytes >> 8) % 256) as u8;
-    room[at + 2] = ((bytes >> 16) % 256) as u8;
-    room[at + 3] = ((bytes >> 24) % 256) as u8;
-    room[at + 4] = ((bytes >> 32) % 256) as u8;
-    room[at + 5] = ((bytes >> 40) % 256) as u8;
-    room[at + 6] = ((bytes >> 48) % 256) as u8;
-    room[at + 7] = ((bytes >> 56) % 256) as u8;
-    room[at + 8] = ((answer / table::AFTER) % 256) as u8;
+    room[at] = channel;
+    room[at + 1] = (rest % 256) as u8;
+    room[at + 2] = ((rest >> 8) % 256) as u8;
+    room[at + 3] = ((rest >> 16) % 256) as u8;
+    room[at + 4] = ((rest >> 24) % 256) as u8;
+    room[at + 5] = ((rest >> 32) % 256) as u8;
+    room[at + 6] = ((rest >> 40) % 256) as u8;
+    room[at + 7] = ((rest >> 48) % 256) as u8;
+    room[at + 8] = ((rest >> 56) % 256) as u8;
 }
 
 // Puts so many answers into the room, one after another, by their numbers from `start` on. They must fit.
@@ -117,8 +117,13 @@ fn put_answers(room: &mut [u8], start: usize, count: usize)
     let numbers = table::NUMBERS;
     let mut k: usize = 0;
     while k < count {
-        let answer = table::answer(numbers[start + k]);
-        put_answer(room, k * ANSWER_BYTES, answer);
+        let number = numbers[start + k];
+        let channel = kinds::choose_byte(
+            number < table::FIRST_ON_DAT,
+            Channel::RSP.0,
+            Channel::DAT.0,
+        );
+        put_answer(room, k * ANSWER_BYTES, channel, table::answer(number));
         k += 1;
     }
 }

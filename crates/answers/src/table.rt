@@ -12,8 +12,8 @@ pub const LIST_COUNT: usize = 34;
 // What the start of a list is multiplied by in its span.
 pub const SPAN: usize = 64;
 
-// The weight of the state after in the number of an answer.
-pub const AFTER: u64 = 1 << 59;
+// The number of the first answer on DAT; those before it are on RSP.
+pub const FIRST_ON_DAT: u8 = 13;
 
 // the list of each context: tables, RetToSrc, DoNotGoToSD, Dirty tags, state before; a line has two contexts but for the state.
 pub const LISTS: [u8; CONTEXTS] = *b"\
@@ -94,225 +94,225 @@ fn past(number: u8) -> u64
     0
 }
 
-// The answer with this number: the first eight bytes, the lowest first, and from bit 59 on the state after.
+// The answer with this number: the eight bytes behind the channel, the first byte lowest.
 pub fn answer(number: u8) -> u64
     ensures { λ r. ⌜ r ≡ getD answers number 0 ⌝ }
 {
     match number {
         // SnpResp_I, Invalid, OK, I
-        0 => 0x0000000000000100,
+        0 => 0x0000000000000001,
         // SnpResp_I, Invalid, NDERR, I
-        1 => 0x0000030000000100,
+        1 => 0x0000000300000001,
         // SnpResp_SC, Invalid, OK, I
-        2 => 0x0000000000010100,
+        2 => 0x0000000000000101,
         // SnpResp_SC, Invalid, OK, SC
-        3 => 0x2800000000010100,
+        3 => 0x0500000000000101,
         // SnpResp_I_Fwded_SC, Invalid, OK, I
-        4 => 0x0101000001000900,
+        4 => 0x0001010000010009,
         // SnpResp_I_Fwded_UC, Invalid, OK, I
-        5 => 0x0201000002000900,
+        5 => 0x0002010000020009,
         // SnpResp_I_Fwded_UD_PD, Invalid, OK, I
-        6 => 0x0601000006000900,
+        6 => 0x0006010000060009,
         // SnpResp_I_Fwded_SD_PD, Invalid, OK, I
-        7 => 0x0701000007000900,
+        7 => 0x0007010000070009,
         // SnpResp_SC_Fwded_SC, Invalid, OK, I
-        8 => 0x0101000001010900,
+        8 => 0x0001010000010109,
         // SnpResp_SC_Fwded_SC, Invalid, OK, SC
-        9 => 0x2901000001010900,
+        9 => 0x0501010000010109,
         // SnpResp_SC_Fwded_SD_PD, Invalid, OK, I
-        10 => 0x0701000007010900,
+        10 => 0x0007010000070109,
         // SnpResp_SC_Fwded_SD_PD, Invalid, OK, SC
-        11 => 0x2f01000007010900,
+        11 => 0x0507010000070109,
         // SnpResp_SD_Fwded_SC, Invalid, OK, SD
-        12 => 0x3101000001030900,
+        12 => 0x0601010000010309,
         // SnpRespData_I, Invalid, OK, I
-        13 => 0x0000000000000101,
+        13 => 0x0000000000000001,
         // SnpRespData_I, Invalid, DERR, I
-        14 => 0x0000020000000101,
+        14 => 0x0000000200000001,
         // SnpRespData_I, Transfer, OK, I
-        15 => 0x0000000100000101,
+        15 => 0x0000000001000001,
         // SnpRespData_I, Transfer, DERR, I
-        16 => 0x0000020100000101,
+        16 => 0x0000000201000001,
         // SnpRespData_I, Update, OK, I
-        17 => 0x0000000200000101,
+        17 => 0x0000000002000001,
         // SnpRespData_I, Update, DERR, I
-        18 => 0x0000020200000101,
+        18 => 0x0000000202000001,
         // SnpRespData_SC, Invalid, OK, I
-        19 => 0x0000000000010101,
+        19 => 0x0000000000000101,
         // SnpRespData_SC, Invalid, OK, SC
-        20 => 0x2800000000010101,
+        20 => 0x0500000000000101,
         // SnpRespData_SC, Invalid, DERR, I
-        21 => 0x0000020000010101,
+        21 => 0x0000000200000101,
         // SnpRespData_SC, Invalid, DERR, SC
-        22 => 0x2800020000010101,
+        22 => 0x0500000200000101,
         // SnpRespData_SC, Transfer, OK, I
-        23 => 0x0000000100010101,
+        23 => 0x0000000001000101,
         // SnpRespData_SC, Transfer, OK, SC
-        24 => 0x2800000100010101,
+        24 => 0x0500000001000101,
         // SnpRespData_SC, Transfer, DERR, I
-        25 => 0x0000020100010101,
+        25 => 0x0000000201000101,
         // SnpRespData_SC, Transfer, DERR, SC
-        26 => 0x2800020100010101,
+        26 => 0x0500000201000101,
         // SnpRespData_SC, Update, OK, I
-        27 => 0x0000000200010101,
+        27 => 0x0000000002000101,
         // SnpRespData_SC, Update, OK, SC
-        28 => 0x2800000200010101,
+        28 => 0x0500000002000101,
         // SnpRespData_SC, Update, DERR, I
-        29 => 0x0000020200010101,
+        29 => 0x0000000202000101,
         // SnpRespData_SC, Update, DERR, SC
-        30 => 0x2800020200010101,
+        30 => 0x0500000202000101,
         // SnpRespData_SD, Invalid, OK, SD
-        31 => 0x3000000000030101,
+        31 => 0x0600000000000301,
         // SnpRespData_SD, Invalid, DERR, SD
-        32 => 0x3000020000030101,
+        32 => 0x0600000200000301,
         // SnpRespData_SD, Transfer, OK, SD
-        33 => 0x3000000100030101,
+        33 => 0x0600000001000301,
         // SnpRespData_SD, Transfer, DERR, SD
-        34 => 0x3000020100030101,
+        34 => 0x0600000201000301,
         // SnpRespData_SD, Update, OK, SD
-        35 => 0x3000000200030101,
+        35 => 0x0600000002000301,
         // SnpRespData_SD, Update, DERR, SD
-        36 => 0x3000020200030101,
+        36 => 0x0600000202000301,
         // SnpRespData_I_PD, Invalid, OK, I
-        37 => 0x0000000000040101,
+        37 => 0x0000000000000401,
         // SnpRespData_I_PD, Invalid, DERR, I
-        38 => 0x0000020000040101,
+        38 => 0x0000000200000401,
         // SnpRespData_I_PD, Transfer, OK, I
-        39 => 0x0000000100040101,
+        39 => 0x0000000001000401,
         // SnpRespData_I_PD, Transfer, DERR, I
-        40 => 0x0000020100040101,
+        40 => 0x0000000201000401,
         // SnpRespData_I_PD, Update, OK, I
-        41 => 0x0000000200040101,
+        41 => 0x0000000002000401,
         // SnpRespData_I_PD, Update, DERR, I
-        42 => 0x0000020200040101,
+        42 => 0x0000000202000401,
         // SnpRespData_SC_PD, Invalid, OK, I
-        43 => 0x0000000000050101,
+        43 => 0x0000000000000501,
         // SnpRespData_SC_PD, Invalid, OK, SC
-        44 => 0x2800000000050101,
+        44 => 0x0500000000000501,
         // SnpRespData_SC_PD, Invalid, DERR, I
-        45 => 0x0000020000050101,
+        45 => 0x0000000200000501,
         // SnpRespData_SC_PD, Invalid, DERR, SC
-        46 => 0x2800020000050101,
+        46 => 0x0500000200000501,
         // SnpRespData_SC_PD, Transfer, OK, I
-        47 => 0x0000000100050101,
+        47 => 0x0000000001000501,
         // SnpRespData_SC_PD, Transfer, OK, SC
-        48 => 0x2800000100050101,
+        48 => 0x0500000001000501,
         // SnpRespData_SC_PD, Transfer, DERR, I
-        49 => 0x0000020100050101,
+        49 => 0x0000000201000501,
         // SnpRespData_SC_PD, Transfer, DERR, SC
-        50 => 0x2800020100050101,
+        50 => 0x0500000201000501,
         // SnpRespData_SC_PD, Update, OK, I
-        51 => 0x0000000200050101,
+        51 => 0x0000000002000501,
         // SnpRespData_SC_PD, Update, OK, SC
-        52 => 0x2800000200050101,
+        52 => 0x0500000002000501,
         // SnpRespData_SC_PD, Update, DERR, I
-        53 => 0x0000020200050101,
+        53 => 0x0000000202000501,
         // SnpRespData_SC_PD, Update, DERR, SC
-        54 => 0x2800020200050101,
+        54 => 0x0500000202000501,
         // SnpRespDataPtl_I_PD, Invalid, OK, I
-        55 => 0x0000000000040501,
+        55 => 0x0000000000000405,
         // SnpRespDataPtl_I_PD, Invalid, DERR, I
-        56 => 0x0000020000040501,
+        56 => 0x0000000200000405,
         // SnpRespDataPtl_I_PD, Transfer, OK, I
-        57 => 0x0000000100040501,
+        57 => 0x0000000001000405,
         // SnpRespDataPtl_I_PD, Transfer, DERR, I
-        58 => 0x0000020100040501,
+        58 => 0x0000000201000405,
         // SnpRespDataPtl_I_PD, Update, OK, I
-        59 => 0x0000000200040501,
+        59 => 0x0000000002000405,
         // SnpRespDataPtl_I_PD, Update, DERR, I
-        60 => 0x0000020200040501,
+        60 => 0x0000000202000405,
         // SnpRespData_I_Fwded_SC, Invalid, OK, I
-        61 => 0x0101000001000601,
+        61 => 0x0001010000010006,
         // SnpRespData_I_Fwded_SC, Invalid, DERR, I
-        62 => 0x0101020001000601,
+        62 => 0x0001010200010006,
         // SnpRespData_I_Fwded_SC, Transfer, OK, I
-        63 => 0x0101000101000601,
+        63 => 0x0001010001010006,
         // SnpRespData_I_Fwded_SC, Transfer, DERR, I
-        64 => 0x0101020101000601,
+        64 => 0x0001010201010006,
         // SnpRespData_I_Fwded_SD_PD, Invalid, OK, I
-        65 => 0x0701000007000601,
+        65 => 0x0007010000070006,
         // SnpRespData_I_Fwded_SD_PD, Invalid, DERR, I
-        66 => 0x0701020007000601,
+        66 => 0x0007010200070006,
         // SnpRespData_I_Fwded_SD_PD, Transfer, OK, I
-        67 => 0x0701000107000601,
+        67 => 0x0007010001070006,
         // SnpRespData_I_Fwded_SD_PD, Transfer, DERR, I
-        68 => 0x0701020107000601,
+        68 => 0x0007010201070006,
         // SnpRespData_SC_Fwded_SC, Invalid, OK, I
-        69 => 0x0101000001010601,
+        69 => 0x0001010000010106,
         // SnpRespData_SC_Fwded_SC, Invalid, OK, SC
-        70 => 0x2901000001010601,
+        70 => 0x0501010000010106,
         // SnpRespData_SC_Fwded_SC, Invalid, DERR, I
-        71 => 0x0101020001010601,
+        71 => 0x0001010200010106,
         // SnpRespData_SC_Fwded_SC, Invalid, DERR, SC
-        72 => 0x2901020001010601,
+        72 => 0x0501010200010106,
         // SnpRespData_SC_Fwded_SC, Transfer, OK, I
-        73 => 0x0101000101010601,
+        73 => 0x0001010001010106,
         // SnpRespData_SC_Fwded_SC, Transfer, OK, SC
-        74 => 0x2901000101010601,
+        74 => 0x0501010001010106,
         // SnpRespData_SC_Fwded_SC, Transfer, DERR, I
-        75 => 0x0101020101010601,
+        75 => 0x0001010201010106,
         // SnpRespData_SC_Fwded_SC, Transfer, DERR, SC
-        76 => 0x2901020101010601,
+        76 => 0x0501010201010106,
         // SnpRespData_SC_Fwded_SD_PD, Invalid, OK, I
-        77 => 0x0701000007010601,
+        77 => 0x0007010000070106,
         // SnpRespData_SC_Fwded_SD_PD, Invalid, OK, SC
-        78 => 0x2f01000007010601,
+        78 => 0x0507010000070106,
         // SnpRespData_SC_Fwded_SD_PD, Invalid, DERR, I
-        79 => 0x0701020007010601,
+        79 => 0x0007010200070106,
         // SnpRespData_SC_Fwded_SD_PD, Invalid, DERR, SC
-        80 => 0x2f01020007010601,
+        80 => 0x0507010200070106,
         // SnpRespData_SC_Fwded_SD_PD, Transfer, OK, I
-        81 => 0x0701000107010601,
+        81 => 0x0007010001070106,
         // SnpRespData_SC_Fwded_SD_PD, Transfer, OK, SC
-        82 => 0x2f01000107010601,
+        82 => 0x0507010001070106,
         // SnpRespData_SC_Fwded_SD_PD, Transfer, DERR, I
-        83 => 0x0701020107010601,
+        83 => 0x0007010201070106,
         // SnpRespData_SC_Fwded_SD_PD, Transfer, DERR, SC
-        84 => 0x2f01020107010601,
+        84 => 0x0507010201070106,
         // SnpRespData_SD_Fwded_SC, Invalid, OK, SD
-        85 => 0x3101000001030601,
+        85 => 0x0601010000010306,
         // SnpRespData_SD_Fwded_SC, Invalid, DERR, SD
-        86 => 0x3101020001030601,
+        86 => 0x0601010200010306,
         // SnpRespData_SD_Fwded_SC, Transfer, OK, SD
-        87 => 0x3101000101030601,
+        87 => 0x0601010001010306,
         // SnpRespData_SD_Fwded_SC, Transfer, DERR, SD
-        88 => 0x3101020101030601,
+        88 => 0x0601010201010306,
         // SnpRespData_I_PD_Fwded_SC, Invalid, OK, I
-        89 => 0x0101000001040601,
+        89 => 0x0001010000010406,
         // SnpRespData_I_PD_Fwded_SC, Invalid, DERR, I
-        90 => 0x0101020001040601,
+        90 => 0x0001010200010406,
         // SnpRespData_I_PD_Fwded_SC, Transfer, OK, I
-        91 => 0x0101000101040601,
+        91 => 0x0001010001010406,
         // SnpRespData_I_PD_Fwded_SC, Transfer, DERR, I
-        92 => 0x0101020101040601,
+        92 => 0x0001010201010406,
         // SnpRespData_I_PD_Fwded_SC, Update, OK, I
-        93 => 0x0101000201040601,
+        93 => 0x0001010002010406,
         // SnpRespData_I_PD_Fwded_SC, Update, DERR, I
-        94 => 0x0101020201040601,
+        94 => 0x0001010202010406,
         // SnpRespData_SC_PD_Fwded_SC, Invalid, OK, I
-        95 => 0x0101000001050601,
+        95 => 0x0001010000010506,
         // SnpRespData_SC_PD_Fwded_SC, Invalid, OK, SC
-        96 => 0x2901000001050601,
+        96 => 0x0501010000010506,
         // SnpRespData_SC_PD_Fwded_SC, Invalid, DERR, I
-        97 => 0x0101020001050601,
+        97 => 0x0001010200010506,
         // SnpRespData_SC_PD_Fwded_SC, Invalid, DERR, SC
-        98 => 0x2901020001050601,
+        98 => 0x0501010200010506,
         // SnpRespData_SC_PD_Fwded_SC, Transfer, OK, I
-        99 => 0x0101000101050601,
+        99 => 0x0001010001010506,
         // SnpRespData_SC_PD_Fwded_SC, Transfer, OK, SC
-        100 => 0x2901000101050601,
+        100 => 0x0501010001010506,
         // SnpRespData_SC_PD_Fwded_SC, Transfer, DERR, I
-        101 => 0x0101020101050601,
+        101 => 0x0001010201010506,
         // SnpRespData_SC_PD_Fwded_SC, Transfer, DERR, SC
-        102 => 0x2901020101050601,
+        102 => 0x0501010201010506,
         // SnpRespData_SC_PD_Fwded_SC, Update, OK, I
-        103 => 0x0101000201050601,
+        103 => 0x0001010002010506,
         // SnpRespData_SC_PD_Fwded_SC, Update, OK, SC
-        104 => 0x2901000201050601,
+        104 => 0x0501010002010506,
         // SnpRespData_SC_PD_Fwded_SC, Update, DERR, I
-        105 => 0x0101020201050601,
+        105 => 0x0001010202010506,
         // SnpRespData_SC_PD_Fwded_SC, Update, DERR, SC
-        106 => 0x2901020201050601,
+        106 => 0x0501010202010506,
         _ => past(number),
     }
 }

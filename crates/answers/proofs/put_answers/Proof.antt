@@ -19,20 +19,23 @@ loop-holds : tie.Need-loop-holds Inv-loop μ-loop
 unfolding numbers
 loop-holds c = putting-start _ _ _ _ refl
 
-add-answer : tie.Need-add-answer Inv-loop μ-loop
-add-answer c = omega (arith, numbers-length)
+add-number : tie.Need-add-number Inv-loop μ-loop
+add-number c = omega (arith, numbers-length)
 
-array-read-answer : tie.Need-array-read-answer Inv-loop μ-loop
-array-read-answer c = omega (arith, numbers-length)
+array-read-number : tie.Need-array-read-number Inv-loop μ-loop
+array-read-number c = omega (arith, numbers-length)
 
-answer-requires : tie.Need-answer-requires Inv-loop μ-loop
-answer-requires c κs = search needs
+choose-byte-requires : tie.Need-choose-byte-requires Inv-loop μ-loop
+choose-byte-requires c κs = search needs
 
 mul-put-answer : tie.Need-mul-put-answer Inv-loop μ-loop
 mul-put-answer c = omega (arith, numbers-length)
 
+answer-requires : tie.Need-answer-requires Inv-loop μ-loop
+answer-requires c κs = search needs
+
 put-answer-requires : tie.Need-put-answer-requires Inv-loop μ-loop
-put-answer-requires c κs = omega (arith, putting-length (c .before .before .before .before .before .pre .0) (c .before .before .before .before .before .pre .1) (c .before .before .before .loop .inv))
+put-answer-requires c κs = omega (arith, putting-length (c .before .before .before .before .before .before .pre .0) (c .before .before .before .before .before .before .pre .1) (c .before .before .before .before .loop .inv))
 
 add-k : tie.Need-add-k Inv-loop μ-loop
 add-k c = omega arith
@@ -41,7 +44,9 @@ loop-less : tie.Need-loop-less Inv-loop μ-loop
 loop-less c = omega arith
 
 loop-again : tie.Need-loop-again Inv-loop μ-loop
-loop-again c = putting-next (c .before .before .before .before .before .before .before .before .pre .0) (c .before .before .before .before .before .before .before .before .pre .1) (c .before .before .before .before .answer .result) _ (c .before .before .before .before .before .before .loop .inv) (c .before .before .before .before .before .loop-test .taken) (c .before .before .before .before .answer .ensures) (c .before .before .put-answer .ensures)
+loop-again c =
+    putting-next (c .before .before .before .before .before .before .before .before .before .pre .0) (c .before .before .before .before .before .before .before .before .before .pre .1) (c .before .before .before .before .before .choose-byte .result) (c .before .before .before .answer .result) _ (c .before .before .before .before .before .before .before .loop .inv) (c .before .before .before .before .before .before .loop-test .taken)
+    (c .before .before .before .before .before .choose-byte .ensures) (c .before .before .before .answer .ensures) (c .before .before .put-answer .ensures)
 
 same-length : tie.Need-same-length Inv-loop μ-loop
 same-length c = putting-length (c .before .before .before .pre .0) (c .before .before .before .pre .1) (c .before .loop .inv)
@@ -56,10 +61,11 @@ put-answers-spec =
     Inv-loop
     μ-loop
     loop-holds
-    add-answer
-    array-read-answer
-    answer-requires
+    add-number
+    array-read-number
+    choose-byte-requires
     mul-put-answer
+    answer-requires
     put-answer-requires
     add-k
     loop-less
