@@ -19,7 +19,7 @@ use Rattle.answers.specs.declared.Question.{Question}
 use Rattle.answers.specs.declared.Listed.{Listed}
 use Rattle.answers.specs.Listed.{asking, faultOf, joined}
 use Rattle.answers.specs.Table.{beyond, lists, spans, numbers, answers, firstOnDat}
-use Rattle.answers.specs.Code.{tablesOf, nineOf, answerAt, answersAt}
+use Rattle.answers.specs.Code.{tablesOf, contextOf, spanOf, nineOf, answerAt, answersAt}
 
 -- a number that is none of the first n is past them
 pub beyond-le : (n number : ℕ) → beyond number n → n ≤ number
@@ -50,6 +50,11 @@ fault-by q known k r hn hk hr =
     ∙ ap₂ (λ (b : Bool) (n : ℕ). cond b n 4)
     (five-tests (ltb (q .«ret_to_src») 2) (ltb (q .«do_not_go_to_sd») 2) (ltb (q .excl) 2) (ltb (q .tag .0) 3) (ltb (q .before .0) 7))
     (hk ∙ ap (λ (b : Bool). cond b 0 5) hn)
+
+-- the span of a question, from one lookup after another
+pub span-by : (q : Question) (context list span : ℕ) → context ≡ contextOf q → list ≡ getD lists context 0 → span ≡ getD spans list 0 → span ≡ spanOf q
+unfolding spanOf
+span-by q context list span hc hl hs = hs ∙ ap (λ (n : ℕ). getD spans n 0) (hl ∙ ap (λ (n : ℕ). getD lists n 0) hc)
 
 -- the lengths of the tables
 pub lists-length : length lists ≡ 224

@@ -7,7 +7,7 @@ use Prim.Native.Nat.{ℕ, _+_, _*_, _/_, _%_, _<_, _≤_}
 use native.Mathlib.Omega.{arith}
 use borrow.Author.Tests.{eq-eqb, ne-eqb, le-leb, lt-leb, leb-true}
 use lib.Dec.{eqb, leb}
-use lib.ListN.{length, getD, drop}
+use lib.ListN.{length, drop}
 use Rattle.kinds.specs.Tests.{all}
 use Rattle.kinds.specs.declared.Refusal.{Refusal}
 use Rattle.event.specs.Refusals.{issueE}
@@ -16,14 +16,9 @@ use Rattle.answers.specs.declared.Listed.{Listed}
 use Rattle.answers.specs.Answers.{answersTo}
 use Rattle.answers.specs.Listed.{answerLength, faultOf, joined, ListLeft, listLeft, result, acceptedList, refusedList, listedIn, listed}
 use Rattle.answers.specs.Table.{lists, spans, numbers}
-use Rattle.answers.specs.Code.{contextOf, spanOf, answersAt, answersIn}
+use Rattle.answers.specs.Code.{spanOf, answersAt, answersIn}
 use Rattle.answers.proofs.Lists.{questions, questionAt, every-question, table-right}
 use Rattle.answers.proofs.Laws.{numbers-length, answers-length}
-
--- the span of a question, from one lookup after another
-pub span-by : (q : Question) (context list span : ℕ) → context ≡ contextOf q → list ≡ getD lists context 0 → span ≡ getD spans list 0 → span ≡ spanOf q
-unfolding spanOf
-span-by q context list span hc hl hs = hs ∙ ap (λ (n : ℕ). getD spans n 0) (hl ∙ ap (λ (n : ℕ). getD lists n 0) hc)
 
 -- a span lies within the numbers
 spanFits : Question → Bool

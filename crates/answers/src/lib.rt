@@ -43,10 +43,11 @@ fn fault(q: Question) -> Refusal
     ensures { λ r. ⌜ r .0 ≡ faultOf issueE q ⌝ }
 {
     let request = q.request;
+    let known = request.known();
     let flags = (q.ret_to_src < 2) & (q.do_not_go_to_sd < 2) & (q.excl < 2);
     let fine = flags & (q.tag.0 < 3) & (q.before.0 < 7);
-    let known = kinds::choose_byte(request.known(), Refusal::ACCEPTED.0, Refusal::REQUEST.0);
-    Refusal(kinds::choose_byte(fine, known, Refusal::RANGE.0))
+    let by_request = kinds::choose_byte(known, Refusal::ACCEPTED.0, Refusal::REQUEST.0);
+    Refusal(kinds::choose_byte(fine, by_request, Refusal::RANGE.0))
 }
 
 // The tables that hold: 0 is B4.46, 1 is B4.57, 2 is B4.59, 3 is B4.59 with B4.60 (definition 5.2 to 5.6).
@@ -83,13 +84,20 @@ fn list_of(context: usize) -> u8
     }
 }
 
-// Where a list starts, times 64, plus its number of answers; 0 past the last list.
+// The span of a list, which is where it starts, times 64, plus its number of answers; 0 past the last list.
 fn span_of(list: u8) -> u16
     ensures { λ r. ⌜ r ≡ getD spans list 0 ⌝ }
 {
     let spans = table::SPANS;
     let at = list as usize;
     if at < table::LIST_COUNT { spans[at] } else { 0 }
+}
+
+// The span of the list of a question.
+fn span(q: Question) -> u16
+    ensures { λ r. ⌜ r ≡ spanOf q ⌝ }
+{
+    span_of(list_of(context(q)))
 }
 
 // Puts the nine bytes of an answer into the room, at an offset: its channel, and the eight bytes of `rest`, the lowest first. They must fit.
@@ -141,7 +149,7 @@ pub fn list_answers(question: Question, room: &mut [u8]) -> Listed
             count: 0,
         };
     }
-    let span = span_of(list_of(context(question))) as usize;
+    let span = span(question) as usize;
     let count = span % table::SPAN;
     if room.len() < count * ANSWER_BYTES {
         return Listed {

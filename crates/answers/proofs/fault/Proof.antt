@@ -16,7 +16,9 @@ choose-byte-requires-2 c κs = search needs
 
 returns : tie.Need-returns
 returns c =
-    fault-by (c .before .before .before .before .before .before .before .before .before .args .q) (c .before .before .known .result) (c .before .choose-byte .result) (c .choose-byte2 .result) (c .before .before .known .ensures) (c .before .choose-byte .ensures) (c .choose-byte2 .ensures)
+    let choose-byte = c .before .choose-byte in
+    let known = c .before .before .before .before .before .before .before .known in
+    fault-by (c .before .before .before .before .before .before .before .before .before .args .q) (known .result) (choose-byte .result) (c .choose-byte2 .result) (known .ensures) (choose-byte .ensures) (c .choose-byte2 .ensures)
 
 pub fault-spec : {M : Type 1} → statement M
 fault-spec =

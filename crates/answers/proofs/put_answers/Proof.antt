@@ -35,7 +35,7 @@ answer-requires : tie.Need-answer-requires Inv-loop μ-loop
 answer-requires c κs = search needs
 
 put-answer-requires : tie.Need-put-answer-requires Inv-loop μ-loop
-put-answer-requires c κs = omega (arith, putting-length (c .before .before .before .before .before .before .pre .0) (c .before .before .before .before .before .before .pre .1) (c .before .before .before .before .loop .inv))
+put-answer-requires c κs = let pre = c .before .before .before .before .before .before .pre in omega (arith, putting-length (pre .0) (pre .1) (c .before .before .before .before .loop .inv))
 
 add-k : tie.Need-add-k Inv-loop μ-loop
 add-k c = omega arith
@@ -45,11 +45,14 @@ loop-less c = omega arith
 
 loop-again : tie.Need-loop-again Inv-loop μ-loop
 loop-again c =
-    putting-next (c .before .before .before .before .before .before .before .before .before .pre .0) (c .before .before .before .before .before .before .before .before .before .pre .1) (c .before .before .before .before .before .choose-byte .result) (c .before .before .before .answer .result) _ (c .before .before .before .before .before .before .before .loop .inv) (c .before .before .before .before .before .before .loop-test .taken)
-    (c .before .before .before .before .before .choose-byte .ensures) (c .before .before .before .answer .ensures) (c .before .before .put-answer .ensures)
+    let answer = c .before .before .before .answer in
+    let choose-byte = c .before .before .before .before .before .choose-byte in
+    let pre = c .before .before .before .before .before .before .before .before .before .pre in
+    putting-next (pre .0) (pre .1) (choose-byte .result) (answer .result) _ (c .before .before .before .before .before .before .before .loop .inv) (c .before .before .before .before .before .before .loop-test .taken) (choose-byte .ensures) (answer .ensures)
+    (c .before .before .put-answer .ensures)
 
 same-length : tie.Need-same-length Inv-loop μ-loop
-same-length c = putting-length (c .before .before .before .pre .0) (c .before .before .before .pre .1) (c .before .loop .inv)
+same-length c = let pre = c .before .before .before .pre in putting-length (pre .0) (pre .1) (c .before .loop .inv)
 
 returns : tie.Need-returns Inv-loop μ-loop
 returns c = putting-end (c .before .loop .inv) (c .loop-test .left)

@@ -16,8 +16,11 @@ choose-byte-requires-3 c κs = search needs
 
 returns : tie.Need-returns
 returns c =
-    tables-by (c .before .before .before .before .before .before .args .request .0) (c .before .before .before .before .before .before .args .excl) (c .before .before .before .choose-byte .result) (c .before .before .choose-byte2 .result) (c .choose-byte3 .result)
-    (c .before .before .before .choose-byte .ensures) (c .before .before .choose-byte2 .ensures) (c .choose-byte3 .ensures)
+    let choose-byte2 = c .before .before .choose-byte2 in
+    let choose-byte = c .before .before .before .choose-byte in
+    let args = c .before .before .before .before .before .before .args in
+    tables-by (args .request .0) (args .excl) (choose-byte .result) (choose-byte2 .result) (c .choose-byte3 .result) (choose-byte .ensures)
+    (choose-byte2 .ensures) (c .choose-byte3 .ensures)
 
 pub tables-spec : {M : Type 1} → statement M
 tables-spec =
