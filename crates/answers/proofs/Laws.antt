@@ -18,7 +18,7 @@ use Rattle.event.specs.Refusals.{issueE, fault}
 use Rattle.answers.specs.declared.Question.{Question}
 use Rattle.answers.specs.declared.Listed.{Listed}
 use Rattle.answers.specs.Listed.{asking, faultOf, joined}
-use Rattle.answers.specs.Table.{beyond, lists, spans, numbers, answers, firstOnDat}
+use Rattle.answers.specs.Table.{beyond, lists, spans, numbers, answers, contextCount, listCount, numberCount, firstOnDat}
 use Rattle.answers.specs.Code.{tablesOf, contextOf, spanOf, nineOf, answerAt, answersAt}
 
 -- a number that is none of the first n is past them
@@ -57,15 +57,15 @@ unfolding spanOf
 span-by q context list span hc hl hs = hs ∙ ap (λ (n : ℕ). getD spans n 0) (hl ∙ ap (λ (n : ℕ). getD lists n 0) hc)
 
 -- the lengths of the tables
-pub lists-length : length lists ≡ 224
+pub lists-length : length lists ≡ contextCount
 unfolding lists
 lists-length = refl
 
-pub spans-length : length spans ≡ 34
+pub spans-length : length spans ≡ listCount
 unfolding spans
 spans-length = refl
 
-pub numbers-length : length numbers ≡ 330
+pub numbers-length : length numbers ≡ numberCount
 unfolding numbers
 numbers-length = refl
 

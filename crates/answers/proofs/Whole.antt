@@ -15,14 +15,14 @@ use Rattle.answers.specs.declared.Question.{Question}
 use Rattle.answers.specs.declared.Listed.{Listed}
 use Rattle.answers.specs.Answers.{answersTo}
 use Rattle.answers.specs.Listed.{answerLength, faultOf, joined, ListLeft, listLeft, result, acceptedList, refusedList, listedIn, listed}
-use Rattle.answers.specs.Table.{lists, spans, numbers}
+use Rattle.answers.specs.Table.{lists, spans, numbers, numberCount}
 use Rattle.answers.specs.Code.{spanOf, answersAt, answersIn}
 use Rattle.answers.proofs.Lists.{questions, questionAt, every-question, table-right}
 use Rattle.answers.proofs.Laws.{numbers-length, answers-length}
 
 -- a span lies within the numbers
 spanFits : Question → Bool
-spanFits q = leb (spanOf q / 64 + spanOf q % 64) 330
+spanFits q = leb (spanOf q / 64 + spanOf q % 64) numberCount
 
 all-fit : all (λ b. spanFits (questionAt b)) questions ≡ true
 unfolding spanFits questions spanOf lists spans
@@ -32,7 +32,7 @@ pub span-fits : (q : Question) → faultOf issueE q ≡ 0 → spanOf q / 64 + sp
 unfolding spanFits
 span-fits q h =
     subst (λ (n : ℕ). spanOf q / 64 + spanOf q % 64 ≤ n) (sym numbers-length)
-    (leb-true (spanOf q / 64 + spanOf q % 64) 330 (every-question spanFits all-fit q h))
+    (leb-true (spanOf q / 64 + spanOf q % 64) numberCount (every-question spanFits all-fit q h))
 
 -- the number of answers is told by the span
 pub list-length : (q : Question) → faultOf issueE q ≡ 0 → length (answersTo issueE q) ≡ spanOf q % 64

@@ -3,7 +3,7 @@ use Prim.Native.Nat.{ℕ, zero, suc}
 use mathlib.Core.Path.{_≡_}
 use mathlib.Core.List.{List, [], _∷_}
 
--- the list of each context: tables, RetToSrc, DoNotGoToSD, Dirty tags, state before; a line has two contexts but for the state
+-- the list of each context, by tables, RetToSrc and DoNotGoToSD; a line has the seven states before, without and with Dirty tags
 unfoldable pub lists : List ℕ
 lists =
     0 ∷ 1 ∷ 0 ∷ 2 ∷ 3 ∷ 4 ∷ 2 ∷ 5 ∷ 5 ∷ 5 ∷ 2 ∷ 5 ∷ 5 ∷ 2 ∷
@@ -24,7 +24,7 @@ lists =
     0 ∷ 31 ∷ 0 ∷ 29 ∷ 10 ∷ 31 ∷ 29 ∷ 5 ∷ 5 ∷ 5 ∷ 30 ∷ 5 ∷ 5 ∷ 30 ∷
     []
 
--- where each list starts among the numbers, times 64, plus how many answers it has
+-- the span of each list: where it starts among the numbers, times 64, plus how many answers it has
 unfoldable pub spans : List ℕ
 spans =
     2 ∷ 150 ∷ 1561 ∷ 3143 ∷ 3588 ∷ 3840 ∷ 3859 ∷ 5075 ∷ 6276 ∷ 6545 ∷ 7619 ∷ 7816 ∷ 8336 ∷ 9351 ∷ 9805 ∷ 10653 ∷ 12489 ∷
@@ -69,6 +69,22 @@ answers =
     0x0501010000010506 ∷ 0x0001010200010506 ∷ 0x0501010200010506 ∷ 0x0001010001010506 ∷ 0x0501010001010506 ∷ 0x0001010201010506 ∷
     0x0501010201010506 ∷ 0x0001010002010506 ∷ 0x0501010002010506 ∷ 0x0001010202010506 ∷ 0x0501010202010506 ∷
     []
+
+-- how many contexts there are
+abbrev pub contextCount : ℕ
+contextCount = 224
+
+-- how many lists there are
+abbrev pub listCount : ℕ
+listCount = 34
+
+-- how many numbers all lists have
+abbrev pub numberCount : ℕ
+numberCount = 330
+
+-- how many answers there are
+abbrev pub answerCount : ℕ
+answerCount = 107
 
 -- the number of the first answer on DAT
 abbrev pub firstOnDat : ℕ

@@ -100,10 +100,11 @@ fn span(q: Question) -> u16
     span_of(list_of(context(q)))
 }
 
-// Puts the nine bytes of an answer into the room, at an offset: its channel, and the eight bytes of `rest`, the lowest first. They must fit.
+// Puts the nine bytes of an answer into the room at an offset: its channel, and the bytes of `rest`, the lowest first. They must fit.
 fn put_answer(room: &mut [u8], at: usize, channel: u8, rest: u64)
     requires { ⌜ at + answerLength ≤ length (now room) ⌝ }
-    ensures { λ _. ⌜ now (room .exit) ≡ take at (now (room .entry)) ++ nineOf channel rest ++ drop (at + answerLength) (now (room .entry)) ⌝ }
+    ensures { λ _. ⌜ now (room .exit) ≡
+        take at (now (room .entry)) ++ nineOf channel rest ++ drop (at + answerLength) (now (room .entry)) ⌝ }
 {
     room[at] = channel;
     room[at + 1] = (rest % 256) as u8;

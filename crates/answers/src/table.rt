@@ -15,7 +15,7 @@ pub const SPAN: usize = 64;
 // The number of the first answer on DAT; those before it are on RSP.
 pub const FIRST_ON_DAT: u8 = 13;
 
-// the list of each context: tables, RetToSrc, DoNotGoToSD, Dirty tags, state before; a line has two contexts but for the state.
+// The list of each context, by tables, RetToSrc and DoNotGoToSD; a line has the seven states before, without and with Dirty tags.
 pub const LISTS: [u8; CONTEXTS] = *b"\
 \x00\x01\x00\x02\x03\x04\x02\x05\x05\x05\x02\x05\x05\x02\
 \x00\x01\x00\x06\x03\x04\x06\x05\x05\x05\x06\x05\x05\x06\
@@ -34,7 +34,7 @@ pub const LISTS: [u8; CONTEXTS] = *b"\
 \x00\x1f\x00\x20\x0a\x1f\x20\x05\x05\x05\x21\x05\x05\x21\
 \x00\x1f\x00\x1d\x0a\x1f\x1d\x05\x05\x05\x1e\x05\x05\x1e";
 
-// where each list starts among the numbers, times 64, plus how many answers it has.
+// The span of each list: where it starts among the numbers, times 64, plus how many answers it has.
 pub const SPANS: [u16; LIST_COUNT] = [
     2,
     150,
@@ -72,7 +72,7 @@ pub const SPANS: [u16; LIST_COUNT] = [
     20679,
 ];
 
-// the numbers of the answers of each list, one list after another.
+// The numbers of the answers of each list, one list after another.
 pub const NUMBERS: [u8; 330] = *b"\
 \x00\x01\x00\x01\x02\x03\x0d\x0e\x0f\x10\x11\x12\x13\x14\x15\x16\x17\x18\x19\x1a\x1b\x1c\x1d\x1e\x01\x1f\x20\x21\x22\x23\
 \x24\x25\x26\x27\x28\x29\x2a\x2b\x2c\x2d\x2e\x2f\x30\x31\x32\x33\x34\x35\x36\x01\x37\x38\x39\x3a\x3b\x3c\x00\x01\x02\x03\

@@ -12,7 +12,8 @@ ghost use Rattle.trace.specs.Lent.{lent};
 ghost use Rattle.trace.specs.Judged.{judged};
 ghost use Rattle.answers.specs.Answers.{question};
 ghost use Rattle.answers.specs.Listed.{mostAnswers, listed};
-ghost use Rattle.korehyumo.specs.Calls.{placesEnd, inOne, withMore, eventCall, eventTold, traceCall, traceTold, answersCall, answersTold};
+ghost use Rattle.korehyumo.specs.Calls.{placesEnd, inOne, withMore};
+ghost use Rattle.korehyumo.specs.Calls.{eventCall, eventTold, traceCall, traceTold, answersCall, answersTold};
 
 // What the upper half of a result is multiplied by.
 const UPPER: u64 = 1 << 32;

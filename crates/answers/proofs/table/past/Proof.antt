@@ -3,13 +3,13 @@
 use mathlib.Core.Path.{sym}
 use lib.ListN.{List·getD-eq-default}
 use borrow.Author.Needs.{needs}
-use Rattle.answers.specs.Table.{answers}
+use Rattle.answers.specs.Table.{answers, answerCount}
 use Rattle.answers.proofs.Laws.{beyond-le}
 use Rattle.answers.proofs.table.past.Statement.{statement}
 use Rattle.answers.proofs.table.past.Tie as tie
 
 returns : tie.Need-returns
-returns c = sym (List·getD-eq-default answers 0 (beyond-le 107 (c .args .number) (search needs)))
+returns c = sym (List·getD-eq-default answers 0 (beyond-le answerCount (c .args .number) (search needs)))
 
 pub past-spec : {M : Type 1} → statement M
 past-spec = tie.close (tie.spec returns)
