@@ -1,4 +1,4 @@
-# common.sh: what measure/sheet and measure/traces share; both source it
+# common.sh: what measure/sheet, measure/traces and measure/answers share; each sources it
 # shellcheck shell=sh
 set -eu
 
@@ -15,9 +15,9 @@ needed() {
     command -v "$1" >/dev/null 2>&1 || fail 2 "$1 is missing; scripts/need $1=$2 installs it"
 }
 
-# prints the comment at the head of the script
+# prints the comment at the head of the script, from the root
 usage() {
-    sed -n '2,/^[^#]/s/^# \{0,1\}//p' "$0"
+    sed -n '2,/^[^#]/s/^# \{0,1\}//p' "measure/${0##*/}"
 }
 
 # goes to the root and reads the words of the call; the proved code is the file that is named, else FILE, which BUILD builds:
@@ -80,6 +80,27 @@ print_counter() {
     if [ "$counter" ]; then echo "instructions: by $counter, $1"; else echo "$uncounted"; fi
 }
 
+# says how the calls of a library were timed, and who took turns
+print_rounds() {
+    awk -v who="$1" '$1 == "rounds" {
+        print "time: processor time, the least of " $2 " rounds in which the " who " take turns, each time at least " $3 " ms of calls"
+    }' "$work/measured"
+}
+
+# awk functions for tables of calls, over arrays of what was measured by name and size
+# shellcheck disable=SC2034
+cells='
+    # what a call takes, with what stands around the call taken off
+    function call(what, name, size) { return what[name, size] - what["around", size] }
+    # a cell: what a call takes, or each of so many parts of it, or a dash where it was not measured
+    function cell(what, name, size, each, format, width) {
+        return sprintf("%" width "s", (name, size) in what ? sprintf(format, call(what, name, size) / each) : "-")
+    }
+    # how many times what another one takes
+    function ratio(what, name, other, size, width) {
+        return cell(what, name, size, (name, size) in what ? call(what, other, size) : 1, "%.2f", width)
+    }'
+
 # runs a command under callgrind, its output thrown away
 callgrind() {
     valgrind --tool=callgrind --log-file=/dev/null --callgrind-out-file="$work/count" "$@" >/dev/null
@@ -123,11 +144,13 @@ by_function() {
         }' >>"$work/functions"
 }
 
-# prints the twelve dearest functions noted, their instructions divided by a number of lines or events
+# prints the twelve dearest functions noted, their instructions divided by a number of lines, events or lists
 print_functions() {
     awk -F '\t' -v each="$1" '
-        { count[$2] += $1; all += $1 }
+        { count[$2] += $1 }
         END {
+            for (name in count)
+                if (count[name] > 0) all += count[name]
             for (name in count)
                 if (count[name] >= each / 20)
                     printf "%10.1f%8.1f%%  %s\n", count[name] / each, 100 * count[name] / all, name

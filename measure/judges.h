@@ -12,10 +12,10 @@
 /* The most pairs of a trace or a sheet, and the most events of a trace. */
 #define MOST 4096u
 
-/* The numbers of the refusals, of which the last three are a sheet's alone. */
+/* The numbers of the refusals, of which the last four are a sheet's or a list's alone. */
 enum {
     ACCEPTED, WRONG_LENGTH, NO_SET, NO_PAIR, OUT_OF_RANGE, OTHER_REQUEST, TRACE_REFUSALS,
-    NO_HEADER = TRACE_REFUSALS, TOO_LONG, MALFORMED
+    NO_HEADER = TRACE_REFUSALS, TOO_LONG, MALFORMED, NO_ROOM, REFUSALS
 };
 
 /* The verdicts. */

@@ -4,15 +4,9 @@
 #include <stdio.h>
 #include <stdlib.h>
 #include <string.h>
-#include <time.h>
 #include "../include/korehyumo.h"
+#include "rounds.h"
 #include "traces.h"
-
-/* How many rounds are measured, of which the least counts. */
-#define ROUNDS 7
-
-/* How many nanoseconds a measurement lasts at least. */
-#define SHORTEST 50000000.0
 
 /* Does nothing with a trace, so that what stands around a call can be measured by itself. */
 static uint64_t nothing(LENT)
@@ -45,49 +39,21 @@ static void repeat(const struct judge *judge, const struct trace *trace, unsigne
     }
 }
 
-/* The processor time of the program so far in nanoseconds. */
-static double now(void)
+/* Judges the trace of a cell with the judge of that cell so many times. */
+static void repeat_cell(unsigned cell, unsigned long times)
 {
-    struct timespec time;
-    clock_gettime(CLOCK_PROCESS_CPUTIME_ID, &time);
-    return (double)time.tv_sec * 1e9 + (double)time.tv_nsec;
+    repeat(&judges[cell % (JUDGES + 1)], &traces[cell / (JUDGES + 1)], times);
 }
 
-/* The nanoseconds that so many calls take. */
-static double nanoseconds(const struct judge *judge, const struct trace *trace, unsigned long times)
-{
-    double start = now();
-    repeat(judge, trace, times);
-    return now() - start;
-}
-
-/* The nanoseconds that a call takes, measured over so many calls, or over more where those end too soon. */
-static double call_time(const struct judge *judge, const struct trace *trace, unsigned long *times)
-{
-    double lasted = nanoseconds(judge, trace, *times);
-    while (lasted < SHORTEST) {
-        *times *= 2;
-        lasted = nanoseconds(judge, trace, *times);
-    }
-    return lasted / (double)*times;
-}
-
-/* Measures and prints the time of a call of each judge on each trace; a round goes over all traces, so that rounds lie far apart. */
+/* Measures and prints the time of a call of each judge on each trace. */
 static void print_times(void)
 {
     enum { CELLS = SIZES * (JUDGES + 1) };
-    static unsigned long times[CELLS];
-    static double least[CELLS];
-    for (unsigned turn = 0; turn < ROUNDS * CELLS; turn++) {
-        unsigned cell = turn % CELLS;
-        times[cell] += times[cell] == 0;
-        double call = call_time(&judges[cell % (JUDGES + 1)], &traces[cell / (JUDGES + 1)], &times[cell]);
-        if (turn < CELLS || call < least[cell])
-            least[cell] = call;
-    }
+    static struct timed timed[CELLS];
+    take_times(timed, CELLS, repeat_cell);
     for (unsigned cell = 0; cell < CELLS; cell++) {
         const struct trace *trace = &traces[cell / (JUDGES + 1)];
-        printf("time %s %zu %zu %.3f\n", judges[cell % (JUDGES + 1)].name, trace->n, trace->pairs, least[cell]);
+        printf("time %s %zu %zu %.3f\n", judges[cell % (JUDGES + 1)].name, trace->n, trace->pairs, timed[cell].least);
     }
 }
 
@@ -119,7 +85,7 @@ static void all_occur(const struct trace *trace)
 /* Measures all judges on all sizes. */
 static void measure(void)
 {
-    printf("rounds %d %.0f\n", ROUNDS, SHORTEST / 1e6);
+    print_rounds();
     for (unsigned n = 0; n < SIZES; n++) {
         make_trace(&traces[n], sizes[n].n, sizes[n].pairs, SEED);
         if (traces[n].n == MOST)

@@ -53,12 +53,7 @@ static inline void put_event(uint8_t *bytes, const struct drawn *drawn)
     bytes[DO_NOT_GO_TO_SD_AT] = event->do_not_go_to_sd;
     bytes[EXCL_AT] = (uint8_t)drawn->excl;
     bytes[TAG_AT] = event->tag;
-    memcpy(bytes + CHANNEL_AT, response_codes[event->response], sizeof response_codes[0]);
-    bytes[TAG_OP_AT] = event->tag_op;
-    bytes[RESP_ERR_AT] = event->resp_err;
-    bytes[FORWARDED_AT] = event->forward != NO_FORWARD;
-    bytes[FORWARDED_RESP_AT] = forward_codes[event->forward];
-    bytes[STATE_AFTER_AT] = (uint8_t)drawn->state_after;
+    put_answer(bytes + CHANNEL_AT, event, drawn->state_after);
 }
 
 /* Draws a trace of mostly explained events, its pairs starting from any of the seven states. */

@@ -3,6 +3,7 @@
 #ifndef WIRE_H
 #define WIRE_H
 
+#include <string.h>
 #include "load.h"
 #include "rows.h"
 
@@ -11,6 +12,9 @@ enum {
     REQUEST_AT, RET_TO_SRC_AT, DO_NOT_GO_TO_SD_AT, EXCL_AT, TAG_AT, CHANNEL_AT, OPCODE_AT, RESP_AT, FWD_STATE_AT, TAG_OP_AT,
     RESP_ERR_AT, FORWARDED_AT, FORWARDED_RESP_AT, STATE_AFTER_AT
 };
+
+/* How many bytes an answer has: those of an event from its channel on. */
+#define ANSWER_BYTES (EVENT_BYTES - CHANNEL_AT)
 
 /* The largest value in range of each field, always one less than a power of two; a request may be any byte. */
 static const uint8_t largest[EVENT_BYTES] = {255, 1, 1, 1, 3, 1, 31, 7, 7, 3, 3, 1, 7, 7};
@@ -58,6 +62,17 @@ static inline unsigned forward_of(unsigned there, unsigned resp)
     FORWARD_LIST(FORWARD_CASE)
     default: return FORWARDS;
     }
+}
+
+/* Writes the answer of an event as its bytes. */
+static inline void put_answer(uint8_t *bytes, const struct event *event, unsigned state_after)
+{
+    const uint8_t *codes = response_codes[event->response];
+    const uint8_t answer[ANSWER_BYTES] = {
+        codes[0], codes[1], codes[2], codes[3], event->tag_op, event->resp_err, event->forward != NO_FORWARD,
+        forward_codes[event->forward], (uint8_t)state_after,
+    };
+    memcpy(bytes, answer, sizeof answer);
 }
 
 /* The refusal of one event, if any. */
