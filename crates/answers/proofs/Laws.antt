@@ -17,7 +17,7 @@ use Rattle.kinds.proofs.Laws.{one-of-2}
 use Rattle.event.specs.Refusals.{issueE, fault}
 use Rattle.answers.specs.declared.Question.{Question}
 use Rattle.answers.specs.declared.Listed.{Listed}
-use Rattle.answers.specs.Listed.{asking, faultOf, joined}
+use Rattle.answers.specs.Listed.{answerLength, asking, faultOf, joined}
 use Rattle.answers.specs.Table.{beyond, lists, spans, numbers, answers, contextCount, listCount, numberCount, firstOnDat}
 use Rattle.answers.specs.Code.{tablesOf, contextOf, spanOf, nineOf, answerAt, answersAt}
 
@@ -94,7 +94,7 @@ map-snoc f [] n = refl
 map-snoc f (m ∷ ns) n = ap (λ (x : List (List ℕ)). f m ∷ x) (map-snoc f ns n)
 
 -- answers joined have nine bytes each
-joined-length : (ns : List ℕ) → length (joined (map answerAt ns)) ≡ 9 * length ns
+joined-length : (ns : List ℕ) → length (joined (map answerAt ns)) ≡ answerLength * length ns
 unfolding answerAt
 joined-length [] = refl
 joined-length (n ∷ ns) = length-append (answerAt n) (joined (map answerAt ns)) ∙ omega (arith, joined-length ns)
@@ -120,56 +120,56 @@ answers-next start k h =
 pub record Putting (room₀ : List ℕ) (start count : ℕ) (ns room : List ℕ) (k : ℕ) : Type 0 where
   pub among : k ≤ count
   pub table : ns ≡ numbers
-  pub put : room ≡ joined (answersAt start k) ++ drop (9 * k) room₀
+  pub put : room ≡ joined (answersAt start k) ++ drop (answerLength * k) room₀
 
 pub putting-start : (room : List ℕ) (start count : ℕ) (ns : List ℕ) → ns ≡ numbers → Putting room start count ns room 0
 putting-start room start count ns h = record { among = omega arith; table = h; put = refl }
 
 -- how much of the room is filled then
-filled : (start count k : ℕ) → start + count ≤ length numbers → k ≤ count → length (joined (answersAt start k)) ≡ 9 * k
-filled start count k h l = joined-length (take k (drop start numbers)) ∙ ap (λ (n : ℕ). 9 * n) (at-length start k (omega arith))
+filled : (start count k : ℕ) → start + count ≤ length numbers → k ≤ count → length (joined (answersAt start k)) ≡ answerLength * k
+filled start count k h l = joined-length (take k (drop start numbers)) ∙ ap (λ (n : ℕ). answerLength * n) (at-length start k (omega arith))
 
-module _ {room₀ ns room : List ℕ} {start count k : ℕ} (fits : start + count ≤ length numbers) (enough : 9 * count ≤ length room₀) where
+module _ {room₀ ns room : List ℕ} {start count k : ℕ} (fits : start + count ≤ length numbers) (enough : answerLength * count ≤ length room₀) where
   -- the room keeps its length
   pub putting-length : Putting room₀ start count ns room k → length room ≡ length room₀
   putting-length p =
       ap length (p .put)
-      ∙ length-append (joined (answersAt start k)) (drop (9 * k) room₀)
-      ∙ ap₂ _+_ (filled start count k fits (p .among)) (length-drop (9 * k) room₀)
+      ∙ length-append (joined (answersAt start k)) (drop (answerLength * k) room₀)
+      ∙ ap₂ _+_ (filled start count k fits (p .among)) (length-drop (answerLength * k) room₀)
       ∙ omega (arith, p .among)
 
   pub putting-next : (channel rest : ℕ) (next : List ℕ) → Putting room₀ start count ns room k → k < count
       → channel ≡ cond (ltb (getD ns (start + k) 0) firstOnDat) RSP DAT → rest ≡ getD answers (getD ns (start + k) 0) 0
-      → next ≡ take (k * 9) room ++ nineOf channel rest ++ drop (k * 9 + 9) room → Putting room₀ start count ns next (k + 1)
+      → next ≡ take (k * answerLength) room ++ nineOf channel rest ++ drop (k * answerLength + answerLength) room → Putting room₀ start count ns next (k + 1)
   unfolding answerAt
   putting-next channel rest next p l hc hr hn = record { among = omega arith; table = p .table; put = put }
     where
-      long : length (joined (answersAt start k)) ≡ k * 9
+      long : length (joined (answersAt start k)) ≡ k * answerLength
       long = filled start count k fits (p .among) ∙ omega arith
 
-      front : take (k * 9) room ≡ (joined (answersAt start k))
-      front = ap (take (k * 9)) (p .put) ∙ take-at (joined (answersAt start k)) (drop (9 * k) room₀) (k * 9) long
+      front : take (k * answerLength) room ≡ (joined (answersAt start k))
+      front = ap (take (k * answerLength)) (p .put) ∙ take-at (joined (answersAt start k)) (drop (answerLength * k) room₀) (k * answerLength) long
 
-      back : drop (k * 9 + 9) room ≡ drop (9 * (k + 1)) room₀
+      back : drop (k * answerLength + answerLength) room ≡ drop (answerLength * (k + 1)) room₀
       back =
-          let further : 9 * k + 9 ≡ 9 * (k + 1) = omega arith in
-          ap (drop (k * 9 + 9)) (p .put)
-          ∙ ap (λ (n : ℕ). drop (n + 9) ((joined (answersAt start k)) ++ drop (9 * k) room₀)) (sym long)
-          ∙ drop-append-add (joined (answersAt start k)) (drop (9 * k) room₀) 9
-          ∙ drop-drop 9 (9 * k) room₀
+          let further : answerLength * k + answerLength ≡ answerLength * (k + 1) = omega arith in
+          ap (drop (k * answerLength + answerLength)) (p .put)
+          ∙ ap (λ (n : ℕ). drop (n + answerLength) ((joined (answersAt start k)) ++ drop (answerLength * k) room₀)) (sym long)
+          ∙ drop-append-add (joined (answersAt start k)) (drop (answerLength * k) room₀) answerLength
+          ∙ drop-drop answerLength (answerLength * k) room₀
           ∙ ap (λ (n : ℕ). drop n room₀) further
 
       this : nineOf channel rest ≡ answerAt (getD numbers (start + k) 0)
       this = ap₂ nineOf hc hr ∙ ap (λ (x : List ℕ). answerAt (getD x (start + k) 0)) (p .table)
 
-      put : next ≡ joined (answersAt start (k + 1)) ++ drop (9 * (k + 1)) room₀
+      put : next ≡ joined (answersAt start (k + 1)) ++ drop (answerLength * (k + 1)) room₀
       put =
           hn
           ∙ ap₂ (λ (x y : List ℕ). x ++ nineOf channel rest ++ y) front back
-          ∙ ap (λ (x : List ℕ). (joined (answersAt start k)) ++ x ++ drop (9 * (k + 1)) room₀) this
-          ∙ ap (λ (x : List ℕ). x ++ drop (9 * (k + 1)) room₀) (sym (answers-next start k (omega arith)))
+          ∙ ap (λ (x : List ℕ). (joined (answersAt start k)) ++ x ++ drop (answerLength * (k + 1)) room₀) this
+          ∙ ap (λ (x : List ℕ). x ++ drop (answerLength * (k + 1)) room₀) (sym (answers-next start k (omega arith)))
 
 pub putting-end : {room₀ ns room : List ℕ} {start count k : ℕ} → Putting room₀ start count ns room k → count ≤ k
-    → room ≡ joined (answersAt start count) ++ drop (9 * count) room₀
+    → room ≡ joined (answersAt start count) ++ drop (answerLength * count) room₀
 putting-end {room₀} {ns} {room} {start} {count} {k} p h =
-    subst (λ (n : ℕ). room ≡ joined (answersAt start n) ++ drop (9 * n) room₀) (le-antisymm (p .among) h) (p .put)
+    subst (λ (n : ℕ). room ≡ joined (answersAt start n) ++ drop (answerLength * n) room₀) (le-antisymm (p .among) h) (p .put)

@@ -17,7 +17,7 @@ use Rattle.event.specs.Refusals.{issueE, below, fault}
 use Rattle.answers.specs.declared.Question.{Question}
 use Rattle.answers.specs.Answers.{question, questionBytes, answerLimits, permits, numbersFrom, choices, allBelow, answersTo}
 use Rattle.answers.specs.Ascending.{ascending}
-use Rattle.answers.specs.Listed.{asking, faultOf}
+use Rattle.answers.specs.Listed.{answerLength, asking, faultOf}
 use Rattle.answers.specs.Table.{lists, spans, numbers, answers, firstOnDat}
 use Rattle.answers.specs.Code.{spanOf, nineOf, answerAt, answersIn}
 use Rattle.answers.proofs.Ascending.{all-member, same-members}
@@ -93,7 +93,7 @@ pub answers-ascend : (q : Question) → ascending (answersTo issueE q) ≡ true
 unfolding answersTo
 answers-ascend q = keep-ascending (permits q) (allBelow (answerLimits issueE)) (allBelow-ascending (answerLimits issueE))
 
-pub answers-members : (q : Question) (a : List ℕ) → any (same a) (answersTo issueE q) ≡ permits q a && (eqb (length a) 9 && below a 0 (answerLimits issueE))
+pub answers-members : (q : Question) (a : List ℕ) → any (same a) (answersTo issueE q) ≡ permits q a && (eqb (length a) answerLength && below a 0 (answerLimits issueE))
 unfolding answersTo
 answers-members q a = keep-members (permits q) (allBelow (answerLimits issueE)) a ∙ ap (λ (b : Bool). permits q a && b) (allBelow-members (answerLimits issueE) a)
 
@@ -108,7 +108,7 @@ table-right q h = same-members (answersIn (spanOf q)) (answersTo issueE q) ascen
     ascends : ascending (answersIn (spanOf q)) ≡ true
     ascends = and-left (ascending (answersIn (spanOf q))) (alike (answersIn (spanOf q)) (sorted (answersOf q rows))) right
 
-    of-rows : (a : List ℕ) → any (same a) (answersIn (spanOf q)) ≡ eqb (length a) 9 && permits q a
+    of-rows : (a : List ℕ) → any (same a) (answersIn (spanOf q)) ≡ eqb (length a) answerLength && permits q a
     of-rows a =
         ap (any (same a)) (alike-equal (answersIn (spanOf q)) (sorted (answersOf q rows)) (and-right (ascending (answersIn (spanOf q))) (alike (answersIn (spanOf q)) (sorted (answersOf q rows))) right))
         ∙ sorted-members a (answersOf q rows)
@@ -117,6 +117,6 @@ table-right q h = same-members (answersIn (spanOf q)) (answersTo issueE q) ascen
     members : (a : List ℕ) → any (same a) (answersIn (spanOf q)) ≡ any (same a) (answersTo issueE q)
     members a =
         of-rows a
-        ∙ added-test (eqb (length a) 9) (permits q a) (below a 0 (answerLimits issueE))
+        ∙ added-test (eqb (length a) answerLength) (permits q a) (below a 0 (answerLimits issueE))
         (λ k. all-member (λ x. below x 0 (answerLimits issueE)) (answersIn (spanOf q)) a (all-in-range (take (spanOf q % 64) (drop (spanOf q / 64) numbers))) (of-rows a ∙ k))
         ∙ sym (answers-members q a)

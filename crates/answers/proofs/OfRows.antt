@@ -19,6 +19,7 @@ use Rattle.rows.specs.Permitted.{rulesOf, asked, answered, tagsAllow, tagOps, t
 use Rattle.rows.proofs.ByRows.{Permits, permitted-row, row-permitted}
 use Rattle.answers.specs.declared.Question.{Question}
 use Rattle.answers.specs.Answers.{eventWith, choices, permits}
+use Rattle.answers.specs.Listed.{answerLength}
 use Rattle.answers.proofs.Ascending.{same-self}
 use Rattle.answers.proofs.Choices.{any-append, chosen, choices-members}
 
@@ -50,13 +51,13 @@ answersOf q (r ∷ rs) = cond (rowAsked q r) (choices (rowChoices q r)) [] ++ an
 
 -- an answer is among those of a row
 ofRow : Question → List ℕ → Row → Bool
-ofRow q a r = rowAsked q r && (eqb (length a) 9 && chosen (rowChoices q r) a 0)
+ofRow q a r = rowAsked q r && (eqb (length a) answerLength && chosen (rowChoices q r) a 0)
 
 row-members : (q : Question) (a : List ℕ) (r : Row) → any (same a) (cond (rowAsked q r) (choices (rowChoices q r)) []) ≡ ofRow q a r
 unfolding ofRow rowChoices
 row-members q a r = go (rowAsked q r)
   where
-    go : (b : Bool) → any (same a) (cond b (choices (rowChoices q r)) []) ≡ b && (eqb (length a) 9 && chosen (rowChoices q r) a 0)
+    go : (b : Bool) → any (same a) (cond b (choices (rowChoices q r)) []) ≡ b && (eqb (length a) answerLength && chosen (rowChoices q r) a 0)
     go true = choices-members (rowChoices q r) a
     go false = refl
 
@@ -110,7 +111,7 @@ chosen-parts q a r =
     ∙ ap (λ (x : List ℕ). same (sixOf a) x && (o && (e && f))) (wire-six (r .answer))
 
 -- an answer of a row, of nine bytes, is one that the row permits
-row-permits : (q : Question) (a : List ℕ) (r : Row) → In r rows → ofRow q a r ≡ true → (eqb (length a) 9 ≡ true) × Permits (eventWith q a) (q .tag .0) (q .before .0) (byte a 8)
+row-permits : (q : Question) (a : List ℕ) (r : Row) → In r rows → ofRow q a r ≡ true → (eqb (length a) answerLength ≡ true) × Permits (eventWith q a) (q .tag .0) (q .before .0) (byte a 8)
 unfolding ofRow rowAsked asked answered tagged sixOf
 row-permits q a r inside h =
     let from = eqb (q .before .0) (r .before) in
@@ -120,7 +121,7 @@ row-permits q a r inside h =
     let op = byte a 4 ∈? tagOps (q .tag .0) (r .table) (r .before) (r .answer) in
     let error = byte a 5 ∈? rulesOf (r .table) .errors (r .answer) in
     let to = byte a 8 ∈? r .finals in
-    let nine = eqb (length a) 9 in
+    let nine = eqb (length a) answerLength in
     let front = and-left (rowAsked q r) (nine && chosen (rowChoices q r) a 0) h in
     let back = and-right (rowAsked q r) (nine && chosen (rowChoices q r) a 0) h in
     let both = and-left (from && isAsked) allow front in
@@ -139,7 +140,7 @@ row-permits q a r inside h =
       },
     )
 
-permits-row : (q : Question) (a : List ℕ) → eqb (length a) 9 ≡ true → (p : Permits (eventWith q a) (q .tag .0) (q .before .0) (byte a 8)) → ofRow q a (p .row) ≡ true
+permits-row : (q : Question) (a : List ℕ) → eqb (length a) answerLength ≡ true → (p : Permits (eventWith q a) (q .tag .0) (q .before .0) (byte a 8)) → ofRow q a (p .row) ≡ true
 unfolding ofRow rowAsked asked answered tagged sixOf
 permits-row q a nine p =
     let r = p .row in
@@ -155,17 +156,17 @@ permits-row q a nine p =
     (and-both (and-right allow op (p .is-tagged)) (and-both (and-right wired error (p .is-answered)) (p .to)))))
 
 -- an answer is among those of all rows exactly when it has nine bytes and is permitted
-pub rows-members : (q : Question) (a : List ℕ) → any (same a) (answersOf q rows) ≡ eqb (length a) 9 && permits q a
+pub rows-members : (q : Question) (a : List ℕ) → any (same a) (answersOf q rows) ≡ eqb (length a) answerLength && permits q a
 unfolding permits
-rows-members q a = answers-members q a rows ∙ same-truth (any (ofRow q a) rows) (eqb (length a) 9 && permits q a) there back
+rows-members q a = answers-members q a rows ∙ same-truth (any (ofRow q a) rows) (eqb (length a) answerLength && permits q a) there back
   where
-    there : any (ofRow q a) rows ≡ true → eqb (length a) 9 && permits q a ≡ true
+    there : any (ofRow q a) rows ≡ true → eqb (length a) answerLength && permits q a ≡ true
     there h =
         let f = any-found (ofRow q a) rows h in
         let k = row-permits q a (f .one) (f .inside) (f .passes) in
         and-both (k .0) (row-permitted (eventWith q a) (q .tag .0) (q .before .0) (byte a 8) (k .1))
 
-    back : eqb (length a) 9 && permits q a ≡ true → any (ofRow q a) rows ≡ true
+    back : eqb (length a) answerLength && permits q a ≡ true → any (ofRow q a) rows ≡ true
     back h =
-        let p = permitted-row (eventWith q a) (q .tag .0) (q .before .0) (byte a 8) (and-right (eqb (length a) 9) (permits q a) h) in
-        found-any (ofRow q a) (p .inside) (permits-row q a (and-left (eqb (length a) 9) (permits q a) h) p)
+        let p = permitted-row (eventWith q a) (q .tag .0) (q .before .0) (byte a 8) (and-right (eqb (length a) answerLength) (permits q a) h) in
+        found-any (ofRow q a) (p .inside) (permits-row q a (and-left (eqb (length a) answerLength) (permits q a) h) p)

@@ -68,13 +68,13 @@ module _ (q : Question) (room : List ℕ) (r : Refusal) (span : ℕ) (h : r .0 �
   counted : length (answersTo issueE q) ≡ span % 64
   counted = list-length q (sym h ∙ ok) ∙ ap (λ (n : ℕ). n % 64) (sym s)
 
-  pub short-room : length room < span % 64 * 9 → listLeft (result 9 0 0) room ≡ listed issueE q room
+  pub short-room : length room < span % 64 * answerLength → listLeft (result 9 0 0) room ≡ listed issueE q room
   short-room l = sym (left-short q room (sym h ∙ ok) (omega (arith, counted)))
 
   pub fitting : span / 64 + span % 64 ≤ length numbers
   fitting = subst (λ (n : ℕ). n / 64 + n % 64 ≤ length numbers) (sym s) (span-fits q (sym h ∙ ok))
 
-  pub accepted-question : (room′ : List ℕ) → span % 64 * 9 ≤ length room → room′ ≡ joined (answersAt (span / 64) (span % 64)) ++ drop (answerLength * (span % 64)) room
+  pub accepted-question : (room′ : List ℕ) → span % 64 * answerLength ≤ length room → room′ ≡ joined (answersAt (span / 64) (span % 64)) ++ drop (answerLength * (span % 64)) room
       → listLeft (record { refusal = r; place = 0; count = span % 64 }) room′ ≡ listed issueE q room
   unfolding answersIn
   accepted-question room′ l put =

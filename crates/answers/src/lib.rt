@@ -9,7 +9,7 @@ ghost use mathlib.Core.Path.{_≡_};
 ghost use mathlib.Core.List.{_++_};
 ghost use lib.ListN.{length, getD, take, drop};
 ghost use Rattle.event.specs.Refusals.{issueE};
-ghost use Rattle.answers.specs.Listed.{answerLength, joined, faultOf, listLeft, listed};
+ghost use Rattle.answers.specs.Listed.{answerLength, mostAnswers, joined, faultOf, listLeft, listed};
 ghost use Rattle.answers.specs.Table.{lists, spans, numbers};
 ghost use Rattle.answers.specs.Code.{tablesOf, contextOf, spanOf, nineOf, answersAt};
 
@@ -36,6 +36,13 @@ pub struct Listed {
     pub refusal: Refusal,
     pub place: usize,
     pub count: usize,
+}
+
+// The bytes of the longest list: with a room of so many, 9 is never given (definition 11.6).
+pub fn enough_room() -> usize
+    ensures { λ r. ⌜ r ≡ answerLength * mostAnswers ⌝ }
+{
+    MOST_ANSWERS * ANSWER_BYTES
 }
 
 // The refusal number for the bytes of a question: 4, then 5 (definition 11.5).

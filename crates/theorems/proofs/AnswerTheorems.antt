@@ -45,13 +45,13 @@ pub listed-exactly : (q : Question) (a : List ℕ)
     → isListed q a ≡ true ↔ (InRange a × (permitted (eventWith q a) (q .tag .0) (q .before .0) (byte a 8) ≡ true))
 unfolding permits
 listed-exactly q a =
-    let nine = eqb (length a) 9 in
+    let nine = eqb (length a) answerLength in
     let each = below a 0 (answerLimits issueE) in (
       λ h.
           let k = sym (answers-members q a) ∙ h in
           let in-range = and-right (permits q a) (nine && each) k in
-          (record { nine = eqb-true (length a) 9 (and-left nine each in-range); each = and-right nine each in-range }, and-left (permits q a) (nine && each) k),
-      λ p. answers-members q a ∙ and-both (p .1) (and-both (eq-eqb (length a) 9 (p .0 .nine)) (p .0 .each)),
+          (record { nine = eqb-true (length a) answerLength (and-left nine each in-range); each = and-right nine each in-range }, and-left (permits q a) (nine && each) k),
+      λ p. answers-members q a ∙ and-both (p .1) (and-both (eq-eqb (length a) answerLength (p .0 .nine)) (p .0 .each)),
     )
 
 -- THE ORDER (definition 11.3): the list ascends byte by byte, so each answer stands once.
