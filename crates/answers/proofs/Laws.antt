@@ -1,7 +1,7 @@
 -- Laws about the code of `list_answers`, over plain variables.
 -- Assumes nothing.
 use mathlib.Core.Path.{_≡_, refl, sym, _∙_, ap, ap₂, subst}
-use mathlib.Core.Bool.{Bool, true, false, cond, _&&_, _||_, and-true}
+use mathlib.Core.Bool.{Bool, true, false, cond, _&&_, _||_}
 use mathlib.Core.List.{List, [], _∷_, _++_, map, append-assoc, append-nil}
 use Prim.Native.Nat.{ℕ, zero, suc, _+_, _*_, _/_, _%_, _<_, _≤_}
 use native.Mathlib.Nat.{le-antisymm}
@@ -13,11 +13,12 @@ use lib.ListN.{length, getD, take, drop, set, length-append, length-drop, length
 use lib.Seq.{sets-eq, take-suc, take-at, drop-append-add, drop-drop, getD-drop, length-take-le}
 use Rattle.kinds.specs.Tests.{_∈?_}
 use Rattle.kinds.specs.Codes.{RSP, DAT}
-use Rattle.kinds.proofs.Laws.{one-of-2}
-use Rattle.event.specs.Refusals.{issueE, fault}
+use Rattle.kinds.proofs.Laws.{one-of-2, and-5}
+use Rattle.event.specs.Refusals.{issueE, below}
 use Rattle.answers.specs.declared.Question.{Question}
 use Rattle.answers.specs.declared.Listed.{Listed}
-use Rattle.answers.specs.Listed.{answerLength, asking, faultOf, joined}
+use Rattle.answers.specs.Answers.{questionBytes}
+use Rattle.answers.specs.Listed.{answerLength, asking, joined}
 use Rattle.answers.specs.Table.{beyond, lists, spans, numbers, answers, contextCount, listCount, numberCount, firstOnDat}
 use Rattle.answers.specs.Code.{tablesOf, contextOf, spanOf, nineOf, answerAt, answersAt}
 
@@ -32,24 +33,11 @@ pub tables-by : (request excl plain unique r : ℕ) → plain ≡ cond (eqb requ
 tables-by request excl plain unique r hp hu hr =
     hr ∙ ap₂ (cond (eqb request 22)) hu (hp ∙ ap (λ (b : Bool). cond b 1 0) (one-of-2 request 18 20))
 
--- five tests one after another
-five-tests : (a b c d e : Bool) → a && b && c && d && e ≡ a && (b && (c && (d && (e && true))))
-five-tests true true true true e = sym (and-true e)
-five-tests true true true false e = refl
-five-tests true true false d e = refl
-five-tests true false c d e = refl
-five-tests false b c d e = refl
-
--- the choices of `fault`, each from the one before
-pub fault-by : (q : Question) (known : Bool) (k r : ℕ) → known ≡ q .request .0 ∈? issueE .requests → k ≡ cond known 0 5
-    → r ≡ cond (ltb (q .«ret_to_src») 2 && ltb (q .«do_not_go_to_sd») 2 && ltb (q .excl) 2 && ltb (q .tag .0) 3 && ltb (q .before .0) 7) k 4
-    → r ≡ faultOf issueE q
-unfolding fault
-fault-by q known k r hn hk hr =
-    hr
-    ∙ ap₂ (λ (b : Bool) (n : ℕ). cond b n 4)
-    (five-tests (ltb (q .«ret_to_src») 2) (ltb (q .«do_not_go_to_sd») 2) (ltb (q .excl) 2) (ltb (q .tag .0) 3) (ltb (q .before .0) 7))
-    (hk ∙ ap (λ (b : Bool). cond b 0 5) hn)
+-- the range test of `fault` is that of all five bytes
+pub range-by : (q : Question) (fine : Bool)
+    → fine ≡ ltb (q .«ret_to_src») 2 && ltb (q .«do_not_go_to_sd») 2 && ltb (q .excl) 2 && ltb (q .tag .0) 3 && ltb (q .before .0) 7
+    → fine ≡ below (questionBytes q) 1 (asking issueE .limits)
+range-by q fine h = h ∙ and-5 (ltb (q .«ret_to_src») 2) (ltb (q .«do_not_go_to_sd») 2) (ltb (q .excl) 2) (ltb (q .tag .0) 3) (ltb (q .before .0) 7)
 
 -- the span of a question, from one lookup after another
 pub span-by : (q : Question) (context list span : ℕ) → context ≡ contextOf q → list ≡ getD lists context 0 → span ≡ getD spans list 0 → span ≡ spanOf q

@@ -1,7 +1,7 @@
 -- Lists of bytes sorted, each once: sorting changes no member.
 -- Assumes nothing.
 use mathlib.Core.Path.{_≡_, refl, sym, _∙_, ap, ap₂, subst}
-use mathlib.Core.Bool.{Bool, true, false, cond, _&&_, _||_, false≢true, or-assoc, or-comm, or-self}
+use mathlib.Core.Bool.{Bool, true, false, cond, _&&_, _||_, false≢true, or-self-left}
 use mathlib.Core.List.{List, [], _∷_}
 use Prim.Native.Nat.{ℕ}
 use borrow.Author.Tests.{eqb-true}
@@ -74,10 +74,6 @@ or-exchanged true true c = refl
 or-exchanged true false c = refl
 or-exchanged false b c = refl
 
-or-twice : (a b : Bool) → a || (a || b) ≡ a || b
-or-twice true b = refl
-or-twice false b = refl
-
 insert-members : (a l : List ℕ) (ms : List (List ℕ)) → any (same a) (insert l ms) ≡ same a l || any (same a) ms
 unfolding insert isEqual
 insert-members a l [] = refl
@@ -87,7 +83,7 @@ insert-members a l (m ∷ ms) = go (order l m) refl (insert-members a l ms)
         → any (same a) (byOrder o (l ∷ m ∷ ms) (m ∷ ms) (m ∷ insert l ms)) ≡ same a l || (same a m || any (same a) ms)
     go first e rest = refl
     go equal e rest =
-        sym (or-twice (same a m) (any (same a) ms))
+        sym (or-self-left (same a m) (any (same a) ms))
         ∙ ap (λ (x : List ℕ). same a x || (same a m || any (same a) ms)) (sym (order-equal l m (ap isEqual e)))
     go later e rest = ap (λ (b : Bool). same a m || b) rest ∙ or-exchanged (same a m) (same a l) (any (same a) ms)
 

@@ -37,11 +37,11 @@ pub limits-whole : suc (length (issueE .limits)) ≡ eventLength
 limits-whole = refl
 
 -- the choices of `fault`, each from the one before
-pub fault-by : (e : List ℕ) (b : ℕ) (fine known : Bool) (q r : ℕ) → fine ≡ below e 1 (issueE .limits) → b ≡ requestOf e → known ≡ b ∈? issueE .requests
-    → q ≡ cond known 0 5 → r ≡ cond fine q 4 → r ≡ fault issueE e
+pub fault-by : (issue : Issue) (e : List ℕ) (b : ℕ) (fine known : Bool) (q r : ℕ) → fine ≡ below e 1 (issue .limits) → b ≡ requestOf e → known ≡ b ∈? issue .requests
+    → q ≡ cond known 0 5 → r ≡ cond fine q 4 → r ≡ fault issue e
 unfolding fault
-fault-by e b fine known q r hf hb hk hq hr =
-    hr ∙ ap₂ (λ (x : Bool) (n : ℕ). cond x n 4) hf (hq ∙ ap (λ (x : Bool). cond x 0 5) (hk ∙ ap (λ (n : ℕ). n ∈? issueE .requests) hb))
+fault-by issue e b fine known q r hf hb hk hq hr =
+    hr ∙ ap₂ (λ (x : Bool) (n : ℕ). cond x n 4) hf (hq ∙ ap (λ (x : Bool). cond x 0 5) (hk ∙ ap (λ (n : ℕ). n ∈? issue .requests) hb))
 
 -- a list of seven numbers, one per state
 pub seven : (f : ℕ → ℕ) (x₀ x₁ x₂ x₃ x₄ x₅ x₆ : ℕ)

@@ -74,7 +74,7 @@ and-4 : (a b c d : Bool) → a && b && c && d ≡ a && (b && (c && (d && true)))
 and-4 true b c d = and-3 b c d
 and-4 false b c d = refl
 
-and-5 : (a b c d e : Bool) → a && b && c && d && e ≡ a && (b && (c && (d && (e && true))))
+pub and-5 : (a b c d e : Bool) → a && b && c && d && e ≡ a && (b && (c && (d && (e && true))))
 and-5 true b c d e = and-4 b c d e
 and-5 false b c d e = refl
 

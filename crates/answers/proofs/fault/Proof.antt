@@ -1,6 +1,11 @@
 -- `answers::fault` meets its contract: the choices of the code are those of `faultOf`.
 -- Assumes nothing.
-use Rattle.answers.proofs.Laws.{fault-by}
+use mathlib.Core.Path.{refl}
+use Rattle.event.specs.Refusals.{issueE}
+use Rattle.event.proofs.Laws.{fault-by}
+use Rattle.answers.specs.Answers.{questionBytes}
+use Rattle.answers.specs.Listed.{asking}
+use Rattle.answers.proofs.Laws.{range-by}
 use borrow.Author.Needs.{needs}
 use Rattle.answers.proofs.fault.Statement.{statement}
 use Rattle.answers.proofs.fault.Tie as tie
@@ -18,7 +23,9 @@ returns : tie.Need-returns
 returns c =
     let choose-byte = c .before .choose-byte in
     let known = c .before .before .before .before .before .before .before .known in
-    fault-by (c .before .before .before .before .before .before .before .before .before .args .q) (known .result) (choose-byte .result) (c .choose-byte2 .result) (known .ensures) (choose-byte .ensures) (c .choose-byte2 .ensures)
+    let q = c .before .before .before .before .before .before .before .before .before .args .q in
+    fault-by (asking issueE) (questionBytes q) (q .request .0) _ (known .result) (choose-byte .result) (c .choose-byte2 .result)
+    (range-by q _ refl) refl (known .ensures) (choose-byte .ensures) (c .choose-byte2 .ensures)
 
 pub fault-spec : {M : Type 1} → statement M
 fault-spec =

@@ -2,6 +2,7 @@
 -- Assumes nothing.
 use mathlib.Core.Path.{ap}
 use Prim.Native.Nat.{ℕ, _-_}
+use Rattle.event.specs.Refusals.{issueE}
 use Rattle.event.proofs.Laws.{limits-whole, fault-by}
 use denote.Ref.{now}
 use borrow.Author.Needs.{needs}
@@ -33,7 +34,7 @@ returns c =
     let byte-at = c .before .before .before .byte-at in
     let in-range = c .before .before .before .before .in-range in
     let args = c .before .before .before .before .before .before .before .args in
-    fault-by (now (args .event)) (byte-at .result) (in-range .result) (known .result) (choose-byte .result) (c .choose-byte2 .result)
+    fault-by issueE (now (args .event)) (byte-at .result) (in-range .result) (known .result) (choose-byte .result) (c .choose-byte2 .result)
     (in-range .ensures) (byte-at .ensures) (known .ensures) (choose-byte .ensures) (c .choose-byte2 .ensures)
 
 pub fault-spec : {M : Type 1} → statement M
