@@ -257,7 +257,7 @@ static inline int takes_resp_err(const struct row *row, unsigned resp_err)
     return resp_err == OK || (resp_err == DERR && has_data(row->response));
 }
 
-/* Whether a row takes a tag operation under a tag state that is one of the three. */
+/* Whether a row takes a tag operation under a tag state that is one of the three; for B4.46 that is the house rule. */
 static inline int takes_tag_op(const struct row *row, unsigned tag, unsigned tag_op)
 {
     if (tag == TAG_DIRTY) {
@@ -268,8 +268,6 @@ static inline int takes_tag_op(const struct row *row, unsigned tag, unsigned tag
     }
     if (!has_data(row->response))
         return tag_op == OP_INVALID;
-    if (row->table == B4_46)
-        return tag_op != OP_MATCH;
     if (tag == TAG_DIRTY)
         return tag_op == (row->states_after == ONLY(SD) ? OP_TRANSFER : OP_UPDATE);
     return tag_op == OP_INVALID || (tag_op == OP_TRANSFER && row->before != UDP);

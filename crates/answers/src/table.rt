@@ -7,7 +7,7 @@ ghost use Rattle.answers.specs.Table.{answers, beyond};
 pub const CONTEXTS: usize = 224;
 
 // How many lists there are.
-pub const LIST_COUNT: usize = 34;
+pub const LIST_COUNT: usize = 35;
 
 // What the start of a list is multiplied by in its span.
 pub const SPAN: usize = 64;
@@ -17,78 +17,79 @@ pub const FIRST_ON_DAT: u8 = 13;
 
 // The list of each context, by tables, RetToSrc and DoNotGoToSD; a line has the seven states before, without and with Dirty tags.
 pub const LISTS: [u8; CONTEXTS] = *b"\
-\x00\x01\x00\x02\x03\x04\x02\x05\x05\x05\x02\x05\x05\x02\
-\x00\x01\x00\x06\x03\x04\x06\x05\x05\x05\x06\x05\x05\x06\
-\x00\x01\x00\x02\x03\x07\x02\x05\x05\x05\x02\x05\x05\x02\
-\x00\x01\x00\x06\x03\x07\x06\x05\x05\x05\x06\x05\x05\x06\
-\x00\x08\x00\x09\x0a\x08\x09\x05\x05\x05\x0b\x05\x05\x0b\
-\x00\x08\x00\x0c\x0a\x08\x0c\x05\x05\x05\x0d\x05\x05\x0d\
-\x00\x0e\x00\x0f\x0a\x0e\x0f\x05\x05\x05\x10\x05\x05\x10\
-\x00\x0e\x00\x11\x0a\x0e\x11\x05\x05\x05\x0d\x05\x05\x0d\
-\x00\x12\x00\x13\x0a\x12\x13\x05\x05\x05\x14\x05\x05\x14\
-\x00\x12\x00\x15\x0a\x12\x15\x05\x05\x05\x16\x05\x05\x16\
-\x00\x17\x00\x18\x0a\x17\x18\x05\x05\x05\x19\x05\x05\x19\
-\x00\x17\x00\x15\x0a\x17\x15\x05\x05\x05\x16\x05\x05\x16\
-\x00\x1a\x00\x1b\x0a\x1a\x1b\x05\x05\x05\x1c\x05\x05\x1c\
-\x00\x1a\x00\x1d\x0a\x1a\x1d\x05\x05\x05\x1e\x05\x05\x1e\
-\x00\x1f\x00\x20\x0a\x1f\x20\x05\x05\x05\x21\x05\x05\x21\
-\x00\x1f\x00\x1d\x0a\x1f\x1d\x05\x05\x05\x1e\x05\x05\x1e";
+\x00\x01\x00\x02\x03\x04\x02\x05\x05\x05\x06\x05\x05\x06\
+\x00\x01\x00\x07\x03\x04\x07\x05\x05\x05\x08\x05\x05\x08\
+\x00\x01\x00\x02\x03\x09\x02\x05\x05\x05\x06\x05\x05\x06\
+\x00\x01\x00\x07\x03\x09\x07\x05\x05\x05\x08\x05\x05\x08\
+\x00\x0a\x00\x0b\x03\x0a\x0b\x05\x05\x05\x0c\x05\x05\x0c\
+\x00\x0a\x00\x0d\x03\x0a\x0d\x05\x05\x05\x0e\x05\x05\x0e\
+\x00\x0f\x00\x10\x03\x0f\x10\x05\x05\x05\x11\x05\x05\x11\
+\x00\x0f\x00\x12\x03\x0f\x12\x05\x05\x05\x0e\x05\x05\x0e\
+\x00\x13\x00\x14\x03\x13\x14\x05\x05\x05\x15\x05\x05\x15\
+\x00\x13\x00\x16\x03\x13\x16\x05\x05\x05\x17\x05\x05\x17\
+\x00\x18\x00\x19\x03\x18\x19\x05\x05\x05\x1a\x05\x05\x1a\
+\x00\x18\x00\x16\x03\x18\x16\x05\x05\x05\x17\x05\x05\x17\
+\x00\x1b\x00\x1c\x03\x1b\x1c\x05\x05\x05\x1d\x05\x05\x1d\
+\x00\x1b\x00\x1e\x03\x1b\x1e\x05\x05\x05\x1f\x05\x05\x1f\
+\x00\x20\x00\x21\x03\x20\x21\x05\x05\x05\x22\x05\x05\x22\
+\x00\x20\x00\x1e\x03\x20\x1e\x05\x05\x05\x1f\x05\x05\x1f";
 
 // The span of each list: where it starts among the numbers, times 64, plus how many answers it has.
 pub const SPANS: [u16; LIST_COUNT] = [
     2,
-    150,
-    1561,
-    3143,
-    3588,
-    3840,
-    3859,
-    5075,
-    6276,
-    6545,
-    7619,
-    7816,
-    8336,
-    9351,
-    9805,
-    10653,
-    12489,
-    13081,
-    14658,
-    14790,
-    15172,
-    15429,
-    15747,
-    15941,
-    16265,
-    16837,
-    17155,
-    17355,
-    18054,
-    18442,
-    19077,
-    19398,
-    19790,
-    20679,
+    144,
+    1169,
+    2243,
+    2436,
+    2688,
+    2697,
+    3277,
+    4103,
+    4557,
+    5380,
+    5649,
+    6728,
+    7248,
+    8263,
+    8717,
+    9565,
+    11401,
+    11993,
+    13570,
+    13702,
+    14084,
+    14341,
+    14659,
+    14853,
+    15177,
+    15749,
+    16067,
+    16267,
+    16966,
+    17354,
+    17989,
+    18310,
+    18702,
+    19591,
 ];
 
 // The numbers of the answers of each list, one list after another.
-pub const NUMBERS: [u8; 330] = *b"\
-\x00\x01\x00\x01\x02\x03\x0d\x0e\x0f\x10\x11\x12\x13\x14\x15\x16\x17\x18\x19\x1a\x1b\x1c\x1d\x1e\x01\x1f\x20\x21\x22\x23\
-\x24\x25\x26\x27\x28\x29\x2a\x2b\x2c\x2d\x2e\x2f\x30\x31\x32\x33\x34\x35\x36\x01\x37\x38\x39\x3a\x3b\x3c\x00\x01\x02\x03\
-\x01\x25\x26\x27\x28\x29\x2a\x2b\x2c\x2d\x2e\x2f\x30\x31\x32\x33\x34\x35\x36\x01\x0d\x0e\x0f\x10\x11\x12\x13\x14\x15\x16\
-\x17\x18\x19\x1a\x1b\x1c\x1d\x1e\x01\x04\x08\x09\x01\x07\x0a\x0b\x0c\x59\x5a\x5b\x5c\x5f\x60\x61\x62\x63\x64\x65\x66\x01\
-\x37\x38\x01\x0c\x5d\x5e\x67\x68\x69\x6a\x01\x07\x0a\x0b\x59\x5a\x5b\x5c\x5f\x60\x61\x62\x63\x64\x65\x66\x01\x5d\x5e\x67\
-\x68\x69\x6a\x01\x3d\x3e\x3f\x40\x45\x46\x47\x48\x49\x4a\x4b\x4c\x01\x41\x42\x43\x44\x4d\x4e\x4f\x50\x51\x52\x53\x54\x55\
-\x56\x57\x58\x59\x5a\x5b\x5c\x5f\x60\x61\x62\x63\x64\x65\x66\x01\x57\x58\x5d\x5e\x67\x68\x69\x6a\x01\x41\x42\x43\x44\x4d\
-\x4e\x4f\x50\x51\x52\x53\x54\x59\x5a\x5b\x5c\x5f\x60\x61\x62\x63\x64\x65\x66\x01\x09\x01\x0c\x60\x62\x64\x66\x01\x0c\x68\
-\x6a\x01\x60\x62\x64\x66\x01\x68\x6a\x01\x46\x48\x4a\x4c\x01\x55\x56\x57\x58\x60\x62\x64\x66\x01\x57\x58\x68\x6a\x01\x05\
-\x09\x01\x06\x0c\x25\x26\x27\x28\x60\x62\x64\x66\x01\x0c\x29\x2a\x68\x6a\x01\x06\x25\x26\x27\x28\x60\x62\x64\x66\x01\x29\
-\x2a\x68\x6a\x01\x05\x46\x48\x4a\x4c\x01\x06\x25\x26\x27\x28\x55\x56\x57\x58\x60\x62\x64\x66\x01\x29\x2a\x57\x58\x68\x6a";
+pub const NUMBERS: [u8; 313] = *b"\
+\x00\x01\x00\x01\x02\x03\x0d\x0e\x0f\x10\x11\x12\x13\x14\x15\x16\x17\x18\x01\x19\x1a\x1b\x1c\x1d\x1e\x1f\x20\x23\x24\x25\
+\x26\x27\x28\x29\x2a\x01\x2f\x30\x00\x01\x02\x03\x01\x1b\x1c\x21\x22\x2b\x2c\x2d\x2e\x01\x1d\x1e\x1f\x20\x23\x24\x25\x26\
+\x27\x28\x29\x2a\x01\x21\x22\x2b\x2c\x2d\x2e\x01\x0d\x0e\x0f\x10\x11\x12\x13\x14\x15\x16\x17\x18\x01\x04\x08\x09\x01\x07\
+\x0a\x0b\x0c\x4d\x4e\x4f\x50\x53\x54\x55\x56\x57\x58\x59\x5a\x01\x0c\x51\x52\x5b\x5c\x5d\x5e\x01\x07\x0a\x0b\x4d\x4e\x4f\
+\x50\x53\x54\x55\x56\x57\x58\x59\x5a\x01\x51\x52\x5b\x5c\x5d\x5e\x01\x31\x32\x33\x34\x39\x3a\x3b\x3c\x3d\x3e\x3f\x40\x01\
+\x35\x36\x37\x38\x41\x42\x43\x44\x45\x46\x47\x48\x49\x4a\x4b\x4c\x4d\x4e\x4f\x50\x53\x54\x55\x56\x57\x58\x59\x5a\x01\x4b\
+\x4c\x51\x52\x5b\x5c\x5d\x5e\x01\x35\x36\x37\x38\x41\x42\x43\x44\x45\x46\x47\x48\x4d\x4e\x4f\x50\x53\x54\x55\x56\x57\x58\
+\x59\x5a\x01\x09\x01\x0c\x54\x56\x58\x5a\x01\x0c\x5c\x5e\x01\x54\x56\x58\x5a\x01\x5c\x5e\x01\x3a\x3c\x3e\x40\x01\x49\x4a\
+\x4b\x4c\x54\x56\x58\x5a\x01\x4b\x4c\x5c\x5e\x01\x05\x09\x01\x06\x0c\x1d\x1e\x1f\x20\x54\x56\x58\x5a\x01\x0c\x21\x22\x5c\
+\x5e\x01\x06\x1d\x1e\x1f\x20\x54\x56\x58\x5a\x01\x21\x22\x5c\x5e\x01\x05\x3a\x3c\x3e\x40\x01\x06\x1d\x1e\x1f\x20\x49\x4a\
+\x4b\x4c\x54\x56\x58\x5a\x01\x21\x22\x4b\x4c\x5c\x5e";
 
 // The answer past the last number: 0.
 fn past(number: u8) -> u64
-    requires { ⌜ beyond number 107 ⌝ }
+    requires { ⌜ beyond number 95 ⌝ }
     ensures { λ r. ⌜ r ≡ getD answers number 0 ⌝ }
 {
     0
@@ -133,186 +134,162 @@ pub fn answer(number: u8) -> u64
         15 => 0x0000000001000001,
         // SnpRespData_I, Transfer, DERR, I
         16 => 0x0000000201000001,
-        // SnpRespData_I, Update, OK, I
-        17 => 0x0000000002000001,
-        // SnpRespData_I, Update, DERR, I
-        18 => 0x0000000202000001,
         // SnpRespData_SC, Invalid, OK, I
-        19 => 0x0000000000000101,
+        17 => 0x0000000000000101,
         // SnpRespData_SC, Invalid, OK, SC
-        20 => 0x0500000000000101,
+        18 => 0x0500000000000101,
         // SnpRespData_SC, Invalid, DERR, I
-        21 => 0x0000000200000101,
+        19 => 0x0000000200000101,
         // SnpRespData_SC, Invalid, DERR, SC
-        22 => 0x0500000200000101,
+        20 => 0x0500000200000101,
         // SnpRespData_SC, Transfer, OK, I
-        23 => 0x0000000001000101,
+        21 => 0x0000000001000101,
         // SnpRespData_SC, Transfer, OK, SC
-        24 => 0x0500000001000101,
+        22 => 0x0500000001000101,
         // SnpRespData_SC, Transfer, DERR, I
-        25 => 0x0000000201000101,
+        23 => 0x0000000201000101,
         // SnpRespData_SC, Transfer, DERR, SC
-        26 => 0x0500000201000101,
-        // SnpRespData_SC, Update, OK, I
-        27 => 0x0000000002000101,
-        // SnpRespData_SC, Update, OK, SC
-        28 => 0x0500000002000101,
-        // SnpRespData_SC, Update, DERR, I
-        29 => 0x0000000202000101,
-        // SnpRespData_SC, Update, DERR, SC
-        30 => 0x0500000202000101,
+        24 => 0x0500000201000101,
         // SnpRespData_SD, Invalid, OK, SD
-        31 => 0x0600000000000301,
+        25 => 0x0600000000000301,
         // SnpRespData_SD, Invalid, DERR, SD
-        32 => 0x0600000200000301,
+        26 => 0x0600000200000301,
         // SnpRespData_SD, Transfer, OK, SD
-        33 => 0x0600000001000301,
+        27 => 0x0600000001000301,
         // SnpRespData_SD, Transfer, DERR, SD
-        34 => 0x0600000201000301,
-        // SnpRespData_SD, Update, OK, SD
-        35 => 0x0600000002000301,
-        // SnpRespData_SD, Update, DERR, SD
-        36 => 0x0600000202000301,
+        28 => 0x0600000201000301,
         // SnpRespData_I_PD, Invalid, OK, I
-        37 => 0x0000000000000401,
+        29 => 0x0000000000000401,
         // SnpRespData_I_PD, Invalid, DERR, I
-        38 => 0x0000000200000401,
+        30 => 0x0000000200000401,
         // SnpRespData_I_PD, Transfer, OK, I
-        39 => 0x0000000001000401,
+        31 => 0x0000000001000401,
         // SnpRespData_I_PD, Transfer, DERR, I
-        40 => 0x0000000201000401,
+        32 => 0x0000000201000401,
         // SnpRespData_I_PD, Update, OK, I
-        41 => 0x0000000002000401,
+        33 => 0x0000000002000401,
         // SnpRespData_I_PD, Update, DERR, I
-        42 => 0x0000000202000401,
+        34 => 0x0000000202000401,
         // SnpRespData_SC_PD, Invalid, OK, I
-        43 => 0x0000000000000501,
+        35 => 0x0000000000000501,
         // SnpRespData_SC_PD, Invalid, OK, SC
-        44 => 0x0500000000000501,
+        36 => 0x0500000000000501,
         // SnpRespData_SC_PD, Invalid, DERR, I
-        45 => 0x0000000200000501,
+        37 => 0x0000000200000501,
         // SnpRespData_SC_PD, Invalid, DERR, SC
-        46 => 0x0500000200000501,
+        38 => 0x0500000200000501,
         // SnpRespData_SC_PD, Transfer, OK, I
-        47 => 0x0000000001000501,
+        39 => 0x0000000001000501,
         // SnpRespData_SC_PD, Transfer, OK, SC
-        48 => 0x0500000001000501,
+        40 => 0x0500000001000501,
         // SnpRespData_SC_PD, Transfer, DERR, I
-        49 => 0x0000000201000501,
+        41 => 0x0000000201000501,
         // SnpRespData_SC_PD, Transfer, DERR, SC
-        50 => 0x0500000201000501,
+        42 => 0x0500000201000501,
         // SnpRespData_SC_PD, Update, OK, I
-        51 => 0x0000000002000501,
+        43 => 0x0000000002000501,
         // SnpRespData_SC_PD, Update, OK, SC
-        52 => 0x0500000002000501,
+        44 => 0x0500000002000501,
         // SnpRespData_SC_PD, Update, DERR, I
-        53 => 0x0000000202000501,
+        45 => 0x0000000202000501,
         // SnpRespData_SC_PD, Update, DERR, SC
-        54 => 0x0500000202000501,
+        46 => 0x0500000202000501,
         // SnpRespDataPtl_I_PD, Invalid, OK, I
-        55 => 0x0000000000000405,
+        47 => 0x0000000000000405,
         // SnpRespDataPtl_I_PD, Invalid, DERR, I
-        56 => 0x0000000200000405,
-        // SnpRespDataPtl_I_PD, Transfer, OK, I
-        57 => 0x0000000001000405,
-        // SnpRespDataPtl_I_PD, Transfer, DERR, I
-        58 => 0x0000000201000405,
-        // SnpRespDataPtl_I_PD, Update, OK, I
-        59 => 0x0000000002000405,
-        // SnpRespDataPtl_I_PD, Update, DERR, I
-        60 => 0x0000000202000405,
+        48 => 0x0000000200000405,
         // SnpRespData_I_Fwded_SC, Invalid, OK, I
-        61 => 0x0001010000010006,
+        49 => 0x0001010000010006,
         // SnpRespData_I_Fwded_SC, Invalid, DERR, I
-        62 => 0x0001010200010006,
+        50 => 0x0001010200010006,
         // SnpRespData_I_Fwded_SC, Transfer, OK, I
-        63 => 0x0001010001010006,
+        51 => 0x0001010001010006,
         // SnpRespData_I_Fwded_SC, Transfer, DERR, I
-        64 => 0x0001010201010006,
+        52 => 0x0001010201010006,
         // SnpRespData_I_Fwded_SD_PD, Invalid, OK, I
-        65 => 0x0007010000070006,
+        53 => 0x0007010000070006,
         // SnpRespData_I_Fwded_SD_PD, Invalid, DERR, I
-        66 => 0x0007010200070006,
+        54 => 0x0007010200070006,
         // SnpRespData_I_Fwded_SD_PD, Transfer, OK, I
-        67 => 0x0007010001070006,
+        55 => 0x0007010001070006,
         // SnpRespData_I_Fwded_SD_PD, Transfer, DERR, I
-        68 => 0x0007010201070006,
+        56 => 0x0007010201070006,
         // SnpRespData_SC_Fwded_SC, Invalid, OK, I
-        69 => 0x0001010000010106,
+        57 => 0x0001010000010106,
         // SnpRespData_SC_Fwded_SC, Invalid, OK, SC
-        70 => 0x0501010000010106,
+        58 => 0x0501010000010106,
         // SnpRespData_SC_Fwded_SC, Invalid, DERR, I
-        71 => 0x0001010200010106,
+        59 => 0x0001010200010106,
         // SnpRespData_SC_Fwded_SC, Invalid, DERR, SC
-        72 => 0x0501010200010106,
+        60 => 0x0501010200010106,
         // SnpRespData_SC_Fwded_SC, Transfer, OK, I
-        73 => 0x0001010001010106,
+        61 => 0x0001010001010106,
         // SnpRespData_SC_Fwded_SC, Transfer, OK, SC
-        74 => 0x0501010001010106,
+        62 => 0x0501010001010106,
         // SnpRespData_SC_Fwded_SC, Transfer, DERR, I
-        75 => 0x0001010201010106,
+        63 => 0x0001010201010106,
         // SnpRespData_SC_Fwded_SC, Transfer, DERR, SC
-        76 => 0x0501010201010106,
+        64 => 0x0501010201010106,
         // SnpRespData_SC_Fwded_SD_PD, Invalid, OK, I
-        77 => 0x0007010000070106,
+        65 => 0x0007010000070106,
         // SnpRespData_SC_Fwded_SD_PD, Invalid, OK, SC
-        78 => 0x0507010000070106,
+        66 => 0x0507010000070106,
         // SnpRespData_SC_Fwded_SD_PD, Invalid, DERR, I
-        79 => 0x0007010200070106,
+        67 => 0x0007010200070106,
         // SnpRespData_SC_Fwded_SD_PD, Invalid, DERR, SC
-        80 => 0x0507010200070106,
+        68 => 0x0507010200070106,
         // SnpRespData_SC_Fwded_SD_PD, Transfer, OK, I
-        81 => 0x0007010001070106,
+        69 => 0x0007010001070106,
         // SnpRespData_SC_Fwded_SD_PD, Transfer, OK, SC
-        82 => 0x0507010001070106,
+        70 => 0x0507010001070106,
         // SnpRespData_SC_Fwded_SD_PD, Transfer, DERR, I
-        83 => 0x0007010201070106,
+        71 => 0x0007010201070106,
         // SnpRespData_SC_Fwded_SD_PD, Transfer, DERR, SC
-        84 => 0x0507010201070106,
+        72 => 0x0507010201070106,
         // SnpRespData_SD_Fwded_SC, Invalid, OK, SD
-        85 => 0x0601010000010306,
+        73 => 0x0601010000010306,
         // SnpRespData_SD_Fwded_SC, Invalid, DERR, SD
-        86 => 0x0601010200010306,
+        74 => 0x0601010200010306,
         // SnpRespData_SD_Fwded_SC, Transfer, OK, SD
-        87 => 0x0601010001010306,
+        75 => 0x0601010001010306,
         // SnpRespData_SD_Fwded_SC, Transfer, DERR, SD
-        88 => 0x0601010201010306,
+        76 => 0x0601010201010306,
         // SnpRespData_I_PD_Fwded_SC, Invalid, OK, I
-        89 => 0x0001010000010406,
+        77 => 0x0001010000010406,
         // SnpRespData_I_PD_Fwded_SC, Invalid, DERR, I
-        90 => 0x0001010200010406,
+        78 => 0x0001010200010406,
         // SnpRespData_I_PD_Fwded_SC, Transfer, OK, I
-        91 => 0x0001010001010406,
+        79 => 0x0001010001010406,
         // SnpRespData_I_PD_Fwded_SC, Transfer, DERR, I
-        92 => 0x0001010201010406,
+        80 => 0x0001010201010406,
         // SnpRespData_I_PD_Fwded_SC, Update, OK, I
-        93 => 0x0001010002010406,
+        81 => 0x0001010002010406,
         // SnpRespData_I_PD_Fwded_SC, Update, DERR, I
-        94 => 0x0001010202010406,
+        82 => 0x0001010202010406,
         // SnpRespData_SC_PD_Fwded_SC, Invalid, OK, I
-        95 => 0x0001010000010506,
+        83 => 0x0001010000010506,
         // SnpRespData_SC_PD_Fwded_SC, Invalid, OK, SC
-        96 => 0x0501010000010506,
+        84 => 0x0501010000010506,
         // SnpRespData_SC_PD_Fwded_SC, Invalid, DERR, I
-        97 => 0x0001010200010506,
+        85 => 0x0001010200010506,
         // SnpRespData_SC_PD_Fwded_SC, Invalid, DERR, SC
-        98 => 0x0501010200010506,
+        86 => 0x0501010200010506,
         // SnpRespData_SC_PD_Fwded_SC, Transfer, OK, I
-        99 => 0x0001010001010506,
+        87 => 0x0001010001010506,
         // SnpRespData_SC_PD_Fwded_SC, Transfer, OK, SC
-        100 => 0x0501010001010506,
+        88 => 0x0501010001010506,
         // SnpRespData_SC_PD_Fwded_SC, Transfer, DERR, I
-        101 => 0x0001010201010506,
+        89 => 0x0001010201010506,
         // SnpRespData_SC_PD_Fwded_SC, Transfer, DERR, SC
-        102 => 0x0501010201010506,
+        90 => 0x0501010201010506,
         // SnpRespData_SC_PD_Fwded_SC, Update, OK, I
-        103 => 0x0001010002010506,
+        91 => 0x0001010002010506,
         // SnpRespData_SC_PD_Fwded_SC, Update, OK, SC
-        104 => 0x0501010002010506,
+        92 => 0x0501010002010506,
         // SnpRespData_SC_PD_Fwded_SC, Update, DERR, I
-        105 => 0x0001010202010506,
+        93 => 0x0001010202010506,
         // SnpRespData_SC_PD_Fwded_SC, Update, DERR, SC
-        106 => 0x0501010202010506,
+        94 => 0x0501010202010506,
         _ => past(number),
     }
 }

@@ -28,21 +28,18 @@ pub record Rules : Type 0 where
 abbrev pub okOrDerr : Answer → List ℕ
 okOrDerr a = cond (hasData a) (OK ∷ DERR ∷ []) (OK ∷ [])
 
--- Invalid, Transfer or Update, with any tags (definition 5.9, first line)
-abbrev pub upToUpdate : ℕ → ℕ → Answer → List ℕ
-upToUpdate t s a = opInvalid ∷ opTransfer ∷ opUpdate ∷ []
-
 -- with Dirty tags: Update if Resp carries PD, else Transfer; with other tags: Invalid or Transfer, and only Invalid from UDP
--- (definition 5.9, second and third line)
+-- (definition 5.9)
 abbrev pub byTags : ℕ → ℕ → Answer → List ℕ
 byTags t s a =
     cond (eqb t tagDirty)
     (cond (respPD (answerResp a)) (opUpdate ∷ []) (opTransfer ∷ []))
     (cond (eqb s UDP) (opInvalid ∷ []) (opInvalid ∷ opTransfer ∷ []))
 
--- SnpPreferUniqueFwd uses B4.59 with either excl, and B4.60 too with excl 0 (definition 5.6); the row of NDERR has no data (5.11)
+-- SnpPreferUniqueFwd uses B4.59 with either excl, and B4.60 too with excl 0 (definition 5.6); the row of NDERR has no data (5.11).
+-- The `onData` of B4.46 is a house rule, until its printed tag column is at hand (5.9).
 abbrev pub rulesOf : Table → Rules
-rulesOf B46 = record { asks = SnpShared ∷ SnpClean ∷ SnpNotSharedDirty ∷ SnpPreferUnique ∷ []; excl = X; errors = okOrDerr; onData = upToUpdate }
+rulesOf B46 = record { asks = SnpShared ∷ SnpClean ∷ SnpNotSharedDirty ∷ SnpPreferUnique ∷ []; excl = X; errors = okOrDerr; onData = byTags }
 rulesOf B57 = record { asks = SnpCleanFwd ∷ SnpNotSharedDirtyFwd ∷ []; excl = X; errors = okOrDerr; onData = byTags }
 rulesOf B59 = record { asks = SnpPreferUniqueFwd ∷ []; excl = X; errors = okOrDerr; onData = byTags }
 rulesOf B60 = record { asks = SnpPreferUniqueFwd ∷ []; excl = 0; errors = okOrDerr; onData = byTags }

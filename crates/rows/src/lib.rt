@@ -11,7 +11,7 @@ ghost use mathlib.Core.Path.{_≡_};
 ghost use mathlib.Core.Bool.{cond};
 ghost use mathlib.Core.List.{[], _∷_};
 ghost use Rattle.kinds.specs.Tests.{_∈?_, same};
-ghost use Rattle.kinds.specs.Codes.{tagNotSeen, opInvalid, opTransfer, opUpdate, NDERR};
+ghost use Rattle.kinds.specs.Codes.{tagNotSeen, NDERR};
 ghost use Rattle.kinds.specs.Answers.{wire};
 ghost use Rattle.rows.specs.Event.{byte, seen, answerOf, tagOf};
 ghost use Rattle.rows.specs.Permitted.{rulesOf, okOrDerr, byTags, tagsAllow, asked, answered, tagged, someTag, fits};
@@ -98,16 +98,17 @@ impl Table {
         }
     }
 
-    // Whether an answer with data from this table may carry this TagOp.
+    // Whether an answer with data from this table may carry this TagOp. For B4.46 that is a house rule, until its printed tag column is
+    // at hand (definition 5.9).
     fn on_data(self, tag: TagState, before: LineState, answer: Answer, op: TagOp) -> bool
         ensures { λ r. ⌜ r ≡ op .0 ∈? rulesOf self .onData (tag .0) (before .0) answer ⌝ }
     {
-        let usual = by_tags(tag, before, answer, op);
+        let taken = by_tags(tag, before, answer, op);
         match self {
-            Table::B46 => up_to_update(op),
-            Table::B57 => usual,
-            Table::B59 => usual,
-            Table::B60 => usual,
+            Table::B46 => taken,
+            Table::B57 => taken,
+            Table::B59 => taken,
+            Table::B60 => taken,
             Table::NdErr => false,
         }
     }
@@ -130,15 +131,7 @@ fn ok_or_derr(answer: Answer, error: RespErr) -> bool
     kinds::choose_bool(answer.has_data(), ok | derr, ok)
 }
 
-// TagOp of B4.46: Invalid, Transfer or Update (definition 5.9).
-fn up_to_update(op: TagOp) -> bool
-    ensures { λ r. ⌜ r ≡ op .0 ∈? (opInvalid ∷ opTransfer ∷ opUpdate ∷ []) ⌝ }
-{
-    let n = op.0;
-    (n == TagOp::INVALID.0) | (n == TagOp::TRANSFER.0) | (n == TagOp::UPDATE.0)
-}
-
-// TagOp of the other tables, by the tag state, the state before and PD to Home (definition 5.9).
+// TagOp of the printed tables, by the tag state, the state before and PD to Home (definition 5.9).
 fn by_tags(tag: TagState, before: LineState, answer: Answer, op: TagOp) -> bool
     ensures { λ r. ⌜ r ≡ op .0 ∈? byTags (tag .0) (before .0) answer ⌝ }
 {

@@ -14,9 +14,6 @@ by-tags-requires c κs = search needs
 enum-told : tie.Need-enum-told
 enum-told c = search needs
 
-up-to-update-requires : tie.Need-up-to-update-requires
-up-to-update-requires c κs = search needs
-
 enum-told-2 : tie.Need-enum-told-2
 enum-told-2 c = search needs
 
@@ -31,9 +28,10 @@ enum-told-5 c = search needs
 
 returns : tie.Need-returns
 returns c =
-    let args = c .before .before .before .before .args in
-    told (λ T. args .op .0 ∈? rulesOf T .onData (args .tag .0) (args .before .0) (args .answer)) (c .before .enum-told .given .1)
-    (c .up-to-update .ensures)
+    let by-tags = c .before .before .by-tags in
+    let args = c .before .before .before .args in
+    told (λ T. args .op .0 ∈? rulesOf T .onData (args .tag .0) (args .before .0) (args .answer)) (c .enum-told .given .1)
+    (by-tags .ensures)
 
 returns-2 : tie.Need-returns-2
 returns-2 c =
@@ -67,7 +65,6 @@ on-data-spec =
     (tie.spec
     by-tags-requires
     enum-told
-    up-to-update-requires
     enum-told-2
     enum-told-3
     enum-told-4
