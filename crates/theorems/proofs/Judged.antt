@@ -70,3 +70,10 @@ set-of-none e s none = eq-eqb (setAfter e s) 0 (setOf-empty (steps e s) each)
 
 pub duty-of-none : (e : List ℕ) (s : ℕ) → s < 7 → ((s′ : ℕ) → Step e s s′ → ⊥) → getD (map (dutyAlone e) states) s 0 ≡ noDuty
 duty-of-none e s k none = at-state (dutyAlone e) s k ∙ ap (λ (b : Bool). cond b noDuty (duty e (2 ^ s))) (set-of-none e s none)
+
+-- an event that is no step has seven empty sets, accepted or refused
+pub no-sets : (e : List ℕ) → ((s s′ : ℕ) → Step e s s′ → ⊥) → (s : ℕ) → getD (judgedAlone issueE e .sets) s 0 ≡ 0
+no-sets e none s =
+    by-answer e (λ j. getD (j .sets) s 0 ≡ 0)
+    (each-at (λ m. m ≡ 0) (setAfter e) states refl (λ x. eqb-true (setAfter e x) 0 (set-of-none e x (none x))) s)
+    (each-at (λ m. m ≡ 0) (λ n. 0) states refl (λ x. refl) s)

@@ -6,3 +6,5 @@ pub mod OnTrace
 pub mod TraceTheorems
 pub mod Listing
 pub mod AnswerTheorems
+pub mod TagColumn
+pub mod TagTheorems

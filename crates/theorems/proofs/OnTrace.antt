@@ -12,7 +12,7 @@ use Rattle.sets.specs.Sets.{bit, holdsDirty}
 use Rattle.steps.specs.Steps.{Step, duty, noDuty, Home, Requester, lost}
 use Rattle.event.specs.Refusals.{issueE}
 use Rattle.verdicts.specs.Verdicts.{afterSet, verdict, dutyByte, explained, unexplained, notJudged}
-use Rattle.verdicts.proofs.Laws.{From, from-after, is-explained}
+use Rattle.verdicts.proofs.Laws.{From, after-from, from-after, is-explained}
 use Rattle.sets.proofs.Laws.{bit-state, held-some, none-held}
 use Rattle.trace.specs.declared.Outcome.{Outcome}
 use Rattle.trace.specs.Lent.{Lent, Left, count}
@@ -24,7 +24,7 @@ use Rattle.histories.specs.Histories.{own, first, HistoryTo, SomeHistoryTo, Ver
 use Rattle.histories.proofs.Walk.{ends-exact}
 use Rattle.histories.proofs.Own.{length-run, length-outputs}
 use Rattle.histories.proofs.Verdicts.{explained-duty, silent-duty, duty-is}
-use Rattle.histories.proofs.At.{setBefore, set-lost, set-below, byte-at, after-at, table-at, pair-in, reached-held, verdict-given, gives-verdict}
+use Rattle.histories.proofs.At.{setBefore, set-next, set-lost, set-below, byte-at, after-at, table-at, pair-in, reached-held, verdict-given, gives-verdict}
 use Rattle.theorems.specs.Duties.{nonDataError, HomeHolds, RequesterHolds}
 use Rattle.theorems.specs.Traces.{Accepted, verdictAt, dutyAt, afterAt, setAtEnd, pairOf, eventOf, DutySaid, DirtyReaches}
 use Rattle.theorems.proofs.Told.{law, exactly-one, nobody, error-byte, holds-dirty, dirty-held}
@@ -46,6 +46,14 @@ none-passes : {Reaches Passes : Type 0} {v : ℕ} → VerdictIs Reaches Passes v
 none-passes (passed x) h = absurd (omega arith)
 none-passes (stopped x none) h = none
 none-passes (not-reached x) h = absurd (omega arith)
+
+-- no history passes an event that is no step
+pub never-passes : (l : Lent) (k : ℕ) → ((s s′ : ℕ) → Step (eventOf l k) s s′ → ⊥) → SomeHistoryTo l (pairOf l k) (suc k) → ⊥
+never-passes l k none h =
+    let held = reached-held l (pairOf l k) (suc k) .1 h in
+    let f = after-from (eventOf l k) (setBefore l (pairOf l k) k) (held .state)
+    (subst (λ (m : ℕ). bit m (held .state) ≡ true) (set-next l k) (held .inside)) in
+    none (f .state) (held .state) (f .step)
 
 module _ (l : Lent) (ok : Accepted l) where
   number-0 : outcomeOf issueE l .refusal .0 ≡ 0

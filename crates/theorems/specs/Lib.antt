@@ -3,3 +3,4 @@ pub mod Notebook
 pub mod Duties
 pub mod Traces
 pub mod Listing
+pub mod TagColumn
