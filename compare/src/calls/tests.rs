@@ -15,6 +15,7 @@ use std::collections::BTreeSet;
 #[rustfmt::skip]
 const MIX: &[(&str, &str, &[(&str, u64)])] = &[
     ("event", "combinations", &[("accepted", 100)]),
+    ("event", "tags and TagOps", &[("accepted", 100), ("with a step", 5)]),
     ("event", "single-byte sweeps", &[("with a step", 0), ("refused 4", 80), ("refused 5", 6)]),
     ("event", "both forward codes", &[("accepted", 100), ("with a step", 1)]),
     ("event", "mutated", &[("accepted", 100), ("with a step", 30)]),
@@ -53,11 +54,11 @@ const MIX: &[(&str, &str, &[(&str, u64)])] = &[
     ("capture", "drawn", &[("accepted", 100), ("explained", 1_000)]),
     ("capture", "drawn, damaged", &[("refused 3", 10), ("refused 4", 10), ("refused 5", 5), ("explained", 1_000)]),
     ("capture", "drawn, cut", &[("cut", 70), ("explained", 1_000)]),
-    ("answers", "every question", &[("accepted", 75), ("refused 9", 15), ("answers", 500), ("empty", 20)]),
+    ("answers", "every question", &[("accepted", 75), ("refused 9", 15), ("answers", 400), ("empty", 20)]),
     ("answers", "each byte value", &[("refused 4", 80), ("refused 5", 15), ("accepted", 0), ("refused 9", 0)]),
     ("answers", "several outside", &[("refused 4", 95), ("refused 5", 1), ("accepted", 0), ("refused 9", 0)]),
-    ("answers", "each length of room", &[("accepted", 60), ("refused 9", 30), ("empty", 25)]),
-    ("answers", "drawn", &[("accepted", 70), ("refused 9", 20), ("answers", 500)]),
+    ("answers", "each length of room", &[("accepted", 60), ("refused 9", 25), ("empty", 25)]),
+    ("answers", "drawn", &[("accepted", 70), ("refused 9", 20), ("answers", 400)]),
     ("answers", "drawn, damaged", &[("refused 4", 70), ("refused 5", 20)]),
     ("answers", "anything", &[("accepted", 50), ("refused 4", 30), ("refused 5", 3), ("refused 9", 3)]),
 ];

@@ -7,7 +7,7 @@ use crate::cases::drawn::{any_in_range, byte_in_range, event_by_row, permitted_e
 use crate::cases::kinds::{share, Cases, Kind, Made};
 use crate::cases::near::{beginnings, near_rows};
 use crate::cases::wire::{event_record, EVENT_ROOM};
-use crate::definition::codes::byte;
+use crate::definition::codes::{byte, STATE_NOT_SEEN};
 use crate::definition::columns::{columns, Column};
 use crate::definition::rows::Row;
 use crate::definition::values::Definition;
@@ -27,6 +27,7 @@ pub fn events(definition: &Definition, seed: u64, random: u64) -> Cases {
         Kind::new("combinations", combinations, move |d, _, n| {
             (String::new(), event_record(d.event_bytes(), &combination(d, &choices, n)))
         }),
+        tags_and_tag_ops(definition),
         Kind::new("single-byte sweeps", swept, single_byte).alike(sweep),
         Kind::new("both forward codes", forwarding as u64 * 64, both_forward_codes).alike(64),
         drawn("mutated", tenths(3), mutated),
@@ -71,6 +72,20 @@ fn near_a_row(definition: &Definition) -> Kind {
 fn choices(definition: &Definition) -> Vec<Choice> {
     let bytes = |column: Column| column.names.into_iter().map(|(_, bytes)| bytes).collect();
     columns(definition).into_iter().map(|column| (column.place, bytes(column))).collect()
+}
+
+/// Every request, RetToSrc, tag state, response with its own forward, and TagOp together, without an error; the state after was
+/// not seen.
+fn tags_and_tag_ops(definition: &Definition) -> Kind {
+    let places = [byte::REQUEST, byte::RET_TO_SRC, byte::TAG, byte::CHANNEL, byte::TAG_OP];
+    let choices: Vec<Choice> = choices(definition).into_iter().filter(|(place, _)| places.contains(place)).collect();
+    Kind::new("tags and TagOps", combinations(&choices), move |definition, draw, n| {
+        let mut event = combination(definition, &choices, n);
+        let fwd_state = event[byte::FWD_STATE];
+        (event[byte::FORWARDED], event[byte::FORWARDED_RESP]) = (u8::from(fwd_state != 0), fwd_state);
+        event[byte::AFTER] = STATE_NOT_SEEN;
+        whole(event, draw)
+    })
 }
 
 /// How many combinations there are.

@@ -10,6 +10,7 @@ pub mod histories;
 pub mod rows;
 pub mod sheet;
 pub mod steps;
+pub mod tag_columns;
 #[cfg(test)]
 mod tests;
 pub mod trace;

@@ -88,14 +88,5 @@ fn tag_op_fits(definition: &Definition, row: &Row, tag: u8, before: u8, tag_op: 
     if row.response.channel != DAT {
         return tag_op == TAG_OP_INVALID;
     }
-    if definition.any_tag_op.contains(&row.table) {
-        return tag_op == TAG_OP_INVALID || tag_op == TRANSFER || tag_op == UPDATE;
-    }
-    if tag == TAG_DIRTY {
-        if row.response.resp == RESP_SD {
-            return tag_op == TRANSFER;
-        }
-        return RESPS_WITH_PD.contains(&row.response.resp) && tag_op == UPDATE;
-    }
-    tag_op == TAG_OP_INVALID || tag_op == TRANSFER && before != UDP
+    definition.tag_column(row.table).is_some_and(|column| column.takes(row, tag, before, tag_op))
 }

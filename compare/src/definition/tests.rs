@@ -4,24 +4,25 @@ use crate::definition::answers::{all_questions, answers, list, list_in_words, qu
 use crate::definition::codes::*;
 use crate::definition::event::{alone, Alone};
 use crate::definition::histories::enumerate;
+use crate::definition::rows::B4_46;
 use crate::definition::sheet::{lines, Reader};
 use crate::definition::steps::{permitted, step};
+use crate::definition::tag_columns::TagColumn;
 use crate::definition::trace::{judge, Judged, Lent};
 use crate::definition::values::Definition;
 use crate::definition::{capture, sheet};
 use std::collections::{BTreeMap, BTreeSet};
 
 /// What is told of a line judged alone from a state: the states after and the duty.
-fn from(before: &str, line: &str) -> (String, &'static str) {
-    let definition = Definition::base();
-    let (_, event) = Reader::new(&definition).fields(line.as_bytes()).expect("a good line");
-    let answer = alone(&definition, &event);
+fn from(definition: &Definition, before: &str, line: &str) -> (String, &'static str) {
+    let (_, event) = Reader::new(definition).fields(line.as_bytes()).expect("a good line");
+    let answer = alone(definition, &event);
     let before = usize::from(place_of(&STATES, before).expect("a state"));
     assert_eq!((answer.refusal, answer.place), (0, 1));
     (states_of(answer.sets[before]).join(" "), DUTIES[usize::from(answer.duties[before])])
 }
 
-/// The entries of the notebook, and two of the wrong readings.
+/// The entries of the notebook, and two of the wrong readings; no request that is in force changes them.
 #[test]
 #[rustfmt::skip]
 fn notebook() {
@@ -43,7 +44,9 @@ fn notebook() {
         ("data", "UD", "0,SnpCleanFwd,1,0,0,?,SnpRespData_SC_Fwded_SD_PD,Invalid,OK,CompData_SD_PD,?", "I SC", "Requester"),
         ("both", "SC", "0,SnpPreferUniqueFwd,0,0,1,?,SnpResp_SC_Fwded_SC,Invalid,OK,CompData_SC,?", "SC", "none"),
     ] {
-        assert_eq!(from(before, line), (states.to_string(), duty), "entry {entry}");
+        for definition in [Definition::base(), Definition::now()] {
+            assert_eq!(from(&definition, before, line), (states.to_string(), duty), "entry {entry}");
+        }
     }
 }
 
@@ -63,14 +66,18 @@ fn events_of_rows(definition: &Definition) -> Vec<Vec<u8>> {
 /// Facts about the rows that others computed: see docs/DECISIONS.md for those that the judge rests on.
 #[test]
 fn facts() {
-    let definition = Definition::base();
+    [Definition::base(), Definition::now()].iter().for_each(facts_of);
+}
+
+/// The same of one definition.
+fn facts_of(definition: &Definition) {
     let mut seen = BTreeSet::new();
-    for event in events_of_rows(&definition) {
-        let Alone { sets, duties, .. } = alone(&definition, &event);
+    for event in events_of_rows(definition) {
+        let Alone { sets, duties, .. } = alone(definition, &event);
         let with = |place: usize, value: u8| {
             let mut other = event.clone();
             other[place] = value;
-            alone(&definition, &other).sets
+            alone(definition, &other).sets
         };
         let all = match (event[byte::RESP], event[byte::REQUEST]) {
             (0 | 4, _) => 1,
@@ -104,6 +111,76 @@ fn facts() {
         }
     }
     assert_eq!(seen.len(), 15);
+}
+
+/// The tag column of B4.46 since Q-2, worked out by hand: for each answer with data the TagOps under Invalid or Clean tags, and
+/// under Dirty ones.
+#[test]
+fn plain_tag_column() {
+    let columns = [
+        ("SnpRespData_I", "Invalid Transfer", ""),
+        ("SnpRespData_SC", "Invalid Transfer", ""),
+        ("SnpRespData_SD", "Invalid Transfer", "Transfer"),
+        ("SnpRespData_I_PD", "Invalid Transfer", "Update"),
+        ("SnpRespData_SC_PD", "Invalid Transfer", "Update"),
+        ("SnpRespDataPtl_I_PD", "Invalid", ""),
+    ];
+    let definition = Definition::now();
+    for request in ["SnpShared", "SnpClean", "SnpNotSharedDirty", "SnpPreferUnique"] {
+        for (answer, other, dirty) in columns {
+            for (tag, ops) in [("Invalid", other), ("Clean", other), ("Dirty", dirty), ("?", &format!("{other} {dirty}"))] {
+                for op in TAG_OPS {
+                    let line = format!("0,{request},0,0,0,{tag},{answer},{op},OK,-,?");
+                    let some = STATES.iter().any(|before| !from(&definition, before, &line).0.is_empty());
+                    assert_eq!(some, ops.split(' ').any(|known| known == op), "{line}");
+                }
+            }
+        }
+    }
+}
+
+/// B4.46 follows the other tables since Q-2: its column, which goes by the names of answers, says what theirs says of its rows.
+#[test]
+fn plain_tag_column_follows_the_others() {
+    let (by_name, mut by_row) = (Definition::now(), Definition::now());
+    by_row.set_tag_column(B4_46, TagColumn::ByRow);
+    assert_eq!(by_name.tag_column(B4_46), Some(TagColumn::ByName));
+    for event in events_of_rows(&by_name) {
+        assert_eq!(alone(&by_name, &event), alone(&by_row, &event), "{event:?}");
+    }
+}
+
+/// Q-2 takes steps away and adds none, and all that it takes away have data in answer to a plain snoop.
+#[test]
+fn plain_tag_column_is_narrower() {
+    let (before, now) = (Definition::at_stage(1).unwrap(), Definition::at_stage(2).unwrap());
+    let mut changed = BTreeSet::new();
+    for event in events_of_rows(&now) {
+        let (wide, narrow) = (alone(&before, &event).sets, alone(&now, &event).sets);
+        assert!((0..7).all(|n| narrow[n] & !wide[n] == 0), "{event:?}");
+        if wide != narrow {
+            assert!([1, 2, 4, 21].contains(&event[byte::REQUEST]) && event[byte::CHANNEL] == DAT, "{event:?}");
+            changed.insert((event[byte::TAG], event[byte::TAG_OP]));
+        }
+    }
+    // Tags not seen may be Invalid ones, so that Invalid is taken with them as before.
+    assert_eq!(changed.into_iter().collect::<Vec<_>>(), [(0, 1), (0, 2), (1, 1), (1, 2), (2, 0), (2, 1), (2, 2), (3, 1), (3, 2)]);
+}
+
+/// The sheet with the line that went unremarked: explained before Q-2, and unexplained since.
+#[test]
+fn dropped_tags() {
+    let sheet = include_bytes!("../../../samples/dirty_tags.csv");
+    let told = |stage: usize| {
+        let output = sheet::answer(&Definition::at_stage(stage).unwrap(), sheet).output;
+        String::from_utf8(output).unwrap().lines().skip(1).map(str::to_string).collect::<Vec<String>>()
+    };
+    let unchanged = ["0,explained,none,SD", "3,explained,none,SD", "4,explained,Home,I", "5,explained,none,SD", "6,explained,Home,I"];
+    for (stage, [dropped, later]) in [(1, ["1,explained,Home,I", "2,explained,none,I"]), (2, ["1,unexplained,none,", "2,not judged,none,"])]
+    {
+        let [first, others @ ..] = unchanged;
+        assert_eq!(told(stage), [&[first, dropped, later], &others[..]].concat());
+    }
 }
 
 /// One event alone is refused for its length, then for a byte outside its range, then for its request.
@@ -173,22 +250,27 @@ fn lists() {
     }
 }
 
-/// Every list has what the judgment of one event permits among all events of names, each answer once and in ascending order.
+/// Every list has what the judgment of one event permits among all events of names, each answer once and in ascending order; the
+/// longest has 29 answers, with Q-2 in force or not.
 #[test]
 fn lists_by_judgment() {
-    let definition = Definition::at_stage(1).unwrap();
+    [Definition::at_stage(1).unwrap(), Definition::now()].iter().for_each(lists_by_judgment_of);
+}
+
+/// The same of one definition.
+fn lists_by_judgment_of(definition: &Definition) {
     let mut lists: BTreeMap<Vec<u8>, BTreeSet<Vec<u8>>> = BTreeMap::new();
-    for event in events_of_rows(&definition).iter().filter(|event| event[byte::TAG] != TAG_NOT_SEEN) {
-        for (before, set) in (0..).zip(alone(&definition, event).sets) {
+    for event in events_of_rows(definition).iter().filter(|event| event[byte::TAG] != TAG_NOT_SEEN) {
+        for (before, set) in (0..).zip(alone(definition, event).sets) {
             let list = lists.entry([&event[..BEFORE], &[before]].concat()).or_default();
             let after = (0..7).filter(|after| holds(set, *after));
             list.extend(after.map(|after| [&event[BEFORE..byte::AFTER], &[after]].concat()));
         }
     }
-    assert_eq!(all_questions(&definition), lists.keys().cloned().collect::<Vec<_>>());
+    assert_eq!(all_questions(definition), lists.keys().cloned().collect::<Vec<_>>());
     assert_eq!((lists.len(), lists.values().map(BTreeSet::len).max()), (1_176, Some(29)));
     for (question, list) in lists {
-        assert_eq!(answers(&definition, &question), list.into_iter().collect::<Vec<_>>(), "{question:?}");
+        assert_eq!(answers(definition, &question), list.into_iter().collect::<Vec<_>>(), "{question:?}");
     }
 }
 

@@ -1,7 +1,8 @@
 //! The values that the documents fix, and what each follow-up request changes in them.
 
 use crate::definition::codes::{Forward, Response};
-use crate::definition::rows::{rows, Row, B4_46, PRINTED, TABLES};
+use crate::definition::rows::{rows, Row, B4_46, B4_60, PRINTED, TABLES};
+use crate::definition::tag_columns::TagColumn;
 
 /// What the documents fix. A request that is in force changes some of these values.
 #[derive(Clone, Debug)]
@@ -14,8 +15,8 @@ pub struct Definition {
     pub tables: Vec<(&'static str, Vec<u8>)>,
     /// The rows, table by table.
     pub rows: Vec<Row>,
-    /// The tables whose data carries any TagOp up to Update, whatever the tags are.
-    pub any_tag_op: Vec<&'static str>,
+    /// What TagOp the data of each table carries; the row of NDERR has no data.
+    pub tag_columns: Vec<(&'static str, TagColumn)>,
     /// The most events that a trace can have.
     pub most_events: usize,
     /// The most pairs that a table of sets can have, and how many a sheet has.
@@ -31,13 +32,16 @@ pub struct Definition {
 }
 
 /// The last follow-up request that is in force, or 0 where none is.
-pub const IN_FORCE: usize = 1;
+pub const IN_FORCE: usize = 2;
 
 /// Changes a definition as a follow-up request asks.
 type Change = fn(&mut Definition);
 
 /// What follow-up requests change, each by its number.
-const CHANGES: &[(usize, Change)] = &[];
+const CHANGES: &[(usize, Change)] = &[
+    // B4.46 has a tag column as the other tables have, in words of its own.
+    (2, |definition| definition.set_tag_column(B4_46, TagColumn::ByName)),
+];
 
 impl Definition {
     /// Document 01 alone.
@@ -55,7 +59,12 @@ impl Definition {
             limits: vec![255, 1, 1, 1, 3, 1, 31, 7, 7, 3, 3, 1, 7, 7],
             tables: TABLES.map(|(table, requests)| (table, requests.to_vec())).to_vec(),
             rows: rows(PRINTED),
-            any_tag_op: vec![B4_46],
+            tag_columns: vec![
+                (B4_46, TagColumn::UpToUpdate),
+                ("B4.57", TagColumn::ByRow),
+                ("B4.59", TagColumn::ByRow),
+                (B4_60, TagColumn::ByRow),
+            ],
             most_events: 4_096,
             most_pairs: 4_096,
             header: "pair,request,RetToSrc,DoNotGoToSD,excl,tag,response,TagOp,RespErr,forward,final",
@@ -83,6 +92,17 @@ impl Definition {
             Some((_, requests)) => requests.clone(),
             None => self.requests.iter().map(|(_, code)| *code).collect(),
         }
+    }
+
+    /// What TagOp the data of a table carries, if the table has data.
+    pub fn tag_column(&self, table: &str) -> Option<TagColumn> {
+        self.tag_columns.iter().find(|(name, _)| *name == table).map(|(_, column)| *column)
+    }
+
+    /// Gives a table another tag column.
+    pub fn set_tag_column(&mut self, table: &'static str, column: TagColumn) {
+        self.tag_columns.retain(|(name, _)| *name != table);
+        self.tag_columns.push((table, column));
     }
 
     /// How many bytes an event has.

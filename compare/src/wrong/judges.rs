@@ -8,6 +8,7 @@ use crate::definition::codes::*;
 use crate::definition::event::{alone, is_request, refusal};
 use crate::definition::rows::{Row, B4_46, B4_60, NDERR_ROW};
 use crate::definition::sheet::{lines, CRLF, OUTPUT_HEADER};
+use crate::definition::tag_columns::TagColumn;
 use crate::definition::trace::{event_of, judge_event, refused, whole_events, Lent};
 use crate::definition::values::Definition;
 use crate::running::arrival::Arrival;
@@ -41,8 +42,29 @@ pub const WRONG: &[Wrong] = &[
     wrong("event", "a state after not seen is taken for I", Given(|_, record| instead(record, byte::AFTER, 7, 0))),
     wrong("event", "EXOK is taken for OK", Given(|_, record| instead(record, byte::RESP_ERR, 1, 0))),
     wrong("event", "Match is taken for Update", Given(|_, record| instead(record, byte::TAG_OP, 3, 2))),
-    wrong("event", "plain data follows the tag column of B4.57", Value(|d| d.any_tag_op.clear())),
-    wrong("event", "B4.57 takes any TagOp", Value(|d| d.any_tag_op.push("B4.57"))),
+    wrong("event", "B4.46 takes any TagOp", Value(|d| d.set_tag_column(B4_46, TagColumn::UpToUpdate))),
+    wrong("event", "B4.57 takes any TagOp", Value(|d| d.set_tag_column("B4.57", TagColumn::UpToUpdate))),
+    wrong("event", "SnpRespData_SD with Dirty tags may leave with Invalid", Given(|_, record| {
+        if tagged_so(record, "SnpRespData_SD", Some(TAG_DIRTY), TAG_OP_INVALID) {
+            record[1 + byte::TAG_OP] = TRANSFER;
+        }
+    })),
+    wrong("event", "SnpRespData_SD with Dirty tags may have Update", Given(|_, record| {
+        if tagged_so(record, "SnpRespData_SD", Some(TAG_DIRTY), UPDATE) {
+            record[1 + byte::TAG_OP] = TRANSFER;
+        }
+    })),
+    wrong("event", "SnpRespData_SC may have Update", Given(|_, record| {
+        if tagged_so(record, "SnpRespData_SC", None, UPDATE) {
+            record[1 + byte::TAG_OP] = TRANSFER;
+        }
+    })),
+    wrong("event", "SnpRespDataPtl_I_PD may have Transfer from a plain snoop", Given(|d, record| {
+        let plain = d.requests_of(B4_46).contains(&record[1 + byte::REQUEST]);
+        if plain && tagged_so(record, "SnpRespDataPtl_I_PD", None, TRANSFER) {
+            record[1 + byte::TAG_OP] = TAG_OP_INVALID;
+        }
+    })),
     wrong("event", "FwdState 5 with CompData 5 is taken for UC", Given(|_, record| {
         if [record[1 + byte::FWD_STATE], record[1 + byte::FORWARDED_RESP]] == [5, 5] {
             (record[1 + byte::FWD_STATE], record[1 + byte::FORWARDED_RESP]) = (2, 2);
@@ -202,6 +224,7 @@ pub const WRONG: &[Wrong] = &[
             refuse(answer, 0, 0);
         }
     })),
+    wrong("trace", "B4.46 takes any TagOp", Value(|d| d.set_tag_column(B4_46, TagColumn::UpToUpdate))),
     // A bench sheet.
     wrong("sheet", "LF alone ends a line", Given(|_, sheet| *sheet = replaced(&replaced(sheet, CRLF, b"\n"), b"\n", CRLF))),
     wrong("sheet", "a CR before the CRLF is dropped", Given(|_, sheet| *sheet = replaced(sheet, b"\r\r\n", CRLF))),
@@ -240,6 +263,7 @@ pub const WRONG: &[Wrong] = &[
             row.forward.name = "CompData_none";
         }
     }))),
+    wrong("sheet", "B4.46 takes any TagOp", Value(|d| d.set_tag_column(B4_46, TagColumn::UpToUpdate))),
     wrong("sheet", "3 is told before 8", Tells(|d, sheet, answer| {
         let number = lines(&answer.output).len();
         if answer.output.ends_with(format!("refused,8,{number}\r\n").as_bytes()) {
@@ -334,8 +358,7 @@ pub const WRONG: &[Wrong] = &[
     wrong("answers", "a state after not seen is listed too", Tells(|d, record, answer| {
         relist(d, record, answer, |list| list_too(list, |_| true, byte::AFTER, STATE_NOT_SEEN));
     })),
-    wrong("answers", "UDP has Transfer under a forwarding snoop", Tells(|d, record, answer| {
-        // Under the other snoops it has it anyway.
+    wrong("answers", "UDP has Transfer", Tells(|d, record, answer| {
         relist(d, record, answer, |list| list_too(list, |answer| answer.starts_with(&[DAT, 5]), byte::TAG_OP, TRANSFER));
     })),
     wrong("answers", "the rows that B4.59 and B4.60 share are listed twice", Tells(|d, record, answer| {
@@ -354,7 +377,7 @@ pub const WRONG: &[Wrong] = &[
     })),
     wrong("answers", "the NDERR answer is left out", Value(|d| d.rows.retain(|row| row.table != NDERR_ROW))),
     wrong("answers", "the rows of B4.60 are left out", Value(|d| d.rows.retain(|row| row.table != B4_60))),
-    wrong("answers", "plain data follows the tag column of B4.57", Value(|d| d.any_tag_op.clear())),
+    wrong("answers", "B4.46 takes any TagOp", Value(|d| d.set_tag_column(B4_46, TagColumn::UpToUpdate))),
     wrong("answers", "RetToSrc is ignored", Value(|d| rows(d, |row| row.ret_to_src = None))),
     wrong("answers", "DoNotGoToSD is ignored", Given(|_, record| record[byte::DO_NOT_GO_TO_SD] &= 254)),
     wrong("answers", "excl is ignored", Given(|_, record| record[byte::EXCL] &= 254)),
@@ -444,6 +467,15 @@ fn row<'a>(definition: &'a mut Definition, table: &str, response: &str) -> &'a m
 /// Changes all the rows.
 fn rows(definition: &mut Definition, change: fn(&mut Row)) {
     definition.rows.iter_mut().for_each(change);
+}
+
+/// Whether a record's event has this response, this tag state where one is asked for, and this TagOp.
+fn tagged_so(record: &[u8], response: &'static str, tag: Option<u8>, tag_op: u8) -> bool {
+    let response = Response::named(response).expect("a response has a name");
+    let event = &record[1..];
+    event[byte::CHANNEL..=byte::FWD_STATE] == response.bytes()
+        && event[byte::TAG_OP] == tag_op
+        && tag.is_none_or(|tag| event[byte::TAG] == tag)
 }
 
 /// Puts a value in the place of another into a byte of a record's event.
