@@ -1,6 +1,7 @@
 -- The rows, one line per printed row, in the printed order, under the table's number (definition 5.2 to 5.7, 5.11).
 -- A line reads: table, state before, states after (the expected one first), RetToSrc, answer to Home. What the name has after Fwded is the
--- printed answer to the Requester. The printed TagOp columns are `tagsAllow` and `byTags` in Permitted.antt.
+-- printed answer to the Requester. The printed TagOp columns are `tagsAllow` and `byTags` in Permitted.antt; for B4.46, whose copy here has
+-- none, they are a house rule.
 -- row* is a row with the star: DoNotGoToSD forbids it (definition 5.7). `∷` ends a line, and `[]` ends the list.
 use Prim.Native.Nat.{ℕ}
 use mathlib.Core.Bool.{Bool, true, false}
