@@ -1,5 +1,5 @@
-//! What the documents define: values, rows, one event, the list of answers, a trace, its histories, the bench sheet and the capture.
-//! Nothing else of this program is used in this folder.
+//! What the documents define: values, rows, tag columns, one event, the list of answers, a trace, its histories, the bench sheet
+//! and the capture. Nothing else of this program is used in this folder.
 
 pub mod answers;
 pub mod capture;

@@ -44,26 +44,17 @@ pub const WRONG: &[Wrong] = &[
     wrong("event", "Match is taken for Update", Given(|_, record| instead(record, byte::TAG_OP, 3, 2))),
     wrong("event", "B4.46 takes any TagOp", Value(|d| d.set_tag_column(B4_46, TagColumn::UpToUpdate))),
     wrong("event", "B4.57 takes any TagOp", Value(|d| d.set_tag_column("B4.57", TagColumn::UpToUpdate))),
-    wrong("event", "SnpRespData_SD with Dirty tags may leave with Invalid", Given(|_, record| {
-        if tagged_so(record, "SnpRespData_SD", Some(TAG_DIRTY), TAG_OP_INVALID) {
-            record[1 + byte::TAG_OP] = TRANSFER;
-        }
+    wrong("event", "plain SnpRespData_SD with Dirty tags may have Invalid", Given(|d, record| {
+        plain_instead(d, record, "SnpRespData_SD", &[TAG_DIRTY], TAG_OP_INVALID, TRANSFER);
     })),
-    wrong("event", "SnpRespData_SD with Dirty tags may have Update", Given(|_, record| {
-        if tagged_so(record, "SnpRespData_SD", Some(TAG_DIRTY), UPDATE) {
-            record[1 + byte::TAG_OP] = TRANSFER;
-        }
+    wrong("event", "plain SnpRespData_SD with Dirty tags may have Update", Given(|d, record| {
+        plain_instead(d, record, "SnpRespData_SD", &[TAG_DIRTY], UPDATE, TRANSFER);
     })),
-    wrong("event", "SnpRespData_SC may have Update", Given(|_, record| {
-        if tagged_so(record, "SnpRespData_SC", None, UPDATE) {
-            record[1 + byte::TAG_OP] = TRANSFER;
-        }
+    wrong("event", "plain SnpRespData_SC may have Update", Given(|d, record| {
+        plain_instead(d, record, "SnpRespData_SC", &[0, 1], UPDATE, TRANSFER);
     })),
-    wrong("event", "SnpRespDataPtl_I_PD may have Transfer from a plain snoop", Given(|d, record| {
-        let plain = d.requests_of(B4_46).contains(&record[1 + byte::REQUEST]);
-        if plain && tagged_so(record, "SnpRespDataPtl_I_PD", None, TRANSFER) {
-            record[1 + byte::TAG_OP] = TAG_OP_INVALID;
-        }
+    wrong("event", "plain SnpRespDataPtl_I_PD may have Transfer", Given(|d, record| {
+        plain_instead(d, record, "SnpRespDataPtl_I_PD", &[0, 1], TRANSFER, TAG_OP_INVALID);
     })),
     wrong("event", "FwdState 5 with CompData 5 is taken for UC", Given(|_, record| {
         if [record[1 + byte::FWD_STATE], record[1 + byte::FORWARDED_RESP]] == [5, 5] {
@@ -469,13 +460,17 @@ fn rows(definition: &mut Definition, change: fn(&mut Row)) {
     definition.rows.iter_mut().for_each(change);
 }
 
-/// Whether a record's event has this response, this tag state where one is asked for, and this TagOp.
-fn tagged_so(record: &[u8], response: &'static str, tag: Option<u8>, tag_op: u8) -> bool {
-    let response = Response::named(response).expect("a response has a name");
-    let event = &record[1..];
-    event[byte::CHANNEL..=byte::FWD_STATE] == response.bytes()
+/// Puts a TagOp in the place of another into a record's event that has this response to a snoop of B4.46 and one of these tags.
+fn plain_instead(definition: &Definition, record: &mut [u8], response: &'static str, tags: &[u8], tag_op: u8, other: u8) {
+    let bytes = Response::named(response).expect("a response has a name").bytes();
+    let event = &mut record[1..];
+    if definition.requests_of(B4_46).contains(&event[byte::REQUEST])
+        && tags.contains(&event[byte::TAG])
+        && event[byte::CHANNEL..=byte::FWD_STATE] == bytes
         && event[byte::TAG_OP] == tag_op
-        && tag.is_none_or(|tag| event[byte::TAG] == tag)
+    {
+        event[byte::TAG_OP] = other;
+    }
 }
 
 /// Puts a value in the place of another into a byte of a record's event.

@@ -10,7 +10,7 @@ use Rattle.kinds.specs.Codes.{I, UD, tagDirty, opInvalid, DAT}
 use Rattle.rows.specs.declared.Table.the-variants.{B46}
 use Rattle.rows.specs.Event.{requestOf, channelOf, tagOpOf}
 use Rattle.rows.specs.Rows.{rows}
-use Rattle.rows.specs.Permitted.{rulesOf, asked, answered, tagged, permitted}
+use Rattle.rows.specs.Permitted.{rulesOf, asked, answered, permitted}
 use Rattle.event.specs.Refusals.{fault, refusalAlone}
 use Rattle.event.specs.Alone.{judgedAlone}
 use Rattle.verdicts.specs.Verdicts.{unexplained}
