@@ -42,6 +42,10 @@ each-at P f [] z each s = z
 each-at P f (x ∷ xs) z each zero = each x
 each-at P f (x ∷ xs) z each (suc s) = each-at P f xs z each s
 
+-- an entry of seven zeros is 0, and so is what stands past its end
+pub zero-at : (s : ℕ) → _≡_ {A = ℕ} (getD (map (λ n. 0) states) s 0) 0
+zero-at = each-at (λ m. m ≡ 0) (λ n. 0) states refl (λ x. refl)
+
 pub set-after-below : (e : List ℕ) (s : ℕ) → setAfter e s < 128
 unfolding setAfter
 set-after-below e s = setOf-below (steps e s)
@@ -76,4 +80,4 @@ pub no-sets : (e : List ℕ) → ((s s′ : ℕ) → Step e s s′ → ⊥) → 
 no-sets e none s =
     by-answer e (λ j. getD (j .sets) s 0 ≡ 0)
     (each-at (λ m. m ≡ 0) (setAfter e) states refl (λ x. eqb-true (setAfter e x) 0 (set-of-none e x (none x))) s)
-    (each-at (λ m. m ≡ 0) (λ n. 0) states refl (λ x. refl) s)
+    (zero-at s)

@@ -51,9 +51,9 @@ none-passes (not-reached x) h = absurd (omega arith)
 pub never-passes : (l : Lent) (k : ℕ) → ((s s′ : ℕ) → Step (eventOf l k) s s′ → ⊥) → SomeHistoryTo l (pairOf l k) (suc k) → ⊥
 never-passes l k none h =
     let held = reached-held l (pairOf l k) (suc k) .1 h in
-    let f = after-from (eventOf l k) (setBefore l (pairOf l k) k) (held .state)
-    (subst (λ (m : ℕ). bit m (held .state) ≡ true) (set-next l k) (held .inside)) in
-    none (f .state) (held .state) (f .step)
+    let after = subst (λ (m : ℕ). bit m (held .state) ≡ true) (set-next l k) (held .inside) in
+    let from = after-from (eventOf l k) (setBefore l (pairOf l k) k) (held .state) after in
+    none (from .state) (held .state) (from .step)
 
 module _ (l : Lent) (ok : Accepted l) where
   number-0 : outcomeOf issueE l .refusal .0 ≡ 0

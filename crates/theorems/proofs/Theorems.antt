@@ -31,7 +31,7 @@ use Rattle.theorems.specs.Alone.{AcceptedEvent, setFrom, dutyFrom}
 use Rattle.theorems.specs.Notebook.{event, entries, right}
 use Rattle.theorems.specs.Duties.{nonDataError, HomeHolds, RequesterHolds, NobodyTold, DataIsDuty, SCIsKept, B60Alone, NderrFromUDIllegal}
 use Rattle.theorems.proofs.Told.{law, only, only-number, exactly-one, nobody, nobody-alone, lost-alone, byte-exactly}
-use Rattle.theorems.proofs.Judged.{answer-alone, by-answer, number-alone, each-at, set-after-below, duty-of-step, duty-of-none}
+use Rattle.theorems.proofs.Judged.{answer-alone, by-answer, number-alone, each-at, zero-at, set-after-below, duty-of-step, duty-of-none}
 
 -- DEMAND 1, ONE EVENT (definition 1.5, 1.8): any two outcomes that the claim of `event::judge_event` allows are equal.
 pub one-outcome : (bytes : List ℕ) (r r′ : Judgment) → r ≡ judgedAlone issueE bytes → r′ ≡ judgedAlone issueE bytes → r ≡ r′
@@ -81,11 +81,10 @@ sets-below e s =
 
 -- If the event is refused, each set is empty and each duty is 0 (definition 3.2).
 pub refused-empty : (e : List ℕ) → (AcceptedEvent e → ⊥) → (s : ℕ) → (setFrom e s ≡ 0) × (dutyFrom e s ≡ noDuty)
-refused-empty e h s =
-    let zero-at = each-at (λ m. m ≡ 0) (λ n. 0) states refl (λ x. refl) s in (
-      ap (λ (j : Judgment). getD (j .sets) s 0) (refused-answer e h) ∙ zero-at,
-      ap (λ (j : Judgment). getD (j .duties) s 0) (refused-answer e h) ∙ zero-at,
-    )
+refused-empty e h s = (
+  ap (λ (j : Judgment). getD (j .sets) s 0) (refused-answer e h) ∙ zero-at s,
+  ap (λ (j : Judgment). getD (j .duties) s 0) (refused-answer e h) ∙ zero-at s,
+)
 
 -- DEMAND 2, THE SETS (definition 1.6, 6.2): a state after is in the set of a state before exactly when the event is a step between them,
 -- with the tag state and the state after that were seen, or any.
