@@ -322,7 +322,7 @@ pub fn most_lines(definition: &Definition, number: u64) -> Made {
         rest(&[clean]),
         rest(&[("response", b"SnpResp_SC")]),
         rest(&[&[("request", &b"SnpCleanFwd"[..])], &forwarded[..]].concat()),
-        rest(&[clean, ("response", b"SnpRespData_SD"), ("TagOp", b"Update")]),
+        rest(&[clean, ("response", b"SnpRespData_SD"), ("TagOp", b"Transfer")]),
         rest(&[clean, ("RespErr", b"NDERR")]),
     ];
     let mut sheet = definition.header.as_bytes().to_vec();

@@ -88,5 +88,5 @@ fn tag_op_fits(definition: &Definition, row: &Row, tag: u8, before: u8, tag_op: 
     if row.response.channel != DAT {
         return tag_op == TAG_OP_INVALID;
     }
-    definition.tag_column(row.table).is_some_and(|column| column.takes(row, tag, before, tag_op))
+    definition.tag_column(row.table).tag_ops(row, tag, before).contains(&tag_op)
 }

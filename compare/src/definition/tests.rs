@@ -7,7 +7,7 @@ use crate::definition::histories::enumerate;
 use crate::definition::rows::B4_46;
 use crate::definition::sheet::{lines, Reader};
 use crate::definition::steps::{permitted, step};
-use crate::definition::tag_columns::TagColumn;
+use crate::definition::tag_ops::TagColumn;
 use crate::definition::trace::{judge, Judged, Lent};
 use crate::definition::values::Definition;
 use crate::definition::{capture, sheet};
@@ -22,7 +22,7 @@ fn from(definition: &Definition, before: &str, line: &str) -> (String, &'static 
     (states_of(answer.sets[before]).join(" "), DUTIES[usize::from(answer.duties[before])])
 }
 
-/// The entries of the notebook, and two of the wrong readings; no request that is in force changes them.
+/// The entries of the notebook, and two of the wrong readings, which stay true with Q-2.
 #[test]
 #[rustfmt::skip]
 fn notebook() {
@@ -44,8 +44,9 @@ fn notebook() {
         ("data", "UD", "0,SnpCleanFwd,1,0,0,?,SnpRespData_SC_Fwded_SD_PD,Invalid,OK,CompData_SD_PD,?", "I SC", "Requester"),
         ("both", "SC", "0,SnpPreferUniqueFwd,0,0,1,?,SnpResp_SC_Fwded_SC,Invalid,OK,CompData_SC,?", "SC", "none"),
     ] {
-        for definition in [Definition::base(), Definition::now()] {
-            assert_eq!(from(&definition, before, line), (states.to_string(), duty), "entry {entry}");
+        for stage in 0..=2 {
+            let definition = Definition::at_stage(stage).unwrap();
+            assert_eq!(from(&definition, before, line), (states.to_string(), duty), "entry {entry} at stage {stage}");
         }
     }
 }
@@ -66,11 +67,17 @@ fn events_of_rows(definition: &Definition) -> Vec<Vec<u8>> {
 /// Facts about the rows that others computed: see docs/DECISIONS.md for those that the judge rests on.
 #[test]
 fn facts() {
-    [Definition::base(), Definition::now()].iter().for_each(facts_of);
+    facts_at(&Definition::base());
 }
 
-/// The same of one definition.
-fn facts_of(definition: &Definition) {
+/// The facts about the rows stay with Q-2.
+#[test]
+fn facts_with_q2() {
+    facts_at(&Definition::at_stage(2).unwrap());
+}
+
+/// Asserts the facts about the rows.
+fn facts_at(definition: &Definition) {
     let mut seen = BTreeSet::new();
     for event in events_of_rows(definition) {
         let Alone { sets, duties, .. } = alone(definition, &event);
@@ -113,76 +120,6 @@ fn facts_of(definition: &Definition) {
     assert_eq!(seen.len(), 15);
 }
 
-/// The tag column of B4.46 since Q-2, worked out by hand: for each answer with data the TagOps under Invalid or Clean tags, and
-/// under Dirty ones.
-#[test]
-fn plain_tag_column() {
-    let columns = [
-        ("SnpRespData_I", "Invalid Transfer", ""),
-        ("SnpRespData_SC", "Invalid Transfer", ""),
-        ("SnpRespData_SD", "Invalid Transfer", "Transfer"),
-        ("SnpRespData_I_PD", "Invalid Transfer", "Update"),
-        ("SnpRespData_SC_PD", "Invalid Transfer", "Update"),
-        ("SnpRespDataPtl_I_PD", "Invalid", ""),
-    ];
-    let definition = Definition::now();
-    for request in ["SnpShared", "SnpClean", "SnpNotSharedDirty", "SnpPreferUnique"] {
-        for (answer, other, dirty) in columns {
-            for (tag, ops) in [("Invalid", other), ("Clean", other), ("Dirty", dirty), ("?", &format!("{other} {dirty}"))] {
-                for op in TAG_OPS {
-                    let line = format!("0,{request},0,0,0,{tag},{answer},{op},OK,-,?");
-                    let some = STATES.iter().any(|before| !from(&definition, before, &line).0.is_empty());
-                    assert_eq!(some, ops.split(' ').any(|known| known == op), "{line}");
-                }
-            }
-        }
-    }
-}
-
-/// B4.46 follows the other tables since Q-2: its column, which goes by the names of answers, says what theirs says of its rows.
-#[test]
-fn plain_tag_column_follows_the_others() {
-    let (by_name, mut by_row) = (Definition::now(), Definition::now());
-    by_row.set_tag_column(B4_46, TagColumn::ByRow);
-    assert_eq!(by_name.tag_column(B4_46), Some(TagColumn::ByName));
-    for event in events_of_rows(&by_name) {
-        assert_eq!(alone(&by_name, &event), alone(&by_row, &event), "{event:?}");
-    }
-}
-
-/// Q-2 takes steps away and adds none, and all that it takes away have data in answer to a plain snoop.
-#[test]
-fn plain_tag_column_is_narrower() {
-    let (before, now) = (Definition::at_stage(1).unwrap(), Definition::at_stage(2).unwrap());
-    let mut changed = BTreeSet::new();
-    for event in events_of_rows(&now) {
-        let (wide, narrow) = (alone(&before, &event).sets, alone(&now, &event).sets);
-        assert!((0..7).all(|n| narrow[n] & !wide[n] == 0), "{event:?}");
-        if wide != narrow {
-            assert!([1, 2, 4, 21].contains(&event[byte::REQUEST]) && event[byte::CHANNEL] == DAT, "{event:?}");
-            changed.insert((event[byte::TAG], event[byte::TAG_OP]));
-        }
-    }
-    // Tags not seen may be Invalid ones, so that Invalid is taken with them as before.
-    assert_eq!(changed.into_iter().collect::<Vec<_>>(), [(0, 1), (0, 2), (1, 1), (1, 2), (2, 0), (2, 1), (2, 2), (3, 1), (3, 2)]);
-}
-
-/// The sheet with the line that went unremarked: explained before Q-2, and unexplained since.
-#[test]
-fn dropped_tags() {
-    let sheet = include_bytes!("../../../samples/dirty_tags.csv");
-    let told = |stage: usize| {
-        let output = sheet::answer(&Definition::at_stage(stage).unwrap(), sheet).output;
-        String::from_utf8(output).unwrap().lines().skip(1).map(str::to_string).collect::<Vec<String>>()
-    };
-    let unchanged = ["0,explained,none,SD", "3,explained,none,SD", "4,explained,Home,I", "5,explained,none,SD", "6,explained,Home,I"];
-    for (stage, [dropped, later]) in [(1, ["1,explained,Home,I", "2,explained,none,I"]), (2, ["1,unexplained,none,", "2,not judged,none,"])]
-    {
-        let [first, others @ ..] = unchanged;
-        assert_eq!(told(stage), [&[first, dropped, later], &others[..]].concat());
-    }
-}
-
 /// One event alone is refused for its length, then for a byte outside its range, then for its request.
 #[test]
 fn events_refused() {
@@ -212,10 +149,18 @@ fn events_refused() {
     }
 }
 
-/// Lists worked out by hand.
+/// Asserts that a question in words has these answers in words, one after another.
+fn listed(definition: &Definition, question: &str, answers: &str) {
+    let words: Vec<&str> = question.split(' ').collect();
+    let text = list_in_words(definition, &question_in_words(definition, &words).unwrap());
+    let lines: Vec<&str> = text.lines().collect();
+    assert_eq!((lines[0], &lines[1..].join(" ")[..]), ("response,TagOp,RespErr,forward,final", answers), "{question}");
+    assert!(text.ends_with('\n'));
+}
+
+/// Lists worked out by hand, which Q-2 leaves as they are.
 #[test]
 fn lists() {
-    let definition = Definition::at_stage(1).unwrap();
     for (question, answers) in [
         ("SnpShared 0 0 0 Invalid I", "SnpResp_I,Invalid,OK,-,I SnpResp_I,Invalid,NDERR,-,I"),
         ("SnpPreferUnique 1 1 1 Clean UCE", "SnpResp_I,Invalid,OK,-,I SnpResp_I,Invalid,NDERR,-,I"),
@@ -225,6 +170,7 @@ fn lists() {
             "SnpResp_I,Invalid,OK,-,I SnpResp_I,Invalid,NDERR,-,I SnpResp_SC,Invalid,OK,-,I SnpResp_SC,Invalid,OK,-,SC",
         ),
         ("SnpClean 0 0 0 Dirty UC", ""),
+        ("SnpShared 0 0 0 Dirty UDP", ""),
         ("SnpCleanFwd 0 0 0 Dirty UDP", ""),
         (
             "SnpCleanFwd 1 0 1 Clean UDP",
@@ -242,22 +188,55 @@ fn lists() {
              SnpRespData_SC_PD_Fwded_SC,Update,OK,CompData_SC,SC SnpRespData_SC_PD_Fwded_SC,Update,DERR,CompData_SC,SC",
         ),
     ] {
-        let words: Vec<&str> = question.split(' ').collect();
-        let text = list_in_words(&definition, &question_in_words(&definition, &words).unwrap());
-        let lines: Vec<&str> = text.lines().collect();
-        assert_eq!((lines[0], &lines[1..].join(" ")[..]), ("response,TagOp,RespErr,forward,final", answers), "{question}");
-        assert!(text.ends_with('\n'));
+        for stage in [1, 2] {
+            listed(&Definition::at_stage(stage).unwrap(), question, answers);
+        }
     }
 }
 
-/// Every list has what the judgment of one event permits among all events of names, each answer once and in ascending order; the
-/// longest has 29 answers, with Q-2 in force or not.
+/// Lists worked out by hand that are shorter with Q-2.
 #[test]
-fn lists_by_judgment() {
-    [Definition::at_stage(1).unwrap(), Definition::now()].iter().for_each(lists_by_judgment_of);
+fn lists_with_q2() {
+    let definition = Definition::at_stage(2).unwrap();
+    for (question, answers) in [
+        (
+            "SnpShared 0 0 0 Dirty SD",
+            "SnpResp_I,Invalid,NDERR,-,I SnpRespData_SD,Transfer,OK,-,SD SnpRespData_SD,Transfer,DERR,-,SD \
+             SnpRespData_I_PD,Update,OK,-,I SnpRespData_I_PD,Update,DERR,-,I SnpRespData_SC_PD,Update,OK,-,I \
+             SnpRespData_SC_PD,Update,OK,-,SC SnpRespData_SC_PD,Update,DERR,-,I SnpRespData_SC_PD,Update,DERR,-,SC",
+        ),
+        (
+            "SnpNotSharedDirty 1 1 0 Dirty UD",
+            "SnpResp_I,Invalid,NDERR,-,I SnpRespData_I_PD,Update,OK,-,I SnpRespData_I_PD,Update,DERR,-,I \
+             SnpRespData_SC_PD,Update,OK,-,I SnpRespData_SC_PD,Update,OK,-,SC SnpRespData_SC_PD,Update,DERR,-,I \
+             SnpRespData_SC_PD,Update,DERR,-,SC",
+        ),
+        (
+            "SnpPreferUnique 1 0 0 Clean UDP",
+            "SnpResp_I,Invalid,NDERR,-,I SnpRespDataPtl_I_PD,Invalid,OK,-,I SnpRespDataPtl_I_PD,Invalid,DERR,-,I",
+        ),
+        (
+            "SnpClean 1 0 1 Invalid SC",
+            "SnpResp_I,Invalid,NDERR,-,I SnpRespData_I,Invalid,OK,-,I SnpRespData_I,Invalid,DERR,-,I \
+             SnpRespData_I,Transfer,OK,-,I SnpRespData_I,Transfer,DERR,-,I SnpRespData_SC,Invalid,OK,-,I \
+             SnpRespData_SC,Invalid,OK,-,SC SnpRespData_SC,Invalid,DERR,-,I SnpRespData_SC,Invalid,DERR,-,SC \
+             SnpRespData_SC,Transfer,OK,-,I SnpRespData_SC,Transfer,OK,-,SC SnpRespData_SC,Transfer,DERR,-,I \
+             SnpRespData_SC,Transfer,DERR,-,SC",
+        ),
+    ] {
+        listed(&definition, question, answers);
+    }
 }
 
-/// The same of one definition.
+/// Every list has what the judgment of one event permits among all events of names, each answer once and in ascending order.
+#[test]
+fn lists_by_judgment() {
+    for stage in [1, 2] {
+        lists_by_judgment_of(&Definition::at_stage(stage).unwrap());
+    }
+}
+
+/// Asserts that every list has what the judgment of one event permits, and that the longest has 29 answers.
 fn lists_by_judgment_of(definition: &Definition) {
     let mut lists: BTreeMap<Vec<u8>, BTreeSet<Vec<u8>>> = BTreeMap::new();
     for event in events_of_rows(definition).iter().filter(|event| event[byte::TAG] != TAG_NOT_SEEN) {
@@ -302,6 +281,121 @@ fn lists_refused() {
     }
     for room in [&[][..], &[7; 5]] {
         assert_eq!(list(&definition, &[1, 0, 0, 0, 2, 0], room), Listed { refusal: 0, count: 0, room: room.to_vec() });
+    }
+}
+
+/// The answers with data of B4.46: the states before with RetToSrc 1, and what Q-2 lets each carry with Invalid tags, with Clean
+/// ones, with Dirty ones, and with tags that were not seen.
+#[rustfmt::skip]
+const PLAIN_DATA: [(&str, &str, [&str; 4]); 6] = [
+    ("SnpRespData_SC",      "UC SC", ["Invalid Transfer", "Invalid Transfer", "",         "Invalid Transfer"]),
+    ("SnpRespData_I",       "UC SC", ["Invalid Transfer", "Invalid Transfer", "",         "Invalid Transfer"]),
+    ("SnpRespData_SD",      "UD SD", ["Invalid Transfer", "Invalid Transfer", "Transfer", "Invalid Transfer"]),
+    ("SnpRespData_SC_PD",   "UD SD", ["Invalid Transfer", "Invalid Transfer", "Update",   "Invalid Transfer Update"]),
+    ("SnpRespData_I_PD",    "UD SD", ["Invalid Transfer", "Invalid Transfer", "Update",   "Invalid Transfer Update"]),
+    ("SnpRespDataPtl_I_PD", "UDP",   ["Invalid",          "Invalid",          "",         "Invalid"]),
+];
+
+/// The TagOps with which an answer with data to a plain snoop is explained from a state, by the words of a sheet.
+fn tag_ops_taken(definition: &Definition, before: &str, request: &str, tag: &str, answer: &str) -> String {
+    let line = |tag_op: &str| format!("0,{request},1,0,0,{tag},{answer},{tag_op},OK,-,?");
+    let is_taken = |tag_op: &&str| !from(definition, before, &line(tag_op)).0.is_empty();
+    TAG_OPS.into_iter().filter(is_taken).collect::<Vec<&str>>().join(" ")
+}
+
+/// From the states that an answer is for all four plain snoops take the TagOps of the table by hand, and from others none.
+#[test]
+fn tag_ops_of_plain_data() {
+    let definition = Definition::at_stage(2).unwrap();
+    for request in ["SnpShared", "SnpClean", "SnpNotSharedDirty", "SnpPreferUnique"] {
+        for (answer, states, tag_ops) in PLAIN_DATA {
+            for (tag, tag_ops) in ["Invalid", "Clean", "Dirty", "?"].into_iter().zip(tag_ops) {
+                for before in STATES {
+                    let expected = if states.split(' ').any(|state| state == before) { tag_ops } else { "" };
+                    let taken = tag_ops_taken(&definition, before, request, tag, answer);
+                    assert_eq!(taken, expected, "{request} {answer} from {before} with {tag} tags");
+                }
+            }
+        }
+    }
+}
+
+/// Before Q-2 the same answers took any TagOp up to Update, with Dirty tags from UD and SD alone.
+#[test]
+fn tag_ops_of_plain_data_before_q2() {
+    for definition in [0, 1].map(|stage| Definition::at_stage(stage).unwrap()) {
+        for (answer, states, _) in PLAIN_DATA {
+            for before in states.split(' ') {
+                let taken = |tag: &str| tag_ops_taken(&definition, before, "SnpShared", tag, answer);
+                let with_dirty = if states == "UD SD" { "Invalid Transfer Update" } else { "" };
+                assert_eq!(["Invalid", "Clean", "?"].map(taken), ["Invalid Transfer Update"; 3], "{answer}");
+                assert_eq!(taken("Dirty"), with_dirty, "{answer}");
+            }
+        }
+    }
+}
+
+/// Q-2 permits nothing new, and of 1,440 events with data in answer to plain snoops it takes something away.
+#[test]
+fn q2_only_takes_away() {
+    let [one, two] = [1, 2].map(|stage| Definition::at_stage(stage).unwrap());
+    let mut other = 0;
+    for event in events_of_rows(&one) {
+        let (old, new) = (alone(&one, &event), alone(&two, &event));
+        assert_eq!((old.refusal, old.place), (new.refusal, new.place));
+        for before in 0..7 {
+            assert_eq!(new.sets[before] & !old.sets[before], 0, "{event:?}");
+            assert!(new.sets[before] == 0 || new.duties[before] == old.duties[before], "{event:?}");
+        }
+        if old != new {
+            assert!([1, 2, 4, 21].contains(&event[byte::REQUEST]) && event[byte::CHANNEL] == DAT, "{event:?}");
+            other += 1;
+        }
+    }
+    // For 4 snoops, 2 RespErrs and 2 values of excl: so many tags and TagOps for so many flags, an answer of the table each.
+    assert_eq!(other, 4 * 2 * 2 * (3 * 4 + 3 * 4 + 5 * 2 + 4 * 4 + 4 * 4 + 6 * 4));
+}
+
+/// Every list of Q-1 keeps with Q-2 all answers but some with data to plain snoops, and gets none.
+#[test]
+fn q2_only_shortens_lists() {
+    let [one, two] = [1, 2].map(|stage| Definition::at_stage(stage).unwrap());
+    for question in all_questions(&one) {
+        let (old, new) = (answers(&one, &question), answers(&two, &question));
+        assert!(new.iter().all(|answer| old.contains(answer)), "{question:?}");
+        let mut gone = old.iter().filter(|answer| !new.contains(answer));
+        assert!(gone.all(|answer| [1, 2, 4, 21].contains(&question[byte::REQUEST]) && answer[0] == DAT), "{question:?}");
+    }
+}
+
+/// B4.46 follows the other tables with Q-2: the column in Q-2's words says of its rows what theirs says.
+#[test]
+fn plain_column_follows_the_others() {
+    let (plain, mut forwarding) = (Definition::at_stage(2).unwrap(), Definition::at_stage(2).unwrap());
+    forwarding.set_tag_column(B4_46, TagColumn::Forwarding);
+    assert_eq!(plain.tag_column(B4_46), TagColumn::Plain);
+    for event in events_of_rows(&plain) {
+        assert_eq!(alone(&plain, &event), alone(&forwarding, &event), "{event:?}");
+    }
+}
+
+/// The sample with the capture that Q-2 tells of: its second event is explained before, and unexplained from then on.
+#[test]
+fn sample_of_dropped_tags() {
+    let sample = include_bytes!("../../../samples/dirty_tags.csv");
+    let told = |stage: usize| String::from_utf8(sheet::answer(&Definition::at_stage(stage).unwrap(), sample).output).unwrap();
+    let (before, after) = (told(1), told(2));
+    let differ: Vec<(&str, &str)> = before.lines().zip(after.lines()).filter(|(old, new)| old != new).collect();
+    assert_eq!(differ, [("1,explained,Home,I", "1,unexplained,none,"), ("2,explained,none,I", "2,not judged,none,")]);
+    assert_eq!((before.lines().count(), after.lines().count()), (8, 8));
+}
+
+/// Dirty tags that leave with Invalid, as in the capture that Q-2 tells of, are remarked from then on.
+#[test]
+fn dirty_tags_that_leave_with_invalid() {
+    let sheet = format!("{HEAD}{}", GOOD.replace("0,Invalid,", "0,Dirty,"));
+    for (stage, output) in [(0, TOLD), (1, TOLD), (2, "0,unexplained,none,\r\n")] {
+        answered(&Definition::at_stage(stage).unwrap(), sheet.as_bytes(), output);
     }
 }
 

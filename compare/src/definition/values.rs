@@ -2,7 +2,7 @@
 
 use crate::definition::codes::{Forward, Response};
 use crate::definition::rows::{rows, Row, B4_46, B4_60, PRINTED, TABLES};
-use crate::definition::tag_columns::TagColumn;
+use crate::definition::tag_ops::TagColumn;
 
 /// What the documents fix. A request that is in force changes some of these values.
 #[derive(Clone, Debug)]
@@ -15,7 +15,7 @@ pub struct Definition {
     pub tables: Vec<(&'static str, Vec<u8>)>,
     /// The rows, table by table.
     pub rows: Vec<Row>,
-    /// What TagOp the data of each table carries; the row of NDERR has no data.
+    /// The tables with data, each with the tag column that it follows.
     pub tag_columns: Vec<(&'static str, TagColumn)>,
     /// The most events that a trace can have.
     pub most_events: usize,
@@ -38,10 +38,12 @@ pub const IN_FORCE: usize = 2;
 type Change = fn(&mut Definition);
 
 /// What follow-up requests change, each by its number.
-const CHANGES: &[(usize, Change)] = &[
-    // B4.46 has a tag column as the other tables have, in words of its own.
-    (2, |definition| definition.set_tag_column(B4_46, TagColumn::ByName)),
-];
+const CHANGES: &[(usize, Change)] = &[(2, tags_of_plain_snoops)];
+
+/// plain data no longer carries any TagOp up to Update.
+fn tags_of_plain_snoops(definition: &mut Definition) {
+    definition.set_tag_column(B4_46, TagColumn::Plain);
+}
 
 impl Definition {
     /// Document 01 alone.
@@ -61,9 +63,9 @@ impl Definition {
             rows: rows(PRINTED),
             tag_columns: vec![
                 (B4_46, TagColumn::UpToUpdate),
-                ("B4.57", TagColumn::ByRow),
-                ("B4.59", TagColumn::ByRow),
-                (B4_60, TagColumn::ByRow),
+                ("B4.57", TagColumn::Forwarding),
+                ("B4.59", TagColumn::Forwarding),
+                (B4_60, TagColumn::Forwarding),
             ],
             most_events: 4_096,
             most_pairs: 4_096,
@@ -94,12 +96,13 @@ impl Definition {
         }
     }
 
-    /// What TagOp the data of a table carries, if the table has data.
-    pub fn tag_column(&self, table: &str) -> Option<TagColumn> {
-        self.tag_columns.iter().find(|(name, _)| *name == table).map(|(_, column)| *column)
+    /// The tag column that a table with data follows.
+    pub fn tag_column(&self, table: &str) -> TagColumn {
+        let column = self.tag_columns.iter().find(|(name, _)| *name == table);
+        column.expect("a table with data follows a tag column").1
     }
 
-    /// Gives a table another tag column.
+    /// Lets a table follow a tag column, and no longer the one that it followed.
     pub fn set_tag_column(&mut self, table: &'static str, column: TagColumn) {
         self.tag_columns.retain(|(name, _)| *name != table);
         self.tag_columns.push((table, column));

@@ -8,7 +8,7 @@ use crate::definition::codes::*;
 use crate::definition::event::{alone, is_request, refusal};
 use crate::definition::rows::{Row, B4_46, B4_60, NDERR_ROW};
 use crate::definition::sheet::{lines, CRLF, OUTPUT_HEADER};
-use crate::definition::tag_columns::TagColumn;
+use crate::definition::tag_ops::TagColumn;
 use crate::definition::trace::{event_of, judge_event, refused, whole_events, Lent};
 use crate::definition::values::Definition;
 use crate::running::arrival::Arrival;
@@ -42,20 +42,29 @@ pub const WRONG: &[Wrong] = &[
     wrong("event", "a state after not seen is taken for I", Given(|_, record| instead(record, byte::AFTER, 7, 0))),
     wrong("event", "EXOK is taken for OK", Given(|_, record| instead(record, byte::RESP_ERR, 1, 0))),
     wrong("event", "Match is taken for Update", Given(|_, record| instead(record, byte::TAG_OP, 3, 2))),
-    wrong("event", "B4.46 takes any TagOp", Value(|d| d.set_tag_column(B4_46, TagColumn::UpToUpdate))),
-    wrong("event", "B4.57 takes any TagOp", Value(|d| d.set_tag_column("B4.57", TagColumn::UpToUpdate))),
-    wrong("event", "plain SnpRespData_SD with Dirty tags may have Invalid", Given(|d, record| {
-        plain_instead(d, record, "SnpRespData_SD", &[TAG_DIRTY], TAG_OP_INVALID, TRANSFER);
+    wrong("event", "plain data carries any TagOp up to Update", Value(|d| d.set_tag_column(B4_46, TagColumn::UpToUpdate))),
+    wrong("event", "B4.57 takes any TagOp up to Update", Value(|d| d.set_tag_column("B4.57", TagColumn::UpToUpdate))),
+    wrong("event", "Dirty tags leave with any TagOp up to Update under a plain snoop", Given(|d, record| {
+        if is_plain_data(d, record) && record[1 + byte::TAG] == TAG_DIRTY && record[1 + byte::TAG_OP] <= UPDATE {
+            record[1 + byte::TAG_OP] = if record[1 + byte::RESP] == RESP_SD { TRANSFER } else { UPDATE };
+        }
     })),
-    wrong("event", "plain SnpRespData_SD with Dirty tags may have Update", Given(|d, record| {
-        plain_instead(d, record, "SnpRespData_SD", &[TAG_DIRTY], UPDATE, TRANSFER);
+    wrong("event", "SnpRespData_SD leaves Dirty tags with Invalid under a plain snoop", Given(|d, record| {
+        if is_plain_data(d, record) && record[1 + byte::TAG] == TAG_DIRTY && record[1 + byte::RESP] == RESP_SD {
+            instead(record, byte::TAG_OP, TAG_OP_INVALID, TRANSFER);
+        }
     })),
-    wrong("event", "plain SnpRespData_SC may have Update", Given(|d, record| {
-        plain_instead(d, record, "SnpRespData_SC", &[0, 1], UPDATE, TRANSFER);
+    wrong("event", "SnpRespDataPtl_I_PD has Transfer under a plain snoop", Given(|d, record| {
+        if is_plain_data(d, record) && record[1 + byte::OPCODE] == 5 {
+            instead(record, byte::TAG_OP, TRANSFER, TAG_OP_INVALID);
+        }
     })),
-    wrong("event", "plain SnpRespDataPtl_I_PD may have Transfer", Given(|d, record| {
-        plain_instead(d, record, "SnpRespDataPtl_I_PD", &[0, 1], TRANSFER, TAG_OP_INVALID);
+    wrong("event", "plain data has Update under other tags than Dirty", Given(|d, record| {
+        if is_plain_data(d, record) && record[1 + byte::TAG] < TAG_DIRTY {
+            instead(record, byte::TAG_OP, UPDATE, TRANSFER);
+        }
     })),
+    wrong("event", "data under SnpPreferUnique carries any TagOp up to Update", Value(|d| widen(d, 21))),
     wrong("event", "FwdState 5 with CompData 5 is taken for UC", Given(|_, record| {
         if [record[1 + byte::FWD_STATE], record[1 + byte::FORWARDED_RESP]] == [5, 5] {
             (record[1 + byte::FWD_STATE], record[1 + byte::FORWARDED_RESP]) = (2, 2);
@@ -210,12 +219,12 @@ pub const WRONG: &[Wrong] = &[
         let mut first = None;
         retell(d, case, answer, false, |_, _, told| *first.get_or_insert(told));
     })),
+    wrong("trace", "plain data carries any TagOp up to Update", Value(|d| d.set_tag_column(B4_46, TagColumn::UpToUpdate))),
     wrong("trace", "the place of an accepted trace is 0", Tells(|_, _, answer| {
         if answer.output[0] == 0 {
             refuse(answer, 0, 0);
         }
     })),
-    wrong("trace", "B4.46 takes any TagOp", Value(|d| d.set_tag_column(B4_46, TagColumn::UpToUpdate))),
     // A bench sheet.
     wrong("sheet", "LF alone ends a line", Given(|_, sheet| *sheet = replaced(&replaced(sheet, CRLF, b"\n"), b"\n", CRLF))),
     wrong("sheet", "a CR before the CRLF is dropped", Given(|_, sheet| *sheet = replaced(sheet, b"\r\r\n", CRLF))),
@@ -249,12 +258,12 @@ pub const WRONG: &[Wrong] = &[
     wrong("sheet", "there can be a line more", Value(|d| d.most_lines += 1)),
     wrong("sheet", "pair 4095 is refused", Value(|d| d.most_pairs -= 1)),
     wrong("sheet", "a pair can have five digits", Value(|d| d.pair_digits += 1)),
+    wrong("sheet", "plain data carries any TagOp up to Update", Value(|d| d.set_tag_column(B4_46, TagColumn::UpToUpdate))),
     wrong("sheet", "CompData_UC is not known", Value(|d| rows(d, |row| {
         if row.forward.name == "CompData_UC" {
             row.forward.name = "CompData_none";
         }
     }))),
-    wrong("sheet", "B4.46 takes any TagOp", Value(|d| d.set_tag_column(B4_46, TagColumn::UpToUpdate))),
     wrong("sheet", "3 is told before 8", Tells(|d, sheet, answer| {
         let number = lines(&answer.output).len();
         if answer.output.ends_with(format!("refused,8,{number}\r\n").as_bytes()) {
@@ -332,6 +341,7 @@ pub const WRONG: &[Wrong] = &[
             answer.status = 0;
         }
     })),
+    wrong("capture", "plain data carries any TagOp up to Update", Value(|d| d.set_tag_column(B4_46, TagColumn::UpToUpdate))),
     wrong("capture", "a lost duty is not told", Tells(|_, _, answer| {
         let lines = answer.output.split_inclusive(|byte| *byte == b'\n');
         answer.output = lines.filter(|line| !line.ends_with(b"lost\n")).collect::<Vec<&[u8]>>().concat();
@@ -349,8 +359,35 @@ pub const WRONG: &[Wrong] = &[
     wrong("answers", "a state after not seen is listed too", Tells(|d, record, answer| {
         relist(d, record, answer, |list| list_too(list, |_| true, byte::AFTER, STATE_NOT_SEEN));
     })),
-    wrong("answers", "UDP has Transfer", Tells(|d, record, answer| {
-        relist(d, record, answer, |list| list_too(list, |answer| answer.starts_with(&[DAT, 5]), byte::TAG_OP, TRANSFER));
+    wrong("answers", "UDP has Transfer under a forwarding snoop", Tells(|d, record, answer| {
+        if !is_plain(d, record[byte::REQUEST]) {
+            relist(d, record, answer, |list| list_too(list, |answer| answer.starts_with(&[DAT, 5]), byte::TAG_OP, TRANSFER));
+        }
+    })),
+    wrong("answers", "SnpRespDataPtl_I_PD has Transfer under a plain snoop", Tells(|d, record, answer| {
+        if is_plain(d, record[byte::REQUEST]) {
+            relist(d, record, answer, |list| list_too(list, |answer| answer.starts_with(&[DAT, 5]), byte::TAG_OP, TRANSFER));
+        }
+    })),
+    wrong("answers", "plain data has Update under other tags than Dirty", Tells(|d, record, answer| {
+        if is_plain(d, record[byte::REQUEST]) && record[byte::TAG] != TAG_DIRTY {
+            relist(d, record, answer, |list| list_too(list, |answer| answer.starts_with(&[DAT, 1]), byte::TAG_OP, UPDATE));
+        }
+    })),
+    wrong("answers", "Dirty tags leave with Invalid under a plain snoop", Tells(|d, record, answer| {
+        if is_plain(d, record[byte::REQUEST]) && record[byte::TAG] == TAG_DIRTY {
+            relist(d, record, answer, |list| list_too(list, |answer| answer[0] == DAT, byte::TAG_OP, TAG_OP_INVALID));
+        }
+    })),
+    wrong("answers", "plain SnpRespData_SD has Update under Dirty tags", Tells(|d, record, answer| {
+        if is_plain(d, record[byte::REQUEST]) && record[byte::TAG] == TAG_DIRTY {
+            relist(d, record, answer, |list| list_too(list, |answer| answer.starts_with(&[DAT, 1, RESP_SD]), byte::TAG_OP, UPDATE));
+        }
+    })),
+    wrong("answers", "plain answers with PD have Transfer under Dirty tags", Tells(|d, record, answer| {
+        if is_plain(d, record[byte::REQUEST]) && record[byte::TAG] == TAG_DIRTY {
+            relist(d, record, answer, |list| list_too(list, |answer| RESPS_WITH_PD.contains(&answer[2]), byte::TAG_OP, TRANSFER));
+        }
     })),
     wrong("answers", "the rows that B4.59 and B4.60 share are listed twice", Tells(|d, record, answer| {
         let question = question_in(record).0;
@@ -368,7 +405,9 @@ pub const WRONG: &[Wrong] = &[
     })),
     wrong("answers", "the NDERR answer is left out", Value(|d| d.rows.retain(|row| row.table != NDERR_ROW))),
     wrong("answers", "the rows of B4.60 are left out", Value(|d| d.rows.retain(|row| row.table != B4_60))),
-    wrong("answers", "B4.46 takes any TagOp", Value(|d| d.set_tag_column(B4_46, TagColumn::UpToUpdate))),
+    wrong("answers", "plain data carries any TagOp up to Update", Value(|d| d.set_tag_column(B4_46, TagColumn::UpToUpdate))),
+    wrong("answers", "B4.57 takes any TagOp up to Update", Value(|d| d.set_tag_column("B4.57", TagColumn::UpToUpdate))),
+    wrong("answers", "data under SnpPreferUnique carries any TagOp up to Update", Value(|d| widen(d, 21))),
     wrong("answers", "RetToSrc is ignored", Value(|d| rows(d, |row| row.ret_to_src = None))),
     wrong("answers", "DoNotGoToSD is ignored", Given(|_, record| record[byte::DO_NOT_GO_TO_SD] &= 254)),
     wrong("answers", "excl is ignored", Given(|_, record| record[byte::EXCL] &= 254)),
@@ -460,17 +499,24 @@ fn rows(definition: &mut Definition, change: fn(&mut Row)) {
     definition.rows.iter_mut().for_each(change);
 }
 
-/// Puts a TagOp in the place of another into a record's event that has this response to a snoop of B4.46 and one of these tags.
-fn plain_instead(definition: &Definition, record: &mut [u8], response: &'static str, tags: &[u8], tag_op: u8, other: u8) {
-    let bytes = Response::named(response).expect("a response has a name").bytes();
-    let event = &mut record[1..];
-    if definition.requests_of(B4_46).contains(&event[byte::REQUEST])
-        && tags.contains(&event[byte::TAG])
-        && event[byte::CHANNEL..=byte::FWD_STATE] == bytes
-        && event[byte::TAG_OP] == tag_op
-    {
-        event[byte::TAG_OP] = other;
-    }
+/// Lets data in answer to one plain snoop carry any TagOp up to Update.
+fn widen(definition: &mut Definition, request: u8) {
+    const WIDE: &str = "B4.46 with a wider tag column";
+    let wide: Vec<Row> = definition.rows.iter().filter(|row| row.table == B4_46).cloned().collect();
+    definition.rows.extend(wide.into_iter().map(|row| Row { table: WIDE, ..row }));
+    definition.tables.push((WIDE, vec![request]));
+    definition.set_tag_column(WIDE, TagColumn::UpToUpdate);
+}
+
+/// Whether a request is a plain snoop.
+fn is_plain(definition: &Definition, request: u8) -> bool {
+    definition.requests_of(B4_46).contains(&request)
+}
+
+/// Whether a record has an event of a plain snoop with data.
+fn is_plain_data(definition: &Definition, record: &[u8]) -> bool {
+    let event = handed_over(record);
+    event.len() == definition.event_bytes() && is_plain(definition, event[byte::REQUEST]) && event[byte::CHANNEL] == DAT
 }
 
 /// Puts a value in the place of another into a byte of a record's event.
