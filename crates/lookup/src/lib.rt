@@ -1,0 +1,5 @@
+// x
+pub fn nothing() -> u8
+{
+    0
+}
