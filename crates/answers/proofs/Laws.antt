@@ -19,13 +19,8 @@ use Rattle.answers.specs.declared.Question.{Question}
 use Rattle.answers.specs.declared.Listed.{Listed}
 use Rattle.answers.specs.Answers.{questionBytes}
 use Rattle.answers.specs.Listed.{answerLength, asking, joined}
-use Rattle.answers.specs.Table.{beyond, lists, spans, numbers, answers, contextCount, listCount, numberCount, firstOnDat}
+use Rattle.answers.specs.Table.{lists, spans, numbers, answers, contextCount, listCount, numberCount, firstOnDat}
 use Rattle.answers.specs.Code.{tablesOf, contextOf, spanOf, nineOf, answerAt, answersAt}
-
--- a number that is none of the first n is past them
-pub beyond-le : (n number : ℕ) → beyond number n → n ≤ number
-beyond-le zero number h = omega arith
-beyond-le (suc n) number h = omega (arith, beyond-le n number (h .0), h .1)
 
 -- the choices of `tables`, each from the one before
 pub tables-by : (request excl plain unique r : ℕ) → plain ≡ cond (eqb request 18 || eqb request 20) 1 0 → unique ≡ cond (eqb excl 0) 3 2

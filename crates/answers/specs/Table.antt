@@ -1,6 +1,5 @@
 -- The lists of permitted answers as the code has them. No public claim names this file. scripts/answer-lists writes this file from the printed rows.
-use Prim.Native.Nat.{ℕ, zero, suc}
-use mathlib.Core.Path.{_≡_}
+use Prim.Native.Nat.{ℕ}
 use mathlib.Core.List.{List, [], _∷_}
 
 -- the list of each context, by tables, RetToSrc and DoNotGoToSD; a line has the seven states before, without and with Dirty tags
@@ -88,8 +87,3 @@ answerCount = 95
 -- the number of the first answer on DAT
 abbrev pub firstOnDat : ℕ
 firstOnDat = 13
-
--- the number is none of the first n
-abbrev pub beyond : ℕ → ℕ → Type 0
-beyond number zero = Unit
-beyond number (suc n) = beyond number n × (number ≡ n → ⊥)

@@ -1,7 +1,8 @@
 // The lists of permitted answers as the code reads them. scripts/answer-lists writes this file from the printed rows.
 ghost use mathlib.Core.Path.{_≡_};
 ghost use lib.ListN.{getD};
-ghost use Rattle.answers.specs.Table.{answers, beyond};
+ghost use Rattle.kinds.specs.Tests.{beyond};
+ghost use Rattle.answers.specs.Table.{answers};
 
 // How many contexts there are.
 pub const CONTEXTS: usize = 224;

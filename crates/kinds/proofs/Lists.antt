@@ -3,12 +3,12 @@
 use mathlib.Core.Path.{_≡_, refl, sym, _∙_, ap, ap₂}
 use mathlib.Core.Bool.{Bool, true, false, _&&_, _||_, false≢true, or-false, or-assoc}
 use mathlib.Core.List.{List, [], _∷_, _++_, map}
-use Prim.Native.Nat.{ℕ, zero, suc, _<_}
+use Prim.Native.Nat.{ℕ, zero, suc, _<_, _≤_}
 use native.Mathlib.Omega.{arith}
 use borrow.Author.Tests.{eqb-true}
 use lib.Dec.{eqb}
 use lib.ListN.{getD}
-use Rattle.kinds.specs.Tests.{any, all, same, _∈?_}
+use Rattle.kinds.specs.Tests.{any, all, same, _∈?_, beyond}
 use Rattle.kinds.specs.Codes.{I, UC, UCE, UD, UDP, SC, SD, states}
 
 -- the element is in the list
@@ -107,3 +107,8 @@ same-equal [] (y ∷ ys) h = absurd (false≢true h)
 same-equal (x ∷ xs) [] h = absurd (false≢true h)
 same-equal (x ∷ xs) (y ∷ ys) h =
     ap₂ _∷_ (eqb-true x y (and-left (eqb x y) (same xs ys) h)) (same-equal xs ys (and-right (eqb x y) (same xs ys) h))
+
+-- a number that is none of the first n is not below n
+pub beyond-le : (n number : ℕ) → beyond number n → n ≤ number
+beyond-le zero number h = omega arith
+beyond-le (suc n) number h = omega (arith, beyond-le n number (h .0), h .1)

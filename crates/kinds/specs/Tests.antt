@@ -2,7 +2,8 @@
 -- How to read these files: `f x y` is f of x and y. A definition is a line with its type and a line with its value. The words before the
 -- name (abbrev, unfoldable, pub) concern the checker only. `a ∷ b ∷ []` is the list of a and b. `cond t a b` is a if t is true, else b.
 -- `λ x. ..` is the function of x. `&&`, `||` and `not` are and, or and not. `r .field` is a field of r.
-use Prim.Native.Nat.{ℕ}
+use Prim.Native.Nat.{ℕ, zero, suc}
+use mathlib.Core.Path.{_≡_}
 use mathlib.Core.Bool.{Bool, true, false, _&&_, _||_}
 use mathlib.Core.List.{List, [], _∷_}
 use lib.Dec.{eqb}
@@ -28,3 +29,8 @@ same [] [] = true
 same [] (y ∷ ys) = false
 same (x ∷ xs) [] = false
 same (x ∷ xs) (y ∷ ys) = eqb x y && same xs ys
+
+-- the number is none of the first n: what the last arm of a `match` with n arms knows
+abbrev pub beyond : ℕ → ℕ → Type 0
+beyond number zero = Unit
+beyond number (suc n) = beyond number n × (number ≡ n → ⊥)

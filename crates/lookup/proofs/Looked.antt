@@ -1,19 +1,20 @@
 -- What is looked up is what the rows permit: one fact, computed for every snoop in range and every answer of the rows.
 -- Assumes nothing.
-use mathlib.Core.Path.{_≡_, refl, sym, _∙_, ap, ap₂, subst}
-use mathlib.Core.Bool.{Bool, true, false, cond, not, _&&_, _||_}
+use mathlib.Core.Path.{_≡_, refl}
+use mathlib.Core.Bool.{Bool, true, cond, not, _&&_, _||_}
 use mathlib.Core.List.{List, [], _∷_}
-use Prim.Native.Nat.{ℕ, _+_, _*_, _/_, _%_}
+use Prim.Native.Nat.{ℕ, _+_, _*_, _/_, _%_, _^_}
 use lib.Dec.{eqb}
 use Rattle.kinds.specs.Tests.{any, all, _∈?_}
-use Rattle.kinds.specs.Codes.{requests, NDERR, respPD, fwdPD}
+use Rattle.kinds.specs.Codes.{requests, tags, NDERR, respPD, fwdPD}
+use Rattle.kinds.specs.Answers.{wire}
 use Rattle.sets.specs.Sets.{setOf}
-use Rattle.rows.specs.Event.{respOf, fwdStateOf, respErrOf}
+use Rattle.rows.specs.Event.{byte, respOf, fwdStateOf, respErrOf}
 use Rattle.rows.specs.Rows.{Row, rows}
-use Rattle.rows.specs.Permitted.{asked, answered, tagged, someTag}
+use Rattle.rows.specs.Permitted.{asked, answered, tagged, someTag, tagsAllow, tagOps, rulesOf}
 use Rattle.steps.specs.Steps.{noDuty, Home, Requester, lost}
-use Rattle.lookup.specs.Table.{keys}
-use Rattle.lookup.specs.Code.{kindOf, effectBy, effect}
+use Rattle.lookup.specs.Table.{keys, slots}
+use Rattle.lookup.specs.Code.{kindOf, entryOf, effectBy, from, to, told}
 
 -- the event with this snoop and this packed answer, whose state after was not seen
 abbrev pub eventOf : ℕ → ℕ → ℕ → ℕ → ℕ → ℕ → List ℕ
@@ -45,28 +46,60 @@ toldBy e = cond (respPD (respOf e)) Home (cond (fwdPD (fwdStateOf e)) Requester 
 
 -- an effect says what these rows say: their states before, and for each the states after and the duty
 unfoldable pub says : ℕ → ℕ → List Row → Bool
-says n told rs =
-    eqb (n % 256) (setOf (λ s. any (λ r. eqb s (r .before)) rs))
-    && all (λ r. eqb (n / 256 % 256) (setOf (λ s. s ∈? r .finals)) && eqb (n / 65536) told) rs
+says n duty rs =
+    eqb (from n) (setOf (λ s. any (λ r. eqb s (r .before)) rs))
+    && all (λ r. eqb (to n) (setOf (λ s. s ∈? r .finals)) && eqb (told n) duty) rs
 
 -- the effect of an answer, of which these are the kind and the rows, says what its rows for a snoop say
-unfoldable rightSnoop : ℕ → List Row → ℕ → ℕ → ℕ → ℕ → ℕ → ℕ → Bool
+unfoldable pub rightSnoop : ℕ → List Row → ℕ → ℕ → ℕ → ℕ → ℕ → ℕ → Bool
 rightSnoop kind rs key request ret no-sd excl tag =
     let e = eventOf request ret no-sd excl tag key in
     says (effectBy request (flagsOf ret no-sd excl tag) kind) (toldBy e) (kept (forSnoop e) rs)
 
-abbrev flag : List ℕ
+-- the values of a flag, and of a tag state that may not have been seen
+abbrev pub flag : List ℕ
 flag = 0 ∷ 1 ∷ []
 
--- the same for every snoop in range
-unfoldable rightSnoops : ℕ → List Row → ℕ → Bool
-rightSnoops kind rs key =
-    all (λ request. all (λ ret. all (λ no-sd. all (λ excl. all (λ tag. rightSnoop kind rs key request ret no-sd excl tag) (0 ∷ 1 ∷ 2 ∷ 3 ∷ [])) flag) flag) flag) requests
+abbrev pub tagSeen : List ℕ
+tagSeen = 0 ∷ 1 ∷ 2 ∷ 3 ∷ []
 
-unfoldable rightAnswer : ℕ → Bool
+-- the same for every snoop in range
+unfoldable pub rightSnoops : ℕ → List Row → ℕ → Bool
+rightSnoops kind rs key =
+    all (λ request. all (λ ret. all (λ no-sd. all (λ excl. all (λ tag. rightSnoop kind rs key request ret no-sd excl tag) tagSeen) flag) flag) flag) requests
+
+unfoldable pub rightAnswer : ℕ → Bool
 rightAnswer key = rightSnoops (kindOf key % 32) (kept (forAnswer (eventOf 0 0 0 0 0 key)) rows) key
 
 -- THE COMPUTED FACT
-all-right : all rightAnswer keys ≡ true
+pub all-right : all rightAnswer keys ≡ true
 unfolding rightAnswer rightSnoops rightSnoop says toldBy forAnswer forSnoop kept rows asked answered tagged someTag setOf kindOf
 all-right = refl
+
+-- the packed answer, from its six bytes, TagOp and RespErr
+abbrev pub packedBy : List ℕ → ℕ → ℕ → ℕ
+packedBy w op error = byte w 0 + byte w 1 * 256 + byte w 2 * 65536 + byte w 3 * 16777216 + (op + error * 256 + byte w 4 * 65536 + byte w 5 * 16777216) * 32
+
+-- the answer of every row, with each TagOp and RespErr that the row permits with some tag state, is among the answers
+unfoldable pub keyed : Row → Bool
+keyed r =
+    all
+    (λ t.
+    not (tagsAllow t (r .before) (r .answer))
+    || all (λ op. all (λ error. packedBy (wire (r .answer)) op error ∈? keys) (rulesOf (r .table) .errors (r .answer))) (tagOps t (r .table) (r .before) (r .answer)))
+    tags
+
+pub all-keyed : all keyed rows ≡ true
+unfolding keyed rows
+all-keyed = refl
+
+-- a slot is empty, or has one of the answers
+abbrev pub taken : ℕ → Bool
+taken slot = eqb slot 0 || (slot % 2 ^ 32 ∈? keys)
+
+pub all-taken : all taken slots ≡ true
+all-taken = refl
+
+-- no request has an entry for kind 0
+pub no-kind : all (λ request. eqb (entryOf request 0) 0) requests ≡ true
+no-kind = refl

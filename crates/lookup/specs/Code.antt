@@ -1,8 +1,14 @@
--- What is looked up for an event, as the code computes it. No public claim names this file.
+-- What is looked up for an event, and what it says. That it says what the rows permit is `says-so` in proofs/Looked.antt.
 use Prim.Native.Nat.{ℕ, _+_, _*_, _/_, _%_, _^_}
 use mathlib.Core.Bool.{cond}
+use mathlib.Core.List.{List, map}
 use lib.ListN.{getD}
 use lib.Dec.{eqb}
+use lib.Bits.{bitAnd}
+use Rattle.kinds.specs.Codes.{states, stateNotSeen}
+use Rattle.sets.specs.Sets.{setOf, bit}
+use Rattle.words.specs.Words.{half}
+use Rattle.rows.specs.Event.{requestOf, stateAfterOf, seen}
 use Rattle.lookup.specs.Table.{factor, slots, starts, choices, entries}
 
 -- the slot of a packed answer: bits 24 to 30 of its product with the factor
@@ -23,7 +29,7 @@ gather = 2 ^ 3 + 2 ^ 10 + 2 ^ 17 + 2 ^ 24
 
 -- the context, from the flags of the snoop: RetToSrc, DoNotGoToSD, excl and tag state, the lowest first
 abbrev pub contextOf : ℕ → ℕ
-contextOf flags = flags % 2 ^ 32 * gather / 2 ^ 24 % 32
+contextOf flags = flags * gather / 2 ^ 24 % 32
 
 -- an effect, from the entry and which of its sets of states before holds
 abbrev pub effectIn : ℕ → ℕ → ℕ
@@ -42,5 +48,31 @@ abbrev pub effectBy : ℕ → ℕ → ℕ → ℕ
 effectBy request flags kind = effectIn (entryOf request kind) (choiceOf kind flags)
 
 -- the effect, by request, flags of the snoop and packed answer
-unfoldable pub effect : ℕ → ℕ → ℕ → ℕ
-effect request flags answer = effectBy request flags (kindOf answer % 32)
+unfoldable pub lookedUp : ℕ → ℕ → ℕ → ℕ
+lookedUp request flags answer = effectBy request flags (kindOf answer % 32)
+
+-- the answer's eight bytes packed into 32 bits: the first four, and the last four five bits higher, where no field in range meets another
+unfoldable pub packed : List ℕ → ℕ
+packed e = half e 5 + half e 9 * 32
+
+-- the effect of an event
+unfoldable pub effectOf : List ℕ → ℕ
+effectOf e = lookedUp (requestOf e) (half e 1) (packed e)
+
+-- Of an effect, a byte each: the states before from which the event is a step, the states after, and the duty.
+abbrev pub from : ℕ → ℕ
+from n = n % 256
+
+abbrev pub to : ℕ → ℕ
+to n = n / 256 % 256
+
+abbrev pub told : ℕ → ℕ
+told n = n / 65536 % 256
+
+-- the states after that are looked up, as far as they were seen
+unfoldable pub left : List ℕ → ℕ
+left e = bitAnd (to (effectOf e)) (setOf (seen stateNotSeen (stateAfterOf e)))
+
+-- for each of the seven states before, the set of states after
+unfoldable pub lookedSets : List ℕ → List ℕ
+lookedSets e = map (λ s. cond (bit (from (effectOf e)) s) (left e) 0) states

@@ -1,7 +1,8 @@
 // What the rows say, as the judge looks it up. scripts/lookup-tables writes this file from the printed rows.
 ghost use mathlib.Core.Path.{_≡_};
 ghost use lib.ListN.{getD};
-ghost use Rattle.lookup.specs.Table.{slots, starts, choices, entries, beyond};
+ghost use Rattle.kinds.specs.Tests.{beyond};
+ghost use Rattle.lookup.specs.Table.{slots, starts, choices, entries};
 
 // What spreads the packed answers over the slots, each in its own.
 pub const FACTOR: u64 = 251066943;

@@ -99,6 +99,12 @@ bit-past m n h k = ap (λ (d : ℕ). eqb (d % 2) 1) (div-eq-of-lt (lt-of-lt-of-l
 pub setOf-ext : (p q : ℕ → Bool) → ((n : ℕ) → p n ≡ q n) → setOf p ≡ setOf q
 setOf-ext p q h = ap setOf (fun-ext h)
 
+-- tests that agree on the seven states have the same set
+pub setOf-states : (p q : ℕ → Bool) → ((n : ℕ) → n < 7 → p n ≡ q n) → setOf p ≡ setOf q
+unfolding setOf
+setOf-states p q h =
+    cc (h I (omega arith), h UC (omega arith), h UCE (omega arith), h UD (omega arith), h UDP (omega arith), h SC (omega arith), h SD (omega arith))
+
 -- the set of a test that no state passes is 0
 none : setOf (λ n. false) ≡ 0
 unfolding setOf

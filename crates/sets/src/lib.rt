@@ -34,7 +34,7 @@ pub fn holds_dirty(set: u8) -> bool
 }
 
 // The given set if the state is in the set before, else the empty set.
-fn from_state(before: u8, state: LineState, states: u8) -> u8
+pub fn from_state(before: u8, state: LineState, states: u8) -> u8
     ensures { λ r. ⌜ r ≡ cond (bit «before» (state .0)) states 0 ⌝ }
 {
     kinds::choose_byte(has(before, state), states, 0)

@@ -25,7 +25,7 @@ use Rattle.steps.specs.Code.{rowCount, at-key, rowAt, eventBytes, rowFit
 use Rattle.steps.proofs.Walk.{half, keyed, Printed, walked, walk-turn}
 
 -- a test that all words and 0 pass is passed by word i, and by 0 past the end
-all-getD : (p : ℕ → Bool) (ws : List ℕ) (i : ℕ) → p 0 ≡ true → all p ws ≡ true → p (getD ws i 0) ≡ true
+pub all-getD : (p : ℕ → Bool) (ws : List ℕ) (i : ℕ) → p 0 ≡ true → all p ws ≡ true → p (getD ws i 0) ≡ true
 all-getD p [] i z h = z
 all-getD p (w ∷ ws) zero z h = and-left (p w) (all p ws) h
 all-getD p (w ∷ ws) (suc i) z h = all-getD p ws i z (and-right (p w) (all p ws) h)

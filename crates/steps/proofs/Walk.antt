@@ -29,7 +29,7 @@ use Rattle.rows.proofs.ByRows.{Permits, permitted-row, row-permitted}
 use Rattle.steps.specs.Code.{codeOf, rowCount, at-key, rowAt, eventBytes, rowFits, withRow, wireKey}
 
 -- the row leads from s to s′, with some tag state that the event may have and a state after that it may have
-by : List ℕ → ℕ → ℕ → Row → Bool
+unfoldable pub by : List ℕ → ℕ → ℕ → Row → Bool
 by e s s′ r = eqb s (r .before) && rowFits e (codeOf r) && ((s′ ∈? r .finals) && seen stateNotSeen (stateAfterOf e) s′)
 
 -- the set of states to which some of the rows lead from s
@@ -161,6 +161,10 @@ step-row e s s′ h =
     found-any (by e s s′) (p .inside)
     (and-both (and-both (p .from) (and-both (and-both (p .is-answered) (p .is-asked)) some)) (and-both (p .to) (and-right step last h)))
 
+-- the event is a step from s to s′ exactly when some row leads there
+pub rows-steps : (e : List ℕ) (s s′ : ℕ) → any (by e s s′) rows ≡ steps e s s′
+rows-steps e s s′ = same-truth (any (by e s s′) rows) (steps e s s′) (row-step e s s′) (step-row e s s′)
+
 -- after all rows the seven sets are the sets of the steps
 pub walk-all : (e : List ℕ) → walked (eventBytes e) rows ≡ setsAfter e
 unfolding walked reach setAfter
@@ -170,8 +174,7 @@ walk-all e = ap (λ (f : ℕ → ℕ). map f states) (fun-ext each)
     each s =
         setOf-ext (λ s′. any (by (eventBytes e) s s′) rows) (steps e s)
         (λ s′.
-        ap (λ (f : Row → Bool). any f rows) (fun-ext (same-bytes e s s′))
-        ∙ same-truth (any (by e s s′) rows) (steps e s s′) (row-step e s s′) (step-row e s s′))
+        ap (λ (f : Row → Bool). any f rows) (fun-ext (same-bytes e s s′)) ∙ rows-steps e s s′)
 
 -- before the first row the seven sets are empty
 pub walk-none : (e : List ℕ) → 0 ∷ 0 ∷ 0 ∷ 0 ∷ 0 ∷ 0 ∷ 0 ∷ [] ≡ walked e []

@@ -108,7 +108,7 @@ fn row_adds(e: &[u8; EVENT_BYTES], among: u8, row: Row) -> u8
 }
 
 // The states after that the event may have, as a set: the one that was seen, or all if none was seen.
-fn seen_states(shown: LineState) -> u8
+pub fn seen_states(shown: LineState) -> u8
     ensures { λ r. ⌜ r ≡ setOf (seen stateNotSeen (shown .0)) ⌝ }
 {
     let weights: [u8; 8] = [1, 2, 4, 8, 16, 32, 64, ALL_STATES];

@@ -3,8 +3,8 @@
 use mathlib.Core.Path.{sym}
 use lib.ListN.{List·getD-eq-default}
 use borrow.Author.Needs.{needs}
+use Rattle.kinds.proofs.Lists.{beyond-le}
 use Rattle.answers.specs.Table.{answers, answerCount}
-use Rattle.answers.proofs.Laws.{beyond-le}
 use Rattle.answers.proofs.table.past.Statement.{statement}
 use Rattle.answers.proofs.table.past.Tie as tie
 

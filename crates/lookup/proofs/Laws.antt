@@ -1,0 +1,50 @@
+-- Laws about what the functions compute, over plain variables.
+-- Assumes nothing.
+use mathlib.Core.Path.{_≡_, refl, sym, _∙_, ap, ap₂}
+use mathlib.Core.Bool.{Bool, true, cond}
+use mathlib.Core.List.{List}
+use Prim.Native.Nat.{ℕ, _+_, _*_, _/_, _%_, _^_, _<_, _≤_}
+use borrow.Author.Tests.{eq-eqb, ne-eqb, leb-true}
+use lib.Dec.{eqb, leb}
+use lib.ListN.{getD}
+use Rattle.words.specs.Words.{half}
+use Rattle.rows.specs.Event.{requestOf}
+use Rattle.steps.proofs.Passing.{all-getD}
+use Rattle.lookup.specs.Table.{slots, starts, choices, entries}
+use Rattle.lookup.specs.Code.{slotOf, kindIn, kindOf, contextOf, entryOf, choiceOf, effectIn, effectBy, lookedUp, packed, effectOf}
+
+-- the slot has the answer, or it does not
+pub kind-found : (answer slot : ℕ) → slot ≡ getD slots (slotOf answer) 0 → slot % 2 ^ 32 ≡ answer → slot / 2 ^ 32 ≡ kindOf answer
+unfolding kindOf
+kind-found answer slot h k =
+    sym (ap (λ (b : Bool). cond b (slot / 2 ^ 32) 0) (eq-eqb (slot % 2 ^ 32) answer k)) ∙ ap (λ (n : ℕ). kindIn n answer) h
+
+pub kind-none : (answer slot : ℕ) → slot ≡ getD slots (slotOf answer) 0 → (slot % 2 ^ 32 ≡ answer → ⊥) → 0 ≡ kindOf answer
+unfolding kindOf
+kind-none answer slot h k =
+    sym (ap (λ (b : Bool). cond b (slot / 2 ^ 32) 0) (ne-eqb (slot % 2 ^ 32) answer k)) ∙ ap (λ (n : ℕ). kindIn n answer) h
+
+-- where the entries of a request start, 96 at most
+pub start-most : (n : ℕ) → getD starts n 0 ≤ 96
+start-most n = leb-true (getD starts n 0) 96 (all-getD (λ m. leb m 96) starts n refl refl)
+
+-- the entry of a request and a kind, from where the request's entries start
+pub entry-by : (request kind start n : ℕ) → start ≡ getD starts (request % 32) 0 → n ≡ getD entries ((start + kind) % 128) 0 → n ≡ entryOf request kind
+entry-by request kind start n h k = k ∙ ap (λ (m : ℕ). getD entries ((m + kind) % 128) 0) h
+
+-- two bits of the choices of a kind
+pub choice-by : (kind flags context c : ℕ) → context ≡ contextOf flags → c ≡ getD choices kind 0 → c / 2 ^ (context * 2) % 4 ≡ choiceOf kind flags
+choice-by kind flags context c h k = ap₂ (λ (x y : ℕ). x / 2 ^ (y * 2) % 4) k h
+
+-- the effect of a packed answer, from its kind, the entry and the choice
+pub effect-by : (request flags answer kind entry choice : ℕ) → kind ≡ kindOf answer → entry ≡ entryOf request (kind % 32) → choice ≡ choiceOf (kind % 32) flags
+    → effectIn entry choice ≡ lookedUp request flags answer
+unfolding lookedUp
+effect-by request flags answer kind entry choice h k l =
+    ap₂ effectIn k l ∙ ap (λ (n : ℕ). effectBy request flags (n % 32)) h
+
+-- the effect of an event, from its parts
+pub effect-parts : (e : List ℕ) (request flags answer n : ℕ) → request ≡ requestOf e → flags ≡ half e 1 → answer ≡ packed e → n ≡ lookedUp request flags answer → n ≡ effectOf e
+unfolding effectOf
+effect-parts e request flags answer n h k l p =
+    p ∙ ap₂ (λ (x y : ℕ). lookedUp x y answer) h k ∙ ap (lookedUp (requestOf e) (half e 1)) l
