@@ -6,15 +6,15 @@ use mathlib.Core.List.{List, [], _∷_}
 use Prim.Native.Nat.{ℕ, _+_, _*_, _/_, _%_, _^_}
 use lib.Dec.{eqb}
 use Rattle.kinds.specs.Tests.{any, all, _∈?_}
-use Rattle.kinds.specs.Codes.{requests, tags, NDERR, respPD, fwdPD}
+use Rattle.kinds.specs.Codes.{allStates, requests, tags}
 use Rattle.kinds.specs.Answers.{wire}
-use Rattle.sets.specs.Sets.{setOf}
-use Rattle.rows.specs.Event.{byte, respOf, fwdStateOf, respErrOf}
+use Rattle.sets.specs.Sets.{setOf, bit}
+use Rattle.rows.specs.Event.{byte, respErrOf}
 use Rattle.rows.specs.Rows.{Row, rows}
 use Rattle.rows.specs.Permitted.{asked, answered, tagged, someTag, tagsAllow, tagOps, rulesOf}
-use Rattle.steps.specs.Steps.{noDuty, Home, Requester, lost}
+use Rattle.steps.specs.Steps.{duty}
 use Rattle.lookup.specs.Table.{keys, slots}
-use Rattle.lookup.specs.Code.{kindOf, entryOf, effectBy, from, to, told}
+use Rattle.lookup.specs.Code.{kindOf, entryOf, effectBy, from, to, told, unlessLost}
 
 -- the event with this snoop and this packed answer, whose state after was not seen
 abbrev pub eventOf : ℕ → ℕ → ℕ → ℕ → ℕ → ℕ → List ℕ
@@ -40,21 +40,18 @@ forAnswer e r = answered e (r .table) (r .answer)
 unfoldable pub forSnoop : List ℕ → Row → Bool
 forSnoop e r = asked e (r .table) (r .ret) (r .marked) && someTag e (r .table) (r .before) (r .answer)
 
--- the duty that an event tells, from whatever set
-unfoldable pub toldBy : List ℕ → ℕ
-toldBy e = cond (respPD (respOf e)) Home (cond (fwdPD (fwdStateOf e)) Requester (cond (eqb (respErrOf e) NDERR) lost noDuty))
-
--- an effect says what these rows say: their states before, and for each the states after and the duty
-unfoldable pub says : ℕ → ℕ → List Row → Bool
-says n duty rs =
+-- an effect says what these rows say of the event: their states before, and for each the states after and the duty, from a set with a
+-- Dirty state and from one without
+unfoldable pub says : ℕ → List ℕ → List Row → Bool
+says n e rs =
     eqb (from n) (setOf (λ s. any (λ r. eqb s (r .before)) rs))
-    && all (λ r. eqb (to n) (setOf (λ s. s ∈? r .finals)) && eqb (told n) duty) rs
+    && all (λ r. eqb (to n) (setOf (λ s. s ∈? r .finals)) && (eqb (told n) (duty e allStates) && eqb (unlessLost (respErrOf e) (told n)) (duty e 0))) rs
 
 -- the effect of an answer, of which these are the kind and the rows, says what its rows for a snoop say
 unfoldable pub rightSnoop : ℕ → List Row → ℕ → ℕ → ℕ → ℕ → ℕ → ℕ → Bool
 rightSnoop kind rs key request ret no-sd excl tag =
     let e = eventOf request ret no-sd excl tag key in
-    says (effectBy request (flagsOf ret no-sd excl tag) kind) (toldBy e) (kept (forSnoop e) rs)
+    says (effectBy request (flagsOf ret no-sd excl tag) kind) e (kept (forSnoop e) rs)
 
 -- the values of a flag, and of a tag state that may not have been seen
 abbrev pub flag : List ℕ
@@ -73,7 +70,7 @@ rightAnswer key = rightSnoops (kindOf key % 32) (kept (forAnswer (eventOf 0 0 0 
 
 -- THE COMPUTED FACT
 pub all-right : all rightAnswer keys ≡ true
-unfolding rightAnswer rightSnoops rightSnoop says toldBy forAnswer forSnoop kept rows asked answered tagged someTag setOf kindOf
+unfolding rightAnswer rightSnoops rightSnoop says duty forAnswer forSnoop kept rows asked answered tagged someTag setOf bit kindOf
 all-right = refl
 
 -- the packed answer, from its six bytes, TagOp and RespErr

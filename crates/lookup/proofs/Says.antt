@@ -10,7 +10,7 @@ use borrow.Author.Tests.{eqb-true, eqb-false}
 use lib.Dec.{eqb}
 use lib.ListN.{getD}
 use Rattle.kinds.specs.Tests.{any, all, _∈?_}
-use Rattle.kinds.specs.Codes.{requests, tags, tagNotSeen, stateNotSeen}
+use Rattle.kinds.specs.Codes.{allStates, requests, tags, tagNotSeen, stateNotSeen}
 use Rattle.kinds.specs.Answers.{wire}
 use Rattle.kinds.proofs.Lists.{any-found, found-any, all-at, one-of, and-left, and-right, and-both}
 use Rattle.sets.specs.Sets.{setOf, bit}
@@ -20,13 +20,13 @@ use Rattle.rows.specs.Event.{byte, requestOf, retToSrcOf, doNotGoToSDOf, exclOf
 use Rattle.rows.specs.Rows.{Row, rows}
 use Rattle.rows.specs.Permitted.{asked, answered, tagged, someTag, tagsAllow, tagOps, rulesOf}
 use Rattle.rows.proofs.Parts.{answered-so}
-use Rattle.steps.specs.Steps.{steps}
+use Rattle.steps.specs.Steps.{steps, duty}
 use Rattle.steps.specs.Code.{codeOf, rowFits}
 use Rattle.steps.proofs.Walk.{by, rows-steps}
 use Rattle.steps.proofs.Passing.{all-getD}
 use Rattle.lookup.specs.Table.{keys, slots}
-use Rattle.lookup.specs.Code.{slotOf, kindIn, kindOf, entryOf, choiceOf, effectIn, effectBy, lookedUp, packed, effectOf, from, to, told}
-use Rattle.lookup.proofs.Looked.{eventOf, flagsOf, kept, forAnswer, forSnoop, toldBy, says, flag, tagSeen, rightSnoop, rightSnoops, rightAnswer, all-right}
+use Rattle.lookup.specs.Code.{slotOf, kindIn, kindOf, entryOf, choiceOf, effectIn, effectBy, lookedUp, packed, effectOf, from, to, told, unlessLost}
+use Rattle.lookup.proofs.Looked.{eventOf, flagsOf, kept, forAnswer, forSnoop, says, flag, tagSeen, rightSnoop, rightSnoops, rightAnswer, all-right}
 use Rattle.lookup.proofs.Looked.{packedBy, keyed, all-keyed, taken, all-taken, no-kind}
 
 -- The bytes of the event are in their ranges, and its request is one of the seven.
@@ -148,12 +148,12 @@ module _ (e : List ℕ) (i : InRange e) where
       (i .channel) (i .opcode) (i .resp) (i .fwd-state) (i .tag-op) (i .error) (i .forwarded) (i .forwarded-resp)
       0 0 0 0 0
 
-  listed : key ∈? keys ≡ true → says (effectOf e) (toldBy e) (rowsFor e) ≡ true
-  unfolding effectOf lookedUp half rightSnoop forAnswer forSnoop toldBy asked answered someTag tagged
+  listed : key ∈? keys ≡ true → says (effectOf e) e (rowsFor e) ≡ true
+  unfolding effectOf lookedUp half rightSnoop says forAnswer forSnoop asked answered someTag tagged duty
   listed h =
       let n = effectBy (requestOf e) (flagsOf (retToSrcOf e) (doNotGoToSDOf e) (exclOf e) (tagOf e)) (kindOf key % 32) in
-      subst (λ (v : List ℕ). says n (toldBy (plain e)) (kept (forSnoop (plain e)) (kept (forAnswer v) rows)) ≡ true) answer-alone
-      (subst (λ (v : List ℕ). says n (toldBy v) (kept (forSnoop v) (kept (forAnswer (eventOf 0 0 0 0 0 key)) rows)) ≡ true) restored (by-fact h))
+      subst (λ (v : List ℕ). says n (plain e) (kept (forSnoop (plain e)) (kept (forAnswer v) rows)) ≡ true) answer-alone
+      (subst (λ (v : List ℕ). says n v (kept (forSnoop v) (kept (forAnswer (eventOf 0 0 0 0 0 key)) rows)) ≡ true) restored (by-fact h))
 
 -- an answer that no row has is of kind 0
 no-answer : (key : ℕ) → key ∈? keys ≡ false → kindOf key ≡ 0
@@ -219,17 +219,17 @@ no-rows-effect e i h =
     ap (λ (k : ℕ). effectBy (requestOf e) (half e 1) (k % 32)) (no-answer (packed e) h)
     ∙ no-effect (entryOf (requestOf e) 0) (choiceOf 0 (half e 1)) (eqb-true (entryOf (requestOf e) 0) 0 (one-of (λ q. eqb (entryOf q 0) 0) (requestOf e) requests (i .request) no-kind))
 
-none-said : (duty : ℕ) → says 0 duty [] ≡ true
+none-said : (e : List ℕ) → says 0 e [] ≡ true
 unfolding says setOf
-none-said duty = refl
+none-said e = refl
 
 -- THE EFFECT OF AN EVENT IN RANGE says what the rows for it say.
-pub says-so : (e : List ℕ) → InRange e → says (effectOf e) (toldBy e) (rowsFor e) ≡ true
+pub says-so : (e : List ℕ) → InRange e → says (effectOf e) e (rowsFor e) ≡ true
 says-so e i = go (packed e ∈? keys) refl
   where
-    go : (b : Bool) → packed e ∈? keys ≡ b → says (effectOf e) (toldBy e) (rowsFor e) ≡ true
+    go : (b : Bool) → packed e ∈? keys ≡ b → says (effectOf e) e (rowsFor e) ≡ true
     go true h = listed e i h
-    go false h = ap₂ (λ (n : ℕ) (rs : List Row). says n (toldBy e) rs) (no-rows-effect e i h) (no-rows e h) ∙ none-said (toldBy e)
+    go false h = ap₂ (λ (n : ℕ) (rs : List Row). says n e rs) (no-rows-effect e i h) (no-rows e h) ∙ none-said e
 
 -- the parts of `by` in the order in which rows are kept
 reordered : (a d c t y : Bool) → a && (d && c && t) && y ≡ d && (c && t && (a && y))
@@ -250,18 +250,18 @@ shared true false true = refl
 shared true false false = refl
 shared false b y = refl
 
-module _ (n duty s s′ : ℕ) (saw : Bool) (small : s′ < 7) where
+module _ (n s s′ : ℕ) (saw rest : Bool) (small : s′ < 7) where
   -- the rows from s that lead to s′, where all rows name the same states after
-  one-set : (rs : List Row) → all (λ r. eqb (to n) (setOf (λ m. m ∈? r .finals)) && eqb (told n) duty) rs ≡ true
+  one-set : (rs : List Row) → all (λ r. eqb (to n) (setOf (λ m. m ∈? r .finals)) && rest) rs ≡ true
       → any (λ r. eqb s (r .before) && ((s′ ∈? r .finals) && saw)) rs ≡ any (λ r. eqb s (r .before)) rs && (bit (to n) s′ && saw)
   one-set [] h = refl
   one-set (r ∷ rs) h =
       let p = eqb (to n) (setOf (λ m. m ∈? r .finals)) in
-      let q = all (λ x. eqb (to n) (setOf (λ m. m ∈? x .finals)) && eqb (told n) duty) rs in
-      let first = and-left p (eqb (told n) duty) (and-left (p && eqb (told n) duty) q h) in
+      let q = all (λ x. eqb (to n) (setOf (λ m. m ∈? x .finals)) && rest) rs in
+      let first = and-left p (rest) (and-left (p && rest) q h) in
       let in-set : bit (to n) s′ ≡ s′ ∈? r .finals =
       ap (λ (m : ℕ). bit m s′) (eqb-true (to n) (setOf (λ m. m ∈? r .finals)) first) ∙ bit-setOf (λ m. m ∈? r .finals) s′ small in
-      ap₂ (λ (x y : Bool). (eqb s (r .before) && (x && saw)) || y) (sym in-set) (one-set rs (and-right (p && eqb (told n) duty) q h))
+      ap₂ (λ (x y : Bool). (eqb s (r .before) && (x && saw)) || y) (sym in-set) (one-set rs (and-right (p && rest) q h))
       ∙ shared (eqb s (r .before)) (any (λ x. eqb s (x .before)) rs) (bit (to n) s′ && saw)
 
 -- the rows that lead from s to s′ are among those for the event
@@ -282,41 +282,56 @@ module _ (e : List ℕ) (i : InRange e) where
   abbrev n : ℕ
   n = effectOf e
 
+  -- the duty that is looked up is right
+  abbrev dutyRight : Bool
+  dutyRight = eqb (told n) (duty e allStates) && eqb (unlessLost (respErrOf e) (told n)) (duty e 0)
+
   from-rows : from n ≡ setOf (λ s. any (λ r. eqb s (r .before)) (rowsFor e))
   unfolding says
   from-rows =
       eqb-true (from n) (setOf (λ s. any (λ r. eqb s (r .before)) (rowsFor e)))
       (and-left (eqb (from n) (setOf (λ s. any (λ r. eqb s (r .before)) (rowsFor e))))
-      (all (λ r. eqb (to n) (setOf (λ s. s ∈? r .finals)) && eqb (told n) (toldBy e)) (rowsFor e))
+      (all (λ r. eqb (to n) (setOf (λ s. s ∈? r .finals)) && dutyRight) (rowsFor e))
       (says-so e i))
 
-  to-rows : all (λ r. eqb (to n) (setOf (λ s. s ∈? r .finals)) && eqb (told n) (toldBy e)) (rowsFor e) ≡ true
+  to-rows : all (λ r. eqb (to n) (setOf (λ s. s ∈? r .finals)) && dutyRight) (rowsFor e) ≡ true
   unfolding says
   to-rows =
       and-right (eqb (from n) (setOf (λ s. any (λ r. eqb s (r .before)) (rowsFor e))))
-      (all (λ r. eqb (to n) (setOf (λ s. s ∈? r .finals)) && eqb (told n) (toldBy e)) (rowsFor e))
+      (all (λ r. eqb (to n) (setOf (λ s. s ∈? r .finals)) && dutyRight) (rowsFor e))
       (says-so e i)
+
+  bit-from : (s : ℕ) → s < 7 → any (λ r. eqb s (r .before)) (rowsFor e) ≡ bit (from n) s
+  bit-from s h = sym (ap (λ (m : ℕ). bit m s) from-rows ∙ bit-setOf (λ x. any (λ r. eqb x (r .before)) (rowsFor e)) s h)
 
   -- AN EVENT IN RANGE IS A STEP exactly from the states and to the states that are looked up, if they were seen.
   pub looked-steps : (s s′ : ℕ) → s < 7 → s′ < 7 → steps e s s′ ≡ bit (from n) s && (bit (to n) s′ && seen stateNotSeen (stateAfterOf e) s′)
   looked-steps s s′ h k =
       sym (rows-steps e s s′)
       ∙ by-rowsFor e s s′
-      ∙ one-set n (toldBy e) s s′ (seen stateNotSeen (stateAfterOf e) s′) k (rowsFor e) to-rows
-      ∙ ap (λ (b : Bool). b && (bit (to n) s′ && seen stateNotSeen (stateAfterOf e) s′))
-      (sym (ap (λ (m : ℕ). bit m s) from-rows ∙ bit-setOf (λ x. any (λ r. eqb x (r .before)) (rowsFor e)) s h))
+      ∙ one-set n s s′ (seen stateNotSeen (stateAfterOf e) s′) dutyRight k (rowsFor e) to-rows
+      ∙ ap (λ (b : Bool). b && (bit (to n) s′ && seen stateNotSeen (stateAfterOf e) s′)) (bit-from s h)
 
   -- the set of states before holds only the seven states
   pub from-below : from n < 128
   from-below = subst (λ (m : ℕ). m < 128) (sym from-rows) (setOf-below (λ s. any (λ r. eqb s (r .before)) (rowsFor e)))
 
-  -- where the event is a step from some state, the duty that is looked up is the one that it tells
-  pub looked-told : (s : ℕ) → s < 7 → bit (from n) s ≡ true → (to n < 128) × (told n ≡ toldBy e)
-  looked-told s h k =
-      let f = any-found (λ r. eqb s (r .before)) (rowsFor e) (sym (ap (λ (m : ℕ). bit m s) from-rows ∙ bit-setOf (λ x. any (λ r. eqb x (r .before)) (rowsFor e)) s h) ∙ k) in
+  -- where the event is a step from some state, so does the set of states after, and the duty is the one that is looked up
+  pub record LookedDuty : Type 0 where
+    pub to-below : to n < 128
+    pub with-dirty : told n ≡ duty e allStates
+    pub without-dirty : unlessLost (respErrOf e) (told n) ≡ duty e 0
+
+  pub looked-duty : (s : ℕ) → s < 7 → bit (from n) s ≡ true → LookedDuty
+  looked-duty s h k =
+      let f = any-found (λ r. eqb s (r .before)) (rowsFor e) (bit-from s h ∙ k) in
       let r = f .one in
-      let both = all-at (λ x. eqb (to n) (setOf (λ m. m ∈? x .finals)) && eqb (told n) (toldBy e)) to-rows (f .inside) in
-      let p = eqb (to n) (setOf (λ m. m ∈? r .finals)) in (
-        subst (λ (m : ℕ). m < 128) (sym (eqb-true (to n) (setOf (λ m. m ∈? r .finals)) (and-left p (eqb (told n) (toldBy e)) both))) (setOf-below (λ m. m ∈? r .finals)),
-        eqb-true (told n) (toldBy e) (and-right p (eqb (told n) (toldBy e)) both),
-      )
+      let both = all-at (λ x. eqb (to n) (setOf (λ m. m ∈? x .finals)) && dutyRight) to-rows (f .inside) in
+      let p = eqb (to n) (setOf (λ m. m ∈? r .finals)) in
+      let a = eqb (told n) (duty e allStates) in
+      let b = eqb (unlessLost (respErrOf e) (told n)) (duty e 0) in
+      record {
+        to-below = subst (λ (m : ℕ). m < 128) (sym (eqb-true (to n) (setOf (λ m. m ∈? r .finals)) (and-left p dutyRight both))) (setOf-below (λ m. m ∈? r .finals));
+        with-dirty = eqb-true (told n) (duty e allStates) (and-left a b (and-right p dutyRight both));
+        without-dirty = eqb-true (unlessLost (respErrOf e) (told n)) (duty e 0) (and-right a b (and-right p dutyRight both));
+      }
