@@ -65,6 +65,24 @@ state-in =
 pub at-state : (f : ℕ → ℕ) (n : ℕ) → n < 7 → getD (map f states) n 0 ≡ f n
 at-state f = each-state (λ n. getD (map f states) n 0 ≡ f n) refl refl refl refl refl refl refl
 
+-- seven numbers, one per state
+pub seven : (f : ℕ → ℕ) (x₀ x₁ x₂ x₃ x₄ x₅ x₆ : ℕ)
+    → x₀ ≡ f 0 → x₁ ≡ f 1 → x₂ ≡ f 2 → x₃ ≡ f 3 → x₄ ≡ f 4 → x₅ ≡ f 5 → x₆ ≡ f 6
+    → x₀ ∷ x₁ ∷ x₂ ∷ x₃ ∷ x₄ ∷ x₅ ∷ x₆ ∷ [] ≡ map f states
+seven f x₀ x₁ x₂ x₃ x₄ x₅ x₆ h₀ h₁ h₂ h₃ h₄ h₅ h₆ =
+    ap₂ _∷_ h₀ (ap₂ _∷_ h₁ (ap₂ _∷_ h₂ (ap₂ _∷_ h₃ (ap₂ _∷_ h₄ (ap₂ _∷_ h₅ (ap₂ _∷_ h₆ refl))))))
+
+-- functions that agree on the seven states give the same list
+pub map-states : (f g : ℕ → ℕ) → ((s : ℕ) → s < 7 → f s ≡ g s) → map f states ≡ map g states
+map-states f g h =
+    seven g (f 0) (f 1) (f 2) (f 3) (f 4) (f 5) (f 6)
+    (h 0 (omega arith)) (h 1 (omega arith)) (h 2 (omega arith)) (h 3 (omega arith)) (h 4 (omega arith)) (h 5 (omega arith)) (h 6 (omega arith))
+
+-- tests that agree on the seven states agree on whether some state passes
+pub any-states : (p q : ℕ → Bool) → ((s : ℕ) → s < 7 → p s ≡ q s) → any p states ≡ any q states
+any-states p q h =
+    cc (h 0 (omega arith), h 1 (omega arith), h 2 (omega arith), h 3 (omega arith), h 4 (omega arith), h 5 (omega arith), h 6 (omega arith))
+
 module _ {ℓ} {A : Type ℓ} where
   -- an element that passes the test
   pub record Found (p : A → Bool) (xs : List A) : Type ℓ where

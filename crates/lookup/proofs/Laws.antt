@@ -2,16 +2,20 @@
 -- Assumes nothing.
 use mathlib.Core.Path.{_≡_, refl, sym, _∙_, ap, ap₂}
 use mathlib.Core.Bool.{Bool, true, cond}
-use mathlib.Core.List.{List}
+use mathlib.Core.List.{List, [], _∷_, map}
 use Prim.Native.Nat.{ℕ, _+_, _*_, _/_, _%_, _^_, _<_, _≤_}
 use borrow.Author.Tests.{eq-eqb, ne-eqb, leb-true}
+use lib.Bits.{bitAnd}
 use lib.Dec.{eqb, leb}
 use lib.ListN.{getD}
+use Rattle.kinds.specs.Codes.{states, stateNotSeen}
+use Rattle.kinds.proofs.Lists.{seven}
+use Rattle.sets.specs.Sets.{setOf, bit}
 use Rattle.words.specs.Words.{half}
-use Rattle.rows.specs.Event.{requestOf}
+use Rattle.rows.specs.Event.{requestOf, stateAfterOf, seen}
 use Rattle.steps.proofs.Passing.{all-getD}
 use Rattle.lookup.specs.Table.{slots, starts, choices, entries}
-use Rattle.lookup.specs.Code.{slotOf, kindIn, kindOf, contextOf, entryOf, choiceOf, effectIn, effectBy, lookedUp, packed, effectOf}
+use Rattle.lookup.specs.Code.{slotOf, kindIn, kindOf, contextOf, entryOf, choiceOf, effectIn, effectBy, lookedUp, packed, effectOf, from, to, spread, lookedSets}
 
 -- the slot has the answer, or it does not
 pub kind-found : (answer slot : ℕ) → slot ≡ getD slots (slotOf answer) 0 → slot % 2 ^ 32 ≡ answer → slot / 2 ^ 32 ≡ kindOf answer
@@ -48,3 +52,20 @@ pub effect-parts : (e : List ℕ) (request flags answer n : ℕ) → request ≡
 unfolding effectOf
 effect-parts e request flags answer n h k l p =
     p ∙ ap₂ (λ (x y : ℕ). lookedUp x y answer) h k ∙ ap (lookedUp (requestOf e) (half e 1)) l
+
+-- the seven sets of an effect, each from its own state
+pub spread-by : (n among f t x₀ x₁ x₂ x₃ x₄ x₅ x₆ : ℕ) → f ≡ from n → t ≡ to n
+    → x₀ ≡ cond (bit f 0) (bitAnd t among) 0 → x₁ ≡ cond (bit f 1) (bitAnd t among) 0 → x₂ ≡ cond (bit f 2) (bitAnd t among) 0
+    → x₃ ≡ cond (bit f 3) (bitAnd t among) 0 → x₄ ≡ cond (bit f 4) (bitAnd t among) 0 → x₅ ≡ cond (bit f 5) (bitAnd t among) 0
+    → x₆ ≡ cond (bit f 6) (bitAnd t among) 0 → x₀ ∷ x₁ ∷ x₂ ∷ x₃ ∷ x₄ ∷ x₅ ∷ x₆ ∷ [] ≡ spread n among
+unfolding spread
+spread-by n among f t x₀ x₁ x₂ x₃ x₄ x₅ x₆ hf ht h₀ h₁ h₂ h₃ h₄ h₅ h₆ =
+    seven (λ s. cond (bit f s) (bitAnd t among) 0) x₀ x₁ x₂ x₃ x₄ x₅ x₆ h₀ h₁ h₂ h₃ h₄ h₅ h₆
+    ∙ ap₂ (λ (x y : ℕ). map (λ s. cond (bit x s) (bitAnd y among) 0) states) hf ht
+
+-- the sets that are looked up, from their parts
+pub sets-parts : (e : List ℕ) (request flags answer n shown among : ℕ) (sets : List ℕ) → request ≡ requestOf e → flags ≡ half e 1 → answer ≡ packed e
+    → n ≡ lookedUp request flags answer → shown ≡ stateAfterOf e → among ≡ setOf (seen stateNotSeen shown) → sets ≡ spread n among → sets ≡ lookedSets e
+unfolding lookedSets
+sets-parts e request flags answer n shown among sets h k l p q r t =
+    t ∙ ap₂ spread (effect-parts e request flags answer n h k l p) (r ∙ ap (λ (x : ℕ). setOf (seen stateNotSeen x)) q)

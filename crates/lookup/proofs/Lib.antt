@@ -1,3 +1,4 @@
 pub mod Laws
 pub mod Looked
 pub mod Says
+pub mod Sets

@@ -74,10 +74,14 @@ told n = n / 65536 % 256
 abbrev pub unlessLost : ℕ → ℕ → ℕ
 unlessLost error duty = cond (eqb error NDERR) noDuty duty
 
--- the states after that are looked up, as far as they were seen
-unfoldable pub left : List ℕ → ℕ
-left e = bitAnd (to (effectOf e)) (setOf (seen stateNotSeen (stateAfterOf e)))
+-- an effect spread over the seven states before: its states after that are among those seen, from each state that it has
+unfoldable pub spread : ℕ → ℕ → List ℕ
+spread n among = map (λ s. cond (bit (from n) s) (bitAnd (to n) among) 0) states
+
+-- the states after that the event may have, as a set
+abbrev pub seenAfter : List ℕ → ℕ
+seenAfter e = setOf (seen stateNotSeen (stateAfterOf e))
 
 -- for each of the seven states before, the set of states after
 unfoldable pub lookedSets : List ℕ → List ℕ
-lookedSets e = map (λ s. cond (bit (from (effectOf e)) s) (left e) 0) states
+lookedSets e = spread (effectOf e) (seenAfter e)

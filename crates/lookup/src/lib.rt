@@ -3,7 +3,7 @@ use kinds::LineState;
 use kinds::place;
 ghost use Prim.Native.Nat.{_<_};
 ghost use mathlib.Core.Path.{_≡_};
-ghost use Rattle.lookup.specs.Code.{kindOf, contextOf, entryOf, choiceOf, lookedUp, packed, effectOf, from, to, told, left, lookedSets};
+ghost use Rattle.lookup.specs.Code.{kindOf, contextOf, entryOf, choiceOf, lookedUp, packed, effectOf, from, to, told, spread, lookedSets};
 
 mod table;
 
@@ -96,4 +96,32 @@ pub fn effect_of(event: &[u8]) -> Effect
     let request = rows::byte_at(event, place::REQUEST);
     let flags = words::half_at(event, place::RET_TO_SRC);
     Effect(look_up(request, flags, packed(event)))
+}
+
+// An effect spread over the seven states before: its states after, as far as they were seen, from each state that it has.
+fn spread(effect: Effect, seen: u8) -> [u8; 7]
+    ensures { λ r. ⌜ r ≡ spread (effect .0) seen ⌝ }
+{
+    let from = effect.from();
+    let left = effect.to() & seen;
+    [
+        sets::from_state(from, LineState::I, left),
+        sets::from_state(from, LineState::UC, left),
+        sets::from_state(from, LineState::UCE, left),
+        sets::from_state(from, LineState::UD, left),
+        sets::from_state(from, LineState::UDP, left),
+        sets::from_state(from, LineState::SC, left),
+        sets::from_state(from, LineState::SD, left),
+    ]
+}
+
+// For each of the seven states before, the set of states after (definition 6.2).
+pub fn sets_after(event: &[u8]) -> [u8; 7]
+    ensures { λ r. ⌜ r ≡ lookedSets (now (event .entry)) ⌝ }
+{
+    let request = rows::byte_at(event, place::REQUEST);
+    let flags = words::half_at(event, place::RET_TO_SRC);
+    let effect = Effect(look_up(request, flags, packed(event)));
+    let seen = steps::seen_states(LineState(rows::byte_at(event, place::STATE_AFTER)));
+    spread(effect, seen)
 }

@@ -1,7 +1,7 @@
 -- Laws about sets as bytes: a set is the same as a test on states, and operations on bytes are operations on tests.
 -- Assumes nothing.
 use mathlib.Core.Path.{_≡_, refl, sym, _∙_, ap, ap₂, fun-ext}
-use mathlib.Core.Bool.{Bool, true, false, cond, _&&_, _||_, true≢false}
+use mathlib.Core.Bool.{Bool, true, false, cond, not, _&&_, _||_, true≢false}
 use mathlib.Core.List.{List, [], _∷_, map}
 use Prim.Native.Nat.{ℕ, zero, suc, _+_, _*_, _/_, _%_, _^_, _<_, _≤_, min, max}
 use native.Mathlib.Nat.{add-zero, add-suc, suc-add, zero-add, le-of-suc-le-suc, not-suc-le-zero, div-one}
@@ -10,10 +10,10 @@ use lib.Pow.{pow-mono}
 use native.Mathlib.Omega.{arith}
 use borrow.Author.Tests.{ltb-true, ltb-false, eqb-true, eqb-false}
 use lib.Dec.{eqb, ltb}
-use lib.Bits.{bitAnd, bitOr, and-step, or-step, and-zero-l, or-zero-l, or-zero-r}
+use lib.Bits.{bitAnd, bitOr, and-shr, and-mod, and-le-l, and-step, or-step, and-zero-l, or-zero-l, or-zero-r}
 use Rattle.kinds.specs.Codes.{I, UC, UCE, UD, UDP, SC, SD, states, dirty}
 use Rattle.kinds.proofs.Laws.{or-7}
-use Rattle.kinds.proofs.Lists.{any-found, found-any, state-in}
+use Rattle.kinds.proofs.Lists.{any-found, found-any, state-in, and-left, and-right, and-both}
 use Rattle.kinds.specs.Tests.{any}
 use lib.ListN.{getD}
 use Rattle.sets.specs.Sets.{one, setOf, bit, holdsDirty, union, apply}
@@ -109,6 +109,21 @@ setOf-states p q h =
 none : setOf (λ n. false) ≡ 0
 unfolding setOf
 none = refl
+
+-- the states that are in both of two sets
+bit-both : (x y : ℕ) → x < 2 → y < 2 → eqb (bitAnd x y) 1 ≡ eqb x 1 && eqb y 1
+bit-both zero y h k = ap (λ (n : ℕ). eqb n 1) (and-zero-l y)
+bit-both (suc zero) zero h k = refl
+bit-both (suc zero) (suc zero) h k = refl
+bit-both (suc zero) (suc (suc y)) h k = absurd (omega arith)
+bit-both (suc (suc x)) y h k = absurd (omega arith)
+
+pub bit-and : (a b n : ℕ) → bit (bitAnd a b) n ≡ bit a n && bit b n
+unfolding bit
+bit-and a b n =
+    ap (λ (m : ℕ). eqb (m % 2) 1) (and-shr a b n)
+    ∙ ap (λ (m : ℕ). eqb m 1) (and-mod (a / 2 ^ n) (b / 2 ^ n) 1)
+    ∙ bit-both (a / 2 ^ n % 2) (b / 2 ^ n % 2) (omega arith) (omega arith)
 
 -- a set if the test is true, else the empty set
 pub cond-setOf : (b : Bool) (p : ℕ → Bool) → cond b (setOf p) 0 ≡ setOf (λ n. b && p n)
@@ -224,3 +239,26 @@ none-held m h none = go (eqb m 0) refl
     go : (b : Bool) → eqb m 0 ≡ b → m ≡ 0
     go true k = eqb-true m 0 k
     go false k = absurd (none (some-held m h (eqb-false m 0 k)))
+
+-- two sets, one of them of the seven states, meet exactly when some state is in both
+pub meet : (f m : ℕ) → f < 128 → any (λ s. bit m s && bit f s) states ≡ not (eqb (bitAnd f m) 0)
+meet f m h = go (eqb (bitAnd f m) 0) refl
+  where
+    small : bitAnd f m < 128
+    small = omega (arith, and-le-l f m)
+
+    go : (b : Bool) → eqb (bitAnd f m) 0 ≡ b → any (λ s. bit m s && bit f s) states ≡ not b
+    go true k = none-of (any (λ s. bit m s && bit f s) states) refl
+      where
+        none-of : (b : Bool) → any (λ s. bit m s && bit f s) states ≡ b → b ≡ false
+        none-of false l = refl
+        none-of true l =
+            let s = any-found (λ n. bit m n && bit f n) states l in
+            absurd
+            (held-some {m = bitAnd f m} (record { state = s .one; inside = bit-and f m (s .one) ∙ and-both (and-right (bit m (s .one)) (bit f (s .one)) (s .passes)) (and-left (bit m (s .one)) (bit f (s .one)) (s .passes)) })
+            (eqb-true (bitAnd f m) 0 k))
+    go false k =
+        let x = some-held (bitAnd f m) small (eqb-false (bitAnd f m) 0 k) in
+        let s = x .state in
+        let both : bit f s && bit m s ≡ true = sym (bit-and f m s) ∙ x .inside in
+        found-any (λ n. bit m n && bit f n) (state-in s (bit-state (bitAnd f m) s small (x .inside))) (and-both (and-right (bit f s) (bit m s) both) (and-left (bit f s) (bit m s) both))
