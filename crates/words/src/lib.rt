@@ -28,10 +28,10 @@ fn half_behind(bytes: &[u8], at: usize, places: usize) -> u32
 }
 
 // The four bytes from an offset on.
-pub fn half_at(bytes: &[u8], at: usize) -> u32
+pub fn half_at(bytes: &[u8], at: usize) -> u64
     ensures { λ r. ⌜ r ≡ half (now (bytes .entry)) at ⌝ }
 {
-    half_behind(bytes, at, 0)
+    half_behind(bytes, at, 0) as u64
 }
 
 // The eight bytes from an offset on.
