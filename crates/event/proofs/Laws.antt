@@ -1,14 +1,17 @@
 -- Laws about the refusals and the whole answer, over plain variables.
 -- Assumes nothing.
 use mathlib.Core.Path.{_≡_, refl, sym, _∙_, ap, ap₂}
-use mathlib.Core.Bool.{Bool, true, false, cond, _&&_, and-assoc, and-true}
-use mathlib.Core.List.{List, [], _∷_, map}
-use Prim.Native.Nat.{ℕ, suc, _+_, _<_, _≤_}
-use native.Mathlib.Numerals.{add-one}
-use borrow.Author.Tests.{eq-eqb, ne-eqb}
+use mathlib.Core.Bool.{Bool, true, false, cond, _&&_, and-assoc}
+use mathlib.Core.List.{List, [], _∷_, _++_, map}
+use Prim.Native.Nat.{ℕ, suc, _+_, _<_}
+use native.Mathlib.Nat.{add-zero}
+use native.Mathlib.Omega.{arith}
+use borrow.Author.Tests.{eq-eqb, ne-eqb, lt-ltb}
+use lib.Bits.{bitAnd}
 use lib.Dec.{eqb, ltb}
-use lib.ListN.{length, getD, drop, drop-of-length-le}
-use lib.Seq.{drop-cons}
+use lib.ListN.{length, getD, drop}
+use Rattle.words.specs.Words.{word}
+use Rattle.words.proofs.Laws.{wordOf, powers, masks, under, word-under}
 use Rattle.kinds.specs.Tests.{_∈?_}
 use Rattle.kinds.specs.Codes.{states}
 use Rattle.kinds.specs.Places.{eventLength}
@@ -19,18 +22,40 @@ use Rattle.event.specs.declared.Judgment.{Judgment}
 use Rattle.event.specs.Refusals.{Issue, issueE, below, fault, refusalAlone}
 use Rattle.event.specs.Alone.{sevenZeros, acceptedAlone, refusedAlone, judgedAlone}
 
--- one iteration of `in_range`
-pub below-turn : (e ls : List ℕ) (k : ℕ) (fine : Bool) (b : ℕ) → k < length ls → b ≡ byte e (k + 1) → fine && below e (suc k) (drop k ls) ≡ below e 1 ls
-    → fine && ltb b (getD ls k 0) && below e (suc (k + 1)) (drop (k + 1) ls) ≡ below e 1 ls
-below-turn e ls k fine b h p q =
-    and-assoc fine (ltb b (getD ls k 0)) (below e (suc (k + 1)) (drop (k + 1) ls))
-    ∙ ap (λ (x : Bool). fine && x) (ap₂ (λ (m n : ℕ). ltb m (getD ls k 0) && below e (suc n) (drop n ls)) (p ∙ ap (byte e) (add-one k)) (add-one k))
-    ∙ ap (λ (l : List ℕ). fine && below e (suc k) l) (sym (drop-cons ls k 0 h))
-    ∙ q
+-- the exponents of the limits of bytes 0 to 7 and of bytes 6 to 13, which are powers of two; 8 where a byte is free
+abbrev front : List ℕ
+front = 8 ∷ 1 ∷ 1 ∷ 1 ∷ 2 ∷ 1 ∷ 5 ∷ 3 ∷ []
 
--- after all limits, every byte is tested
-pub below-end : (e ls : List ℕ) (k : ℕ) (fine : Bool) → length ls ≤ k → fine && below e (suc k) (drop k ls) ≡ below e 1 ls → fine ≡ below e 1 ls
-below-end e ls k fine h q = sym (and-true fine) ∙ ap (λ (l : List ℕ). fine && below e (suc k) l) (sym (drop-of-length-le ls h)) ∙ q
+abbrev back : List ℕ
+back = 8 ∷ 8 ∷ 3 ∷ 2 ∷ 2 ∷ 1 ∷ 3 ∷ 3 ∷ []
+
+-- THE COMPUTED FACT: together they are the definition's limits
+front-back : drop 1 (powers front) ++ drop 2 (powers back) ≡ issueE .limits
+front-back = refl
+
+-- two lists of limits, one behind the other
+below-append : (e : List ℕ) (i : ℕ) (ls ms : List ℕ) → below e i ls && below e (i + length ls) ms ≡ below e i (ls ++ ms)
+below-append e i [] ms = ap (λ (n : ℕ). below e n ms) (add-zero i)
+below-append e i (l ∷ ls) ms =
+    let next : i + suc (length ls) ≡ suc i + length ls = omega arith in
+    and-assoc (ltb (byte e i) l) (below e (suc i) ls) (below e (i + suc (length ls)) ms)
+    ∙ ap (λ (t : Bool). ltb (byte e i) l && t)
+    (ap (λ (n : ℕ). below e (suc i) ls && below e n ms) next ∙ below-append e (suc i) ls ms)
+
+module _ (e : List ℕ) (bytes : (i : ℕ) → byte e i < 256) where
+  -- a free byte passes its test
+  both-under : under e 0 (powers front) && under e 6 (powers back) ≡ below e 1 (issueE .limits)
+  both-under =
+      rw (lt-ltb (byte e 0) 256 (bytes 0), lt-ltb (byte e 6) 256 (bytes 6), lt-ltb (byte e 7) 256 (bytes 7))
+      (below-append e 1 (drop 1 (powers front)) (drop 2 (powers back)))
+
+  -- the two tests of `in_range`
+  pub in-range-by : (x y : ℕ) → x ≡ word e 0 → y ≡ word e 6
+      → eqb (bitAnd x (wordOf (masks (powers front)))) 0 && eqb (bitAnd y (wordOf (masks (powers back)))) 0 ≡ below e 1 (issueE .limits)
+  in-range-by x y h k =
+      ap₂ (λ (m n : ℕ). eqb (bitAnd m (wordOf (masks (powers front)))) 0 && eqb (bitAnd n (wordOf (masks (powers back)))) 0) h k
+      ∙ ap₂ _&&_ (word-under e bytes 0 front refl) (word-under e bytes 6 back refl)
+      ∙ both-under
 
 -- every byte but the request has its limit
 pub limits-whole : suc (length (issueE .limits)) ≡ eventLength

@@ -13,29 +13,13 @@ ghost use Rattle.kinds.specs.Codes.{states};
 ghost use Rattle.event.specs.Refusals.{issueE, below, fault, refusalAlone};
 ghost use Rattle.event.specs.Alone.{judgedAlone};
 
-// The limit of each byte of an event from byte 1 on: the byte must be below it (definition 2.3).
-const LIMITS: [u8; EVENT_BYTES - 1] = [
-    // RetToSrc, DoNotGoToSD, excl
-    2,
-    2,
-    2,
-    // tag state
-    4,
-    // channel, opcode
-    2,
-    32,
-    // Resp, FwdState
-    8,
-    8,
-    // TagOp, RespErr
-    4,
-    4,
-    // forwarded data present, its Resp
-    2,
-    8,
-    // state after
-    8,
-];
+// The limits of bytes 1 to 7 (definition 2.3): the bits that a byte below its limit does not have, two digits for each byte, byte 0 last.
+// From byte 7 down: Resp below 8, opcode below 32, channel below 2, tag state below 4, excl, DoNotGoToSD and RetToSrc below 2; byte 0 is free.
+const FRONT: u64 = 0xF8_E0_FE_FC_FE_FE_FE_00;
+
+// The limits of bytes 8 to 13 likewise, byte 6 last.
+// From byte 13 down: state after below 8, the forwarded data's Resp below 8 and presence below 2, RespErr and TagOp below 4, FwdState below 8.
+const BACK: u64 = 0xF8_F8_FE_FC_FC_F8_00_00;
 
 // The answer to one event alone: for each of the seven states before, a set of states after and a duty.
 pub struct Judgment {
@@ -45,25 +29,18 @@ pub struct Judgment {
     pub duties: [u8; 7],
 }
 
-// Whether each byte of the event, from byte 1 on, is below its limit.
-fn in_range(event: &[u8], limits: &[u8]) -> bool
-    ensures { λ r. ⌜ r ≡ below (now (event .entry)) 1 (now (limits .entry)) ⌝ }
+// Whether each byte of the event, from byte 1 on, is below its limit: eight bytes at a time.
+fn in_range(event: &[u8]) -> bool
+    ensures { λ r. ⌜ r ≡ below (now (event .entry)) 1 (issueE .limits) ⌝ }
 {
-    let mut fine = true;
-    let mut k: usize = 0;
-    while k < limits.len() {
-        fine = fine & (rows::byte_at(event, k + 1) < limits[k]);
-        k += 1;
-    }
-    fine
+    (words::word_at(event, 0) & FRONT == 0) & (words::word_at(event, 6) & BACK == 0)
 }
 
 // The refusal number for an event's bytes: 4, then 5 (definition 4.1).
 pub fn fault(event: &[u8]) -> Refusal
     ensures { λ r. ⌜ r .0 ≡ fault issueE (now (event .entry)) ⌝ }
 {
-    let limits = LIMITS;
-    let fine = in_range(event, &limits);
+    let fine = in_range(event);
     let known = Request(rows::byte_at(event, place::REQUEST)).known();
     let request = kinds::choose_byte(known, Refusal::ACCEPTED.0, Refusal::REQUEST.0);
     Refusal(kinds::choose_byte(fine, request, Refusal::RANGE.0))

@@ -1,16 +1,11 @@
 -- `event::fault` meets its contract: the choices of the code are those of `fault`.
 -- Assumes nothing.
-use mathlib.Core.Path.{ap}
-use Prim.Native.Nat.{ℕ, _-_}
 use Rattle.event.specs.Refusals.{issueE}
-use Rattle.event.proofs.Laws.{limits-whole, fault-by}
+use Rattle.event.proofs.Laws.{fault-by}
 use denote.Ref.{now}
 use borrow.Author.Needs.{needs}
 use Rattle.event.proofs.fault.Statement.{statement}
 use Rattle.event.proofs.fault.Tie as tie
-
-slice-aggregate-in-range : tie.Need-slice-aggregate-in-range
-slice-aggregate-in-range c = ap (λ (n : ℕ). n - 1) limits-whole
 
 in-range-requires : tie.Need-in-range-requires
 in-range-requires c κs = search needs
@@ -33,7 +28,7 @@ returns c =
     let known = c .before .before .known in
     let byte-at = c .before .before .before .byte-at in
     let in-range = c .before .before .before .before .in-range in
-    let args = c .before .before .before .before .before .before .before .args in
+    let args = c .before .before .before .before .before .before .args in
     fault-by issueE (now (args .event)) (byte-at .result) (in-range .result) (known .result) (choose-byte .result) (c .choose-byte2 .result)
     (in-range .ensures) (byte-at .ensures) (known .ensures) (choose-byte .ensures) (c .choose-byte2 .ensures)
 
@@ -41,7 +36,6 @@ pub fault-spec : {M : Type 1} → statement M
 fault-spec =
     tie.close
     (tie.spec
-    slice-aggregate-in-range
     in-range-requires
     byte-at-requires
     known-requires
