@@ -10,8 +10,8 @@ use borrow.Author.Tests.{eq-eqb, ne-eqb, lt-ltb}
 use lib.Bits.{bitAnd}
 use lib.Dec.{eqb, ltb}
 use lib.ListN.{length, getD, drop}
-use Rattle.words.specs.Words.{word}
-use Rattle.words.proofs.Laws.{wordOf, powers, masks, under, word-under}
+use Rattle.words.specs.Words.{word, wordOf}
+use Rattle.words.proofs.Laws.{powers, masks, under, word-under}
 use Rattle.kinds.specs.Tests.{_∈?_}
 use Rattle.kinds.specs.Codes.{states}
 use Rattle.kinds.specs.Places.{eventLength}

@@ -1,42 +1,65 @@
 // Several bytes read as one number, the first byte lowest.
 ghost use Prim.Native.Nat.{_+_, _≤_};
 ghost use mathlib.Core.Path.{_≡_};
-ghost use lib.ListN.{getD};
-ghost use Rattle.words.specs.Words.{half, word};
+ghost use lib.ListN.{length, drop};
+ghost use Rattle.words.specs.Words.{half, word, wordOf};
 
-// The byte that stands some places behind an offset; 0 past the end.
-fn byte_behind(bytes: &[u8], at: usize, places: usize) -> u8
-    ensures { λ r. ⌜ r ≡ getD (now (bytes .entry)) (at + places) 0 ⌝ }
+// Four bytes that are all there.
+fn four(bytes: &[u8], at: usize) -> u32
+    requires { ⌜ at + 4 ≤ length (now bytes) ⌝ }
+    ensures { λ r. ⌜ r ≡ half (now (bytes .entry)) at ⌝ }
 {
-    if at < bytes.len() {
-        if places < bytes.len() - at {
-            return bytes[at + places];
-        }
+    (bytes[at] as u32)
+        + (bytes[at + 1] as u32) * 256
+        + (bytes[at + 2] as u32) * 65536
+        + (bytes[at + 3] as u32) * 16777216
+}
+
+// Eight bytes that are all there.
+fn eight(bytes: &[u8]) -> u64
+    requires { ⌜ 8 ≤ length (now bytes) ⌝ }
+    ensures { λ r. ⌜ r ≡ word (now (bytes .entry)) 0 ⌝ }
+{
+    (four(bytes, 0) as u64) + (four(bytes, 4) as u64) * 4294967296
+}
+
+// The bytes from an offset to the end, at most eight.
+fn last(bytes: &[u8], at: usize) -> u64
+    requires { ⌜ length (now bytes) ≤ at + 8 ⌝ }
+    ensures { λ r. ⌜ r ≡ wordOf (drop at (now (bytes .entry))) ⌝ }
+{
+    let mut number: u64 = 0;
+    let mut i = bytes.len();
+    while i > at {
+        i -= 1;
+        let byte = bytes[i] as u64;
+        number = number * 256 + byte;
     }
-    0
+    number
 }
 
-// The four bytes that stand some places behind an offset.
-fn half_behind(bytes: &[u8], at: usize, places: usize) -> u32
-    requires { ⌜ places ≤ 4 ⌝ }
-    ensures { λ r. ⌜ r ≡ half (now (bytes .entry)) (at + places) ⌝ }
-{
-    (byte_behind(bytes, at, places) as u32)
-        + (byte_behind(bytes, at, places + 1) as u32) * 256
-        + (byte_behind(bytes, at, places + 2) as u32) * 65536
-        + (byte_behind(bytes, at, places + 3) as u32) * 16777216
-}
-
-// The four bytes from an offset on.
+// The four bytes from an offset on; a byte past the end is 0.
 pub fn half_at(bytes: &[u8], at: usize) -> u64
     ensures { λ r. ⌜ r ≡ half (now (bytes .entry)) at ⌝ }
 {
-    half_behind(bytes, at, 0) as u64
+    if bytes.len() < 4 {
+        return last(bytes, at);
+    }
+    if at > bytes.len() - 4 {
+        return last(bytes, at);
+    }
+    four(bytes, at) as u64
 }
 
-// The eight bytes from an offset on.
+// The eight bytes from an offset on; a byte past the end is 0.
 pub fn word_at(bytes: &[u8], at: usize) -> u64
     ensures { λ r. ⌜ r ≡ word (now (bytes .entry)) at ⌝ }
 {
-    (half_behind(bytes, at, 0) as u64) + (half_behind(bytes, at, 4) as u64) * 4294967296
+    if bytes.len() < 8 {
+        return last(bytes, at);
+    }
+    if at > bytes.len() - 8 {
+        return last(bytes, at);
+    }
+    eight(&bytes[at..])
 }

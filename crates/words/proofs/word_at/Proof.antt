@@ -1,47 +1,54 @@
--- `words::word_at` meets its contract: two halves.
+-- `words::word_at` meets its contract: where fewer than eight bytes are left, those past the end are 0.
 -- Assumes nothing.
-use Prim.Native.Nat.{ℕ, _+_, _*_}
-use mathlib.Core.Path.{_∙_, ap, ap₂}
-use native.Mathlib.Nat.{add-zero}
-use denote.Ref.{now}
-use Rattle.words.specs.Words.{half, word}
+use mathlib.Core.Path.{_∙_}
+use native.Mathlib.Omega.{arith}
 use borrow.Author.Needs.{needs}
+use denote.Ref.{now}
+use Rattle.words.proofs.Laws.{word-last, word-part}
 use Rattle.words.proofs.word_at.Statement.{statement}
 use Rattle.words.proofs.word_at.Tie as tie
 
-half-behind-requires : tie.Need-half-behind-requires
-half-behind-requires c κs = search needs
-
-cast-result : tie.Need-cast-result
-cast-result c = search needs
-
-half-behind-requires-2 : tie.Need-half-behind-requires-2
-half-behind-requires-2 c κs = search needs
-
-cast-result-2 : tie.Need-cast-result-2
-cast-result-2 c = search needs
-
-mul-result : tie.Need-mul-result
-mul-result c = search needs
-
-add-result : tie.Need-add-result
-add-result c = search needs
+last-requires : tie.Need-last-requires
+last-requires c κs = search needs
 
 returns : tie.Need-returns
-unfolding word
-returns c =
-    ap₂ (λ (x y : ℕ). x + y * 4294967296)
-    (c .before .half-behind .ensures ∙ ap (half (now (c .before .before .before .args .bytes))) (add-zero (c .before .before .before .args .at)))
-    (c .half-behind2 .ensures)
+returns c = c .last .ensures ∙ word-last (now (c .before .before .before .args .bytes)) (c .before .before .before .args .at) (omega arith)
+
+sub-if2 : tie.Need-sub-if2
+sub-if2 c = search needs
+
+last-requires-2 : tie.Need-last-requires-2
+last-requires-2 c κs = search needs
+
+returns-2 : tie.Need-returns-2
+returns-2 c = c .last2 .ensures ∙ word-last (now (c .before .before .before .before .args .bytes)) (c .before .before .before .before .args .at) (omega arith)
+
+sub-eight : tie.Need-sub-eight
+sub-eight c = search needs
+
+part-eight-start : tie.Need-part-eight-start
+part-eight-start c = search needs
+
+part-eight-end : tie.Need-part-eight-end
+part-eight-end c = search needs
+
+eight-requires : tie.Need-eight-requires
+eight-requires c κs = search needs
+
+returns-3 : tie.Need-returns-3
+returns-3 c = c .eight .ensures ∙ word-part (now (c .before .before .before .before .before .args .bytes)) (c .before .before .before .before .before .args .at)
 
 pub word-at-spec : {M : Type 1} → statement M
 word-at-spec =
     tie.close
     (tie.spec
-    half-behind-requires
-    cast-result
-    half-behind-requires-2
-    cast-result-2
-    mul-result
-    add-result
-    returns)
+    last-requires
+    returns
+    sub-if2
+    last-requires-2
+    returns-2
+    sub-eight
+    part-eight-start
+    part-eight-end
+    eight-requires
+    returns-3)
