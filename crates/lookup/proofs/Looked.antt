@@ -75,7 +75,8 @@ all-right = refl
 
 -- the packed answer, from its six bytes, TagOp and RespErr
 abbrev pub packedBy : List ℕ → ℕ → ℕ → ℕ
-packedBy w op error = byte w 0 + byte w 1 * 256 + byte w 2 * 65536 + byte w 3 * 16777216 + (op + error * 256 + byte w 4 * 65536 + byte w 5 * 16777216) * 32
+packedBy w op error =
+    (byte w 0 + byte w 1 * 256 + byte w 2 * 65536 + byte w 3 * 16777216) % 2 ^ 32 + (op + error * 256 + byte w 4 * 65536 + byte w 5 * 16777216) % 2 ^ 32 * 32
 
 -- the answer of every row, with each TagOp and RespErr that the row permits with some tag state, is among the answers
 unfoldable pub keyed : Row → Bool

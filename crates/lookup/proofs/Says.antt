@@ -119,10 +119,22 @@ module _ (e : List ℕ) (i : InRange e) where
   abbrev key : ℕ
   key = packed e
 
-  restored : eventOf (requestOf e) (retToSrcOf e) (doNotGoToSDOf e) (exclOf e) (tagOf e) key ≡ plain e
+  abbrev eight : ℕ
+  eight = all-eight (channelOf e) (opcodeOf e) (respOf e) (fwdStateOf e) (tagOpOf e) (respErrOf e) (forwardedOf e) (forwardedRespOf e)
+      (i .channel) (i .opcode) (i .resp) (i .fwd-state) (i .tag-op) (i .error) (i .forwarded) (i .forwarded-resp)
+
+  -- each half of an answer in range is below 2 to the 32
+  key-is : key ≡ eight
   unfolding packed half
+  key-is =
+      ap₂ (λ (x y : ℕ). x + y * 32)
+      (mod-eq-of-lt {n = channelOf e + opcodeOf e * 256 + respOf e * 65536 + fwdStateOf e * 16777216} {m = 2 ^ 32} (omega (arith, i .channel, i .opcode, i .resp, i .fwd-state)))
+      (mod-eq-of-lt {n = tagOpOf e + respErrOf e * 256 + forwardedOf e * 65536 + forwardedRespOf e * 16777216} {m = 2 ^ 32} (omega (arith, i .tag-op, i .error, i .forwarded, i .forwarded-resp)))
+
+  restored : eventOf (requestOf e) (retToSrcOf e) (doNotGoToSDOf e) (exclOf e) (tagOf e) key ≡ plain e
   restored =
-      unpacked (channelOf e) (opcodeOf e) (respOf e) (fwdStateOf e) (tagOpOf e) (respErrOf e) (forwardedOf e) (forwardedRespOf e)
+      ap (eventOf (requestOf e) (retToSrcOf e) (doNotGoToSDOf e) (exclOf e) (tagOf e)) key-is
+      ∙ unpacked (channelOf e) (opcodeOf e) (respOf e) (fwdStateOf e) (tagOpOf e) (respErrOf e) (forwardedOf e) (forwardedRespOf e)
       (i .channel) (i .opcode) (i .resp) (i .fwd-state) (i .tag-op) (i .error) (i .forwarded) (i .forwarded-resp)
       (requestOf e) (retToSrcOf e) (doNotGoToSDOf e) (exclOf e) (tagOf e)
 
@@ -142,9 +154,9 @@ module _ (e : List ℕ) (i : InRange e) where
 
   -- the answer alone is read again too
   answer-alone : eventOf 0 0 0 0 0 key ≡ 0 ∷ 0 ∷ 0 ∷ 0 ∷ 0 ∷ channelOf e ∷ opcodeOf e ∷ respOf e ∷ fwdStateOf e ∷ tagOpOf e ∷ respErrOf e ∷ forwardedOf e ∷ forwardedRespOf e ∷ 7 ∷ []
-  unfolding packed half
   answer-alone =
-      unpacked (channelOf e) (opcodeOf e) (respOf e) (fwdStateOf e) (tagOpOf e) (respErrOf e) (forwardedOf e) (forwardedRespOf e)
+      ap (eventOf 0 0 0 0 0) key-is
+      ∙ unpacked (channelOf e) (opcodeOf e) (respOf e) (fwdStateOf e) (tagOpOf e) (respErrOf e) (forwardedOf e) (forwardedRespOf e)
       (i .channel) (i .opcode) (i .resp) (i .fwd-state) (i .tag-op) (i .error) (i .forwarded) (i .forwarded-resp)
       0 0 0 0 0
 

@@ -30,7 +30,7 @@ gather = 2 ^ 3 + 2 ^ 10 + 2 ^ 17 + 2 ^ 24
 
 -- the context, from the flags of the snoop: RetToSrc, DoNotGoToSD, excl and tag state, the lowest first
 abbrev pub contextOf : ℕ → ℕ
-contextOf flags = flags * gather / 2 ^ 24 % 32
+contextOf flags = flags % 2 ^ 32 * gather / 2 ^ 24 % 32
 
 -- an effect, from the entry and which of its sets of states before holds
 abbrev pub effectIn : ℕ → ℕ → ℕ
@@ -54,7 +54,7 @@ lookedUp request flags answer = effectBy request flags (kindOf answer % 32)
 
 -- the answer's eight bytes packed into 32 bits: the first four, and the last four five bits higher, where no field in range meets another
 unfoldable pub packed : List ℕ → ℕ
-packed e = half e 5 + half e 9 * 32
+packed e = half e 5 % 2 ^ 32 + half e 9 % 2 ^ 32 * 32
 
 -- the effect of an event
 unfoldable pub effectOf : List ℕ → ℕ

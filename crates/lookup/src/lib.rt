@@ -48,10 +48,10 @@ fn kind_of(answer: u64) -> u64
 }
 
 // The context of a snoop: RetToSrc, DoNotGoToSD, excl and tag state in five bits.
-fn context_of(flags: u32) -> u64
+fn context_of(flags: u64) -> u64
     ensures { λ r. ⌜ r ≡ contextOf flags ⌝ }
 {
-    ((flags as u64 * GATHER) >> 24) % 32
+    ((flags % HALF * GATHER) >> 24) % 32
 }
 
 // The entry for a request and a kind of answer.
@@ -63,7 +63,7 @@ fn entry_of(request: u8, kind: u64) -> u64
 }
 
 // Which of the entry's three sets of states before holds; 0 for none.
-fn choice_of(kind: u64, flags: u32) -> u64
+fn choice_of(kind: u64, flags: u64) -> u64
     ensures { λ r. ⌜ r ≡ choiceOf kind flags ⌝ }
 {
     let context = context_of(flags);
@@ -71,7 +71,7 @@ fn choice_of(kind: u64, flags: u32) -> u64
 }
 
 // The effect, by request, flags of the snoop and packed answer.
-fn look_up(request: u8, flags: u32, answer: u64) -> u64
+fn look_up(request: u8, flags: u64, answer: u64) -> u64
     ensures { λ r. ⌜ r ≡ lookedUp request flags answer ⌝ }
 {
     let kind = kind_of(answer) % 32;
@@ -84,8 +84,8 @@ fn look_up(request: u8, flags: u32, answer: u64) -> u64
 fn packed(event: &[u8]) -> u64
     ensures { λ r. ⌜ r ≡ packed (now (event .entry)) ⌝ }
 {
-    let first = words::half_at(event, place::CHANNEL) as u64;
-    let last = words::half_at(event, place::TAG_OP) as u64;
+    let first = words::half_at(event, place::CHANNEL) % HALF;
+    let last = words::half_at(event, place::TAG_OP) % HALF;
     first + last * 32
 }
 

@@ -8,14 +8,8 @@ use Rattle.lookup.proofs.packed.Tie as tie
 half-at-requires : tie.Need-half-at-requires
 half-at-requires c κs = search needs
 
-cast-first : tie.Need-cast-first
-cast-first c = search needs
-
 half-at-requires-2 : tie.Need-half-at-requires-2
 half-at-requires-2 c κs = search needs
-
-cast-last : tie.Need-cast-last
-cast-last c = search needs
 
 mul-result : tie.Need-mul-result
 mul-result c = search needs
@@ -32,9 +26,7 @@ packed-spec =
     tie.close
     (tie.spec
     half-at-requires
-    cast-first
     half-at-requires-2
-    cast-last
     mul-result
     add-result
     returns)
