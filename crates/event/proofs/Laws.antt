@@ -68,13 +68,6 @@ unfolding fault
 fault-by issue e b fine known q r hf hb hk hq hr =
     hr ∙ ap₂ (λ (x : Bool) (n : ℕ). cond x n 4) hf (hq ∙ ap (λ (x : Bool). cond x 0 5) (hk ∙ ap (λ (n : ℕ). n ∈? issue .requests) hb))
 
--- a list of seven numbers, one per state
-pub seven : (f : ℕ → ℕ) (x₀ x₁ x₂ x₃ x₄ x₅ x₆ : ℕ)
-    → x₀ ≡ f 0 → x₁ ≡ f 1 → x₂ ≡ f 2 → x₃ ≡ f 3 → x₄ ≡ f 4 → x₅ ≡ f 5 → x₆ ≡ f 6
-    → x₀ ∷ x₁ ∷ x₂ ∷ x₃ ∷ x₄ ∷ x₅ ∷ x₆ ∷ [] ≡ map f states
-seven f x₀ x₁ x₂ x₃ x₄ x₅ x₆ h₀ h₁ h₂ h₃ h₄ h₅ h₆ =
-    ap₂ _∷_ h₀ (ap₂ _∷_ h₁ (ap₂ _∷_ h₂ (ap₂ _∷_ h₃ (ap₂ _∷_ h₄ (ap₂ _∷_ h₅ (ap₂ _∷_ h₆ refl))))))
-
 -- the duty from one state, with its set taken from the list of seven
 pub duty-at : (e sets : List ℕ) (s m x : ℕ) → sets ≡ setsAfter e → getD (setsAfter e) s 0 ≡ setAfter e s
     → x ≡ cond (eqb (getD sets s 0) 0) noDuty (duty e m) → x ≡ cond (eqb (setAfter e s) 0) noDuty (duty e m)

@@ -93,7 +93,7 @@ pub fn judge_event(event: &[u8]) -> Judgment
             duties: [0; 7],
         };
     }
-    let sets = steps::sets_after(event);
+    let sets = lookup::sets_after(event);
     let duties = duties_alone(event, sets);
     Judgment {
         refusal,

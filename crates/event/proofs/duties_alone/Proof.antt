@@ -1,6 +1,7 @@
 -- `event::duties_alone` meets its contract: seven duties, each from its own state.
 -- Assumes nothing.
-use Rattle.event.proofs.Laws.{seven, duty-at}
+use Rattle.kinds.proofs.Lists.{seven}
+use Rattle.event.proofs.Laws.{duty-at}
 use denote.Ref.{now}
 use mathlib.Core.Path.{refl}
 use Rattle.steps.specs.Steps.{dutyAlone}
