@@ -35,6 +35,13 @@ and-right false b h = absurd (false≢true h)
 pub and-both : {a b : Bool} → a ≡ true → b ≡ true → a && b ≡ true
 and-both {a} {b} p q = ap (λ (x : Bool). x && b) p ∙ q
 
+pub or-and : (a b c : Bool) → (a && c) || (b && c) ≡ (a || b) && c
+or-and true true true = refl
+or-and true true false = refl
+or-and true false true = refl
+or-and true false false = refl
+or-and false b c = refl
+
 pub or-right : (a b : Bool) → b ≡ true → a || b ≡ true
 or-right true b h = refl
 or-right false b h = h
@@ -106,6 +113,11 @@ module _ {ℓ} {A : Type ℓ} where
   pub all-at : (p : A → Bool) {x : A} {xs : List A} → all p xs ≡ true → In x xs → p x ≡ true
   all-at p {xs = xs} h (here {x = x} {xs = ys}) = and-left (p x) (all p ys) h
   all-at p {xs = xs} h (there {y = y} {xs = ys} i) = all-at p (and-right (p y) (all p ys) h) i
+
+  -- `any` of tests that share one side of `&&`
+  pub any-and : (p : A → Bool) (b : Bool) (xs : List A) → any (λ x. p x && b) xs ≡ any p xs && b
+  any-and p b [] = refl
+  any-and p b (x ∷ xs) = ap (λ (t : Bool). (p x && b) || t) (any-and p b xs) ∙ or-and (p x) (any p xs) b
 
   -- `any` on a list with one more element at the end
   pub any-snoc : (p : A → Bool) (xs : List A) (x : A) → any p (xs ++ (x ∷ [])) ≡ any p xs || p x

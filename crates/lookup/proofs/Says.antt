@@ -12,7 +12,7 @@ use lib.ListN.{getD}
 use Rattle.kinds.specs.Tests.{any, all, _∈?_}
 use Rattle.kinds.specs.Codes.{allStates, requests, tags, tagNotSeen, stateNotSeen}
 use Rattle.kinds.specs.Answers.{wire}
-use Rattle.kinds.proofs.Lists.{any-found, found-any, all-at, one-of, and-left, and-right, and-both}
+use Rattle.kinds.proofs.Lists.{any-found, all-at, one-of, or-and, and-left, and-right, and-both}
 use Rattle.sets.specs.Sets.{setOf, bit}
 use Rattle.sets.proofs.Laws.{bit-setOf, setOf-below}
 use Rattle.words.specs.Words.{half}
@@ -254,14 +254,6 @@ reordered false true true false y = refl
 reordered false true false t y = refl
 reordered false false c t y = refl
 
--- one test that two others share
-shared : (a b y : Bool) → (a && y) || (b && y) ≡ (a || b) && y
-shared true true true = refl
-shared true true false = refl
-shared true false true = refl
-shared true false false = refl
-shared false b y = refl
-
 module _ (n s s′ : ℕ) (saw rest : Bool) (small : s′ < 7) where
   -- the rows from s that lead to s′, where all rows name the same states after
   one-set : (rs : List Row) → all (λ r. eqb (to n) (setOf (λ m. m ∈? r .finals)) && rest) rs ≡ true
@@ -274,7 +266,7 @@ module _ (n s s′ : ℕ) (saw rest : Bool) (small : s′ < 7) where
       let in-set : bit (to n) s′ ≡ s′ ∈? r .finals =
       ap (λ (m : ℕ). bit m s′) (eqb-true (to n) (setOf (λ m. m ∈? r .finals)) first) ∙ bit-setOf (λ m. m ∈? r .finals) s′ small in
       ap₂ (λ (x y : Bool). (eqb s (r .before) && (x && saw)) || y) (sym in-set) (one-set rs (and-right (p && rest) q h))
-      ∙ shared (eqb s (r .before)) (any (λ x. eqb s (x .before)) rs) (bit (to n) s′ && saw)
+      ∙ or-and (eqb s (r .before)) (any (λ x. eqb s (x .before)) rs) (bit (to n) s′ && saw)
 
 -- the rows that lead from s to s′ are among those for the event
 by-rowsFor : (e : List ℕ) (s s′ : ℕ)

@@ -1,8 +1,13 @@
 // One event judged on the set of its pair (definition 7.3, 6.3).
 use kinds::Duty;
+use kinds::LineState;
+use kinds::Refusal;
+use kinds::RespErr;
 use kinds::Verdict;
+use kinds::place;
 ghost use mathlib.Core.Path.{_≡_};
 ghost use Rattle.verdicts.specs.Verdicts.{finding};
+ghost use Rattle.verdicts.specs.Looked.{noStep, dutyKept, foundBy};
 
 // What an event does to its pair: the set after, the verdict, and the duty byte.
 pub struct Finding {
@@ -11,8 +16,49 @@ pub struct Finding {
     pub duty: Duty,
 }
 
-// Judges an event, given the set of its pair before it.
-pub fn judge(event: &[u8], before: u8) -> Finding
+// What is found where no state of the set before makes a step.
+fn no_step(before: u8) -> Finding
+    ensures { λ r. ⌜ r ≡ noStep before ⌝ }
+{
+    let verdict = kinds::choose_byte(before == 0, Verdict::NOT_JUDGED.0, Verdict::UNEXPLAINED.0);
+    Finding {
+        after: 0,
+        verdict: Verdict(verdict),
+        duty: Duty::NONE,
+    }
+}
+
+// The duty byte of a step: with NDERR nothing is lost where the set before holds no Dirty state.
+fn duty_kept(error: u8, told: u8, before: u8) -> u8
+    ensures { λ r. ⌜ r ≡ dutyKept error told before ⌝ }
+{
+    if error == RespErr::NDERR.0 {
+        return kinds::choose_byte(sets::holds_dirty(before), told, Duty::NONE.0);
+    }
+    told
+}
+
+// Judges an event by one lookup, for all states of the set before at once. It is the finding for every event that is not refused.
+pub fn found(event: &[u8], before: u8) -> Finding
+    ensures { λ r. ⌜ r ≡ foundBy (now (event .entry)) before ⌝ }
+{
+    let effect = lookup::effect_of(event);
+    let seen = steps::seen_states(LineState(rows::byte_at(event, place::STATE_AFTER)));
+    let after = effect.to() & seen;
+    if (effect.from() & before == 0) | (after == 0) {
+        return no_step(before);
+    }
+    let error = rows::byte_at(event, place::RESP_ERR);
+    let duty = duty_kept(error, effect.told(), before);
+    Finding {
+        after,
+        verdict: Verdict::EXPLAINED,
+        duty: Duty(duty),
+    }
+}
+
+// Judges an event by the walk along the rows, whatever its bytes.
+fn by_rows(event: &[u8], before: u8) -> Finding
     ensures { λ r. ⌜ r ≡ finding (now (event .entry)) before ⌝ }
 {
     let after = sets::apply(steps::sets_after(event), before);
@@ -25,4 +71,16 @@ pub fn judge(event: &[u8], before: u8) -> Finding
         verdict: Verdict(verdict),
         duty: Duty(duty),
     }
+}
+
+// Judges an event, given the set of its pair before it. Only an event that would be refused needs the walk along the rows.
+pub fn judge(event: &[u8], before: u8) -> Finding
+    ensures { λ r. ⌜ r ≡ finding (now (event .entry)) before ⌝ }
+{
+    let refusal = event::fault(event);
+    let number = refusal.0;
+    if number == Refusal::ACCEPTED.0 {
+        return found(event, before);
+    }
+    by_rows(event, before)
 }
