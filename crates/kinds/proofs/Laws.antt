@@ -53,10 +53,6 @@ one-of-3 n a b c = or-3 (eqb n a) (eqb n b) (eqb n c)
 pub one-of-4 : (n a b c d : ℕ) → eqb n a || eqb n b || eqb n c || eqb n d ≡ n ∈? (a ∷ b ∷ c ∷ d ∷ [])
 one-of-4 n a b c d = or-4 (eqb n a) (eqb n b) (eqb n c) (eqb n d)
 
-pub one-of-7 : (n a b c d e f g : ℕ)
-    → eqb n a || eqb n b || eqb n c || eqb n d || eqb n e || eqb n f || eqb n g ≡ n ∈? (a ∷ b ∷ c ∷ d ∷ e ∷ f ∷ g ∷ [])
-one-of-7 n a b c d e f g = or-7 (eqb n a) (eqb n b) (eqb n c) (eqb n d) (eqb n e) (eqb n f) (eqb n g)
-
 -- a chain of `&` likewise: all of a list hold
 pub and-1 : (a : Bool) → a ≡ a && true
 and-1 true = refl

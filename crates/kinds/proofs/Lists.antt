@@ -1,12 +1,13 @@
 -- Laws about tests on lists: `any`, `all`, the equality of lists, and the seven states one by one.
 -- Assumes nothing.
 use mathlib.Core.Path.{_≡_, refl, sym, _∙_, ap, ap₂}
-use mathlib.Core.Bool.{Bool, true, false, _&&_, _||_, false≢true, or-false, or-assoc}
+use mathlib.Core.Bool.{Bool, true, false, _&&_, _||_, not, false≢true, or-false, or-assoc}
 use mathlib.Core.List.{List, [], _∷_, _++_, map}
-use Prim.Native.Nat.{ℕ, zero, suc, _<_, _≤_}
+use Prim.Native.Nat.{ℕ, zero, suc, _/_, _%_, _^_, _<_, _≤_}
+use native.Mathlib.Nat.{mod-eq-of-lt}
 use native.Mathlib.Omega.{arith}
-use borrow.Author.Tests.{eqb-true}
-use lib.Dec.{eqb}
+use borrow.Author.Tests.{eqb-true, eqb-false, ltb-true}
+use lib.Dec.{eqb, ltb}
 use lib.ListN.{getD}
 use Rattle.kinds.specs.Tests.{any, all, same, _∈?_, beyond}
 use Rattle.kinds.specs.Codes.{I, UC, UCE, UD, UDP, SC, SD, states}
@@ -22,6 +23,16 @@ same-truth true true f g = refl
 same-truth true false f g = sym (f refl)
 same-truth false true f g = g refl
 same-truth false false f g = refl
+
+-- the two tests say the same
+abbrev pub agree : Bool → Bool → Bool
+agree true b = b
+agree false b = not b
+
+pub agree-same : (a b : Bool) → agree a b ≡ true → a ≡ b
+agree-same true b h = sym h
+agree-same false true h = h
+agree-same false false h = refl
 
 -- `&&` and `||` from their two sides, and back
 pub and-left : (a b : Bool) → a && b ≡ true → a ≡ true
@@ -129,6 +140,35 @@ pub one-of : (p : ℕ → Bool) (n : ℕ) (ns : List ℕ) → n ∈? ns ≡ true
 one-of p n ns h k =
     let f = any-found (eqb n) ns h in
     ap p (eqb-true n (f .one) (f .passes)) ∙ all-at p k (f .inside)
+
+-- every number below n passes the test
+abbrev pub everyBelow : (ℕ → Bool) → ℕ → Bool
+everyBelow p zero = true
+everyBelow p (suc n) = p n && everyBelow p n
+
+-- a test that is computed for every number below n holds for each
+pub each-below : (p : ℕ → Bool) (n : ℕ) → everyBelow p n ≡ true → (k : ℕ) → k < n → p k ≡ true
+each-below p zero h k l = absurd (omega arith)
+each-below p (suc n) h k l = go (eqb k n) refl (each-below p n (and-right (p n) (everyBelow p n) h) k)
+  where
+    go : (t : Bool) → eqb k n ≡ t → (k < n → p k ≡ true) → p k ≡ true
+    go true e f = ap p (eqb-true k n e) ∙ and-left (p n) (everyBelow p n) h
+    go false e f = let d = eqb-false k n e in f (omega arith)
+
+-- the numbers of a list as bits of one word: bit k is set exactly when k is in the list, for every k below the number of bits
+pub of-bits : (w bits : ℕ) (ns : List ℕ) → all (λ k. ltb k bits) ns ≡ true
+    → everyBelow (λ k. agree (eqb (w / 2 ^ k % 2) 1) (k ∈? ns)) bits ≡ true
+    → (n : ℕ) → ltb n bits && eqb (w / 2 ^ (n % bits) % 2) 1 ≡ n ∈? ns
+of-bits w bits ns few right n = go (ltb n bits) refl (n ∈? ns) refl
+  where
+    go : (t : Bool) → ltb n bits ≡ t → (u : Bool) → n ∈? ns ≡ u → t && eqb (w / 2 ^ (n % bits) % 2) 1 ≡ u
+    go true e u f =
+        let l = ltb-true n bits e in
+        ap (λ (k : ℕ). eqb (w / 2 ^ k % 2) 1) (mod-eq-of-lt l)
+        ∙ agree-same (eqb (w / 2 ^ n % 2) 1) (n ∈? ns) (each-below (λ k. agree (eqb (w / 2 ^ k % 2) 1) (k ∈? ns)) bits right n l)
+        ∙ f
+    go false e true f = sym e ∙ one-of (λ k. ltb k bits) n ns f few
+    go false e false f = refl
 
 -- two lists that are the same number by number are equal
 pub same-equal : (xs ys : List ℕ) → same xs ys ≡ true → xs ≡ ys

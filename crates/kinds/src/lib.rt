@@ -107,6 +107,15 @@ impl RespErr {
     pub const NDERR: RespErr = RespErr(3);
 }
 
+// The seven requests that are judged, one bit each: bit n is the request with code n (definition 2.4).
+const KNOWN: u32 = (1 << Request::SNP_SHARED.0)
+    + (1 << Request::SNP_CLEAN.0)
+    + (1 << Request::SNP_NOT_SHARED_DIRTY.0)
+    + (1 << Request::SNP_CLEAN_FWD.0)
+    + (1 << Request::SNP_NOT_SHARED_DIRTY_FWD.0)
+    + (1 << Request::SNP_PREFER_UNIQUE.0)
+    + (1 << Request::SNP_PREFER_UNIQUE_FWD.0);
+
 // The snoop that Home sends (definition 2.4).
 pub struct Request(pub u8);
 
@@ -130,13 +139,7 @@ impl Request {
         ensures { λ r. ⌜ r ≡ self .0 ∈? requests ⌝ }
     {
         let n = self.0;
-        (n == Request::SNP_SHARED.0)
-            | (n == Request::SNP_CLEAN.0)
-            | (n == Request::SNP_NOT_SHARED_DIRTY.0)
-            | (n == Request::SNP_CLEAN_FWD.0)
-            | (n == Request::SNP_NOT_SHARED_DIRTY_FWD.0)
-            | (n == Request::SNP_PREFER_UNIQUE.0)
-            | (n == Request::SNP_PREFER_UNIQUE_FWD.0)
+        (n < 32) & ((KNOWN >> (n % 32)) % 2 == 1)
     }
 }
 
