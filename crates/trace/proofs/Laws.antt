@@ -1,15 +1,18 @@
 -- Laws about the refusals of a trace, over plain variables: the first number that passes a test, and the outcome from its parts.
 -- Assumes nothing.
-use mathlib.Core.Path.{_≡_, refl, sym, _∙_, ap, ap₂}
+use mathlib.Core.Path.{_≡_, refl, sym, _∙_, ap, ap₂, subst}
 use mathlib.Core.Bool.{Bool, true, false, cond, not, _&&_}
 use mathlib.Core.List.{List}
-use Prim.Native.Nat.{ℕ, suc, _+_, _-_, _%_, _<_, _≤_}
+use Prim.Native.Nat.{ℕ, zero, suc, _+_, _-_, _%_, _^_, _<_, _≤_}
 use native.Mathlib.Numerals.{add-one}
 use native.Mathlib.Nat.{sub-zero}
 use native.Mathlib.Omega.{arith}
-use borrow.Author.Tests.{lt-ltb, le-ltb, le-leb, leb-true, eqb-true, eq-eqb, ne-eqb, not-true, not-false}
+use borrow.Author.Tests.{ltb-true, ltb-false, lt-ltb, le-ltb, le-leb, leb-true, eqb-true, eq-eqb, ne-eqb, not-true, not-false}
+use lib.Bits.{bitAnd}
 use lib.Dec.{eqb, leb, ltb}
-use lib.ListN.{length}
+use lib.ListN.{length, getD, replicate}
+use Rattle.words.specs.Words.{word, wordOf}
+use Rattle.words.proofs.Laws.{powers, masks, each-under}
 use Rattle.kinds.specs.Places.{eventLength, mostEvents, mostPairs, pairIn, eventIn}
 use Rattle.kinds.proofs.Lists.{and-left, and-right, and-both}
 use Rattle.event.specs.Refusals.{Issue, fault}
@@ -19,7 +22,7 @@ use Rattle.trace.specs.Events.{TraceEvent, eventsFrom, run, outputs}
 use Rattle.trace.specs.Lent.{Left, Lent, left, count}
 use Rattle.trace.specs.Given.{Fits}
 use Rattle.trace.specs.Judged.{accepts, acceptedLeft, refusedLeft, judged}
-use Rattle.trace.specs.Code.{Room, AllJudged}
+use Rattle.trace.specs.Code.{Room, GoodBefore, AllJudged}
 use Rattle.trace.specs.Refusals.{outcome, lengthsFit, firstFrom, badSet, lowestBadSet, faultAt, firstBadEvent, byEvents, outcomeOf}
 
 -- k below n: one number fewer is left after k
@@ -57,6 +60,31 @@ first-next {p} {n} {k} f h t =
 
 pub first-end : {p : ℕ → Bool} {n k : ℕ} → First p n k → n ≤ k → k ≡ firstFrom p 0 n
 first-end {p} {n} {k} f h = sym (ap (firstFrom p k) (minus-end n k h)) ∙ f .same
+
+-- no number below k passes
+pub first-from : (p : ℕ → Bool) (n k : ℕ) → k ≤ n → ((q : ℕ) → q < k → p q ≡ false) → First p n k
+first-from p n zero h g = first-start p n
+first-from p n (suc k) h g =
+    subst (First p n) (add-one k) (first-next (first-from p n k (omega arith) (λ q l. g q (omega arith))) h (g k (omega arith)))
+
+-- a set below 128 is good
+good-set : (x : ℕ) → x < 2 ^ 7 → badSet x ≡ false
+good-set x h = le-ltb 127 x (omega arith)
+
+-- eight more sets are good where none has the top bit
+pub good-more : (table : List ℕ) (bytes : (i : ℕ) → getD table i 0 < 256) (p w : ℕ) → GoodBefore table p → 8 ≤ length table - p → w ≡ word table p
+    → bitAnd w (wordOf (masks (powers (replicate 8 7)))) ≡ 0 → GoodBefore table (p + 8)
+good-more table bytes p w g room h k = record { within = omega arith; good = λ q l. go q l (ltb q p) refl }
+  where
+    low : (i : ℕ) → i < 8 → getD table (p + i) 0 < 2 ^ 7
+    low = each-under table bytes p 7 (ap (λ (n : ℕ). bitAnd n (wordOf (masks (powers (replicate 8 7))))) (sym h) ∙ k)
+
+    go : (q : ℕ) → q < p + 8 → (t : Bool) → ltb q p ≡ t → badSet (getD table q 0) ≡ false
+    go q l true e = g .good q (ltb-true q p e)
+    go q l false e =
+        let m = ltb-false q p e in
+        let here : p + (q - p) ≡ q = omega arith in
+        good-set (getD table q 0) (subst (λ (i : ℕ). getD table i 0 < 2 ^ 7) here (low (q - p) (omega arith)))
 
 -- the test that the lengths fit, and what it means
 module _ (l : Lent) where

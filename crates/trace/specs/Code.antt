@@ -1,11 +1,13 @@
 -- What private functions compute. No public claim names this file.
-use Prim.Native.Nat.{ℕ, _≤_}
+use Prim.Native.Nat.{ℕ, _≤_, _<_}
 use mathlib.Core.Path.{_≡_}
+use mathlib.Core.Bool.{false}
 use mathlib.Core.List.{List}
 use lib.ListN.{length, set}
 use Rattle.kinds.specs.Places.{mostEvents, setIn, pairIn, eventIn}
 use Rattle.verdicts.specs.Verdicts.{afterSet, verdict, dutyByte, finding}
 use Rattle.verdicts.specs.declared.Finding.{Finding}
+use Rattle.trace.specs.Refusals.{badSetAt}
 use Rattle.trace.specs.Events.{eventAt, eventsFrom, moved, run, outputs}
 
 -- the three output buffers have one byte for each event
@@ -14,6 +16,11 @@ pub record Room (pairs verdicts duties afters : List ℕ) : Type 0 where
   pub verdicts-fit : length verdicts ≡ length pairs
   pub duties-fit : length duties ≡ length pairs
   pub afters-fit : length afters ≡ length pairs
+
+-- the first p sets of the table are good
+pub record GoodBefore (table : List ℕ) (p : ℕ) : Type 0 where
+  pub within : p ≤ length table
+  pub good : (q : ℕ) → q < p → badSetAt table q ≡ false
 
 -- event k judged: what is found, and the table after it
 pub record OnTable (events pairs : List ℕ) (k : ℕ) (table : List ℕ) (found : Finding) (table′ : List ℕ) : Type 0 where

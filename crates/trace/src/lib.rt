@@ -15,7 +15,7 @@ ghost use Rattle.event.specs.Refusals.{issueE};
 ghost use Rattle.trace.specs.Lent.{lent, left};
 ghost use Rattle.trace.specs.Refusals.{lengthsFit, badSet, lowestBadSet, faultAt, firstBadEvent, byEvents, outcomeOf};
 ghost use Rattle.trace.specs.Judged.{judged};
-ghost use Rattle.trace.specs.Code.{Room, OnTable, OneJudged, AllJudged};
+ghost use Rattle.trace.specs.Code.{Room, GoodBefore, OnTable, OneJudged, AllJudged};
 
 // A refusal number and its place (definition 4.1).
 pub struct Outcome {
@@ -53,12 +53,29 @@ fn bad_set(states: u8) -> bool
     states > ALL_STATES
 }
 
+// The top bit of each of eight bytes: no set up to 127 has it.
+const TOP_BITS: u64 = 0x80_80_80_80_80_80_80_80;
+
+// How many sets at the front are found to be good, eight at a time.
+fn good_sets(table: &[u8]) -> usize
+    ensures { λ r. ⌜ GoodBefore (now (table .entry)) r ⌝ }
+{
+    let mut p: usize = 0;
+    while table.len() - p >= 8 {
+        if words::word_at(&table[p..], 0) & TOP_BITS != 0 {
+            return p;
+        }
+        p += 8;
+    }
+    p
+}
+
 // The lowest pair with a bad set; the number of pairs if there is none.
 fn lowest_bad_set(table: &[u8]) -> usize
     requires { ⌜ length (now table) ≤ mostPairs ⌝ }
     ensures { λ r. ⌜ r ≡ lowestBadSet (now (table .entry)) ⌝ }
 {
-    let mut p: usize = 0;
+    let mut p = good_sets(table);
     while p < table.len() {
         let states = PairNumber(p as u16).set_in(table);
         if bad_set(states) {

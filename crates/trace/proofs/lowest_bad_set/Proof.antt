@@ -1,4 +1,4 @@
--- `trace::lowest_bad_set` meets its contract: no set before p is bad. The measure is what is left of the table.
+-- `trace::lowest_bad_set` meets its contract: no set before p is bad, from those that `good_sets` found on. The measure is what is left of the table.
 -- Assumes nothing.
 use mathlib.Core.Bool.{true, false}
 use Prim.Native.Nat.{_-_}
@@ -8,7 +8,7 @@ use denote.Ref.{now}
 use lib.ListN.{length}
 use Rattle.kinds.specs.Places.{setIn}
 use Rattle.trace.specs.Refusals.{badSetAt}
-use Rattle.trace.proofs.Laws.{First, first-start, first-here, first-next, first-end, set-tested}
+use Rattle.trace.proofs.Laws.{First, first-from, first-here, first-next, first-end, set-tested}
 use Rattle.trace.proofs.lowest_bad_set.Statement.{statement}
 use Rattle.trace.proofs.lowest_bad_set.Tie as tie
 
@@ -18,11 +18,17 @@ Inv-loop table p₀ p = First (badSetAt table) (length table) p
 abbrev μ-loop : tie.MeasureT-loop
 μ-loop table p₀ p = length table - p
 
+good-sets-requires : tie.Need-good-sets-requires Inv-loop μ-loop
+good-sets-requires c κs = search needs
+
 loop-holds : tie.Need-loop-holds Inv-loop μ-loop
-loop-holds c = first-start (badSetAt (now (c .before .args .table))) (length (now (c .before .args .table)))
+loop-holds c =
+    let table = now (c .before .before .args .table) in
+    let found = c .good-sets in
+    first-from (badSetAt table) (length table) (found .result) (found .ensures .within) (found .ensures .good)
 
 cast-t6 : tie.Need-cast-t6 Inv-loop μ-loop
-cast-t6 c = omega (arith, c .before .before .before .pre)
+cast-t6 c = omega (arith, c .before .before .before .before .pre)
 
 set-in-requires : tie.Need-set-in-requires Inv-loop μ-loop
 set-in-requires c κs = search needs
@@ -36,7 +42,7 @@ returns c =
     let set-in = c .before .before .set-in in
     let loop-test = c .before .before .before .loop-test in
     let loop = c .before .before .before .before .loop in
-    let args = c .before .before .before .before .before .before .args in
+    let args = c .before .before .before .before .before .before .before .args in
     first-here (loop .inv) (loop-test .taken)
     (set-tested (set-in .result) (setIn (now (args .table)) (loop .p)) (bad-set .result) true (set-in .ensures) (bad-set .ensures) (c .if1 .taken))
 
@@ -52,7 +58,7 @@ loop-again c =
     let set-in = c .before .before .set-in in
     let loop-test = c .before .before .before .loop-test in
     let loop = c .before .before .before .before .loop in
-    let args = c .before .before .before .before .before .before .args in
+    let args = c .before .before .before .before .before .before .before .args in
     first-next (loop .inv) (loop-test .taken)
     (set-tested (set-in .result) (setIn (now (args .table)) (loop .p)) (bad-set .result) false (set-in .ensures) (bad-set .ensures) (c .if1 .left))
 
@@ -65,6 +71,7 @@ lowest-bad-set-spec =
     (tie.spec
     Inv-loop
     μ-loop
+    good-sets-requires
     loop-holds
     cast-t6
     set-in-requires
