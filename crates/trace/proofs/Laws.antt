@@ -22,7 +22,7 @@ use Rattle.trace.specs.Events.{TraceEvent, eventsFrom, run, outputs}
 use Rattle.trace.specs.Lent.{Left, Lent, left, count}
 use Rattle.trace.specs.Given.{Fits}
 use Rattle.trace.specs.Judged.{accepts, acceptedLeft, refusedLeft, judged}
-use Rattle.trace.specs.Code.{Room, GoodBefore, AllJudged}
+use Rattle.trace.specs.Code.{GoodBefore, WholeEvents, AllJudged}
 use Rattle.trace.specs.Refusals.{outcome, lengthsFit, firstFrom, badSet, lowestBadSet, faultAt, firstBadEvent, byEvents, outcomeOf}
 
 -- k below n: one number fewer is left after k
@@ -193,8 +193,11 @@ module _ (issue : Issue) (l : Lent) where
   pub few-sets : (fit-test : Bool) → fit-test ≡ lengthsFit l → not fit-test ≡ false → length (l .table) ≤ mostPairs
   few-sets fit-test h k = fits l (sym h ∙ not-false fit-test k) .few-pairs
 
-  pub few-pair-numbers : (fit-test : Bool) → fit-test ≡ lengthsFit l → not fit-test ≡ false → length (l .pairs) ≤ mostEvents
-  few-pair-numbers fit-test h k = let f = fits l (sym h ∙ not-false fit-test k) in omega (arith, f .pairs-fit, f .few-events)
+  -- and the bytes of every event are all there
+  pub whole-events : (fit-test : Bool) → fit-test ≡ lengthsFit l → not fit-test ≡ false → WholeEvents (l .events) (l .pairs)
+  whole-events fit-test h k =
+      let f = fits l (sym h ∙ not-false fit-test k) in
+      record { few = omega (arith, f .pairs-fit, f .few-events); whole = omega (arith, f .pairs-fit, f .whole) }
 
   -- if a trace is accepted, its lengths fit
   pub accepted-fits : outcomeOf issue l .refusal .0 ≡ 0 → lengthsFit l ≡ true
@@ -232,14 +235,3 @@ module _ (issue : Issue) (l : Lent) where
 
       after : List TraceEvent → Left
       after es = left o (run (l .table) es) (outputs verdict (l .table) es) (outputs dutyByte (l .table) es) (outputs afterSet (l .table) es)
-
-  -- the output buffers of an accepted trace have one byte for each event
-  pub room : outcomeOf issue l .refusal .0 ≡ 0 → Room (l .pairs) (l .verdicts) (l .duties) (l .afters)
-  room h =
-      let f = fits l (accepted-fits h) in
-      record {
-        few = omega (arith, f .pairs-fit, f .few-events);
-        verdicts-fit = f .verdicts-fit ∙ sym (f .pairs-fit);
-        duties-fit = f .duties-fit ∙ sym (f .pairs-fit);
-        afters-fit = f .afters-fit ∙ sym (f .pairs-fit);
-      }

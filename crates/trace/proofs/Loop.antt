@@ -1,6 +1,6 @@
 -- One iteration of the judging loop, over plain variables, and what all of them leave.
 -- Assumes nothing.
-use mathlib.Core.Path.{_≡_, refl, sym, _∙_, ap, ap₂}
+use mathlib.Core.Path.{_≡_, refl, sym, _∙_, ap, ap₂, subst}
 use mathlib.Core.List.{List, _++_, append-nil}
 use Prim.Native.Nat.{ℕ, suc, _+_, _-_, _<_, _≤_}
 use native.Mathlib.Numerals.{add-one}
@@ -11,15 +11,28 @@ use lib.Seq.{take-suc-set, append-snoc, take-all}
 use Rattle.kinds.specs.Places.{setIn, pairIn, eventIn}
 use Rattle.verdicts.specs.declared.Finding.{Finding}
 use Rattle.verdicts.specs.Verdicts.{afterSet, verdict, dutyByte, finding}
+use Rattle.verdicts.specs.Looked.{foundBy}
+use Rattle.verdicts.proofs.Looked.{found-finding}
+use Rattle.event.proofs.Ranges.{in-range}
 use Rattle.trace.specs.Events.{eventAt, eventsFrom, moved, run, outputs}
-use Rattle.trace.specs.Code.{Room, OnTable, OneJudged, AllJudged}
+use Rattle.trace.specs.Code.{Ready, Good, OnTable, OneJudged, AllJudged}
 use Rattle.trace.proofs.Laws.{minus-suc, minus-end}
 
+-- an event that is not refused stays so while the table keeps its length
+pub still-good : {events pairs t₀ t : List ℕ} {k : ℕ} → Good events pairs t₀ k → length t ≡ length t₀ → Good events pairs t k
+still-good {events} {pairs} {t₀} {t} {k} g h =
+    record { whole = g .whole; has-pair = subst (λ (n : ℕ). pairIn pairs k < n) (sym h) (g .has-pair); no-fault = g .no-fault }
+
+-- the table has the pair that was read
+pub has-pair-at : {events pairs t : List ℕ} {k p : ℕ} → p ≡ pairIn pairs k → Good events pairs t k → p < length t
+has-pair-at {t = t} h g = subst (λ (n : ℕ). n < length t) (sym h) (g .has-pair)
+
 -- one event on the table, from the parts of its judging
-pub on-table : (events pairs : List ℕ) (k : ℕ) (t t′ : List ℕ) (p m : ℕ) (e : List ℕ) (f : Finding)
-    → p ≡ pairIn pairs k → m ≡ setIn t p → e ≡ eventIn events k → f ≡ finding e m → t′ ≡ set t p (f .after) → OnTable events pairs k t f t′
-on-table events pairs k t t′ p m e f h₁ h₂ h₃ h₄ h₅ =
-    let is : f ≡ finding (eventIn events k) (setIn t (pairIn pairs k)) = h₄ ∙ ap₂ finding h₃ (h₂ ∙ ap (setIn t) h₁) in
+pub on-table : (events pairs : List ℕ) (k : ℕ) (t t′ : List ℕ) (p m : ℕ) (e : List ℕ) (f : Finding) → Good events pairs t k
+    → p ≡ pairIn pairs k → m ≡ setIn t p → e ≡ eventIn events k → f ≡ foundBy e m → t′ ≡ set t p (f .after) → OnTable events pairs k t f t′
+on-table events pairs k t t′ p m e f g h₁ h₂ h₃ h₄ h₅ =
+    let is : f ≡ finding (eventIn events k) (setIn t (pairIn pairs k)) =
+    h₄ ∙ ap₂ foundBy h₃ (h₂ ∙ ap (setIn t) h₁) ∙ found-finding (eventIn events k) (in-range (eventIn events k) (g .no-fault)) (setIn t (pairIn pairs k)) in
     record { is-found = is; in-table = h₅ ∙ ap₂ (λ (x : ℕ) (g : Finding). set t x (g .after)) h₁ is }
 
 -- the four buffers after one event
@@ -75,7 +88,7 @@ pub record Going (events pairs t₀ : List ℕ) (k : ℕ) (t v d a : List ℕ) :
   pub afters-so : Filled afterSet events pairs t₀ k t a
 
 module _ (events pairs t₀ : List ℕ) where
-  pub going-start : (v d a : List ℕ) → Room pairs v d a → Going events pairs t₀ 0 t₀ v d a
+  pub going-start : (v d a : List ℕ) → Ready events pairs t₀ v d a → Going events pairs t₀ 0 t₀ v d a
   going-start v d a room =
       record {
         within = omega arith;

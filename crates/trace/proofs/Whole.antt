@@ -1,11 +1,16 @@
 -- What a trace leaves, refused or accepted, and what is known about an accepted one.
 -- Assumes nothing.
-use mathlib.Core.Path.{_≡_, refl, ap}
+use mathlib.Core.Path.{_≡_, refl, sym, _∙_, ap, ap₂}
 use mathlib.Core.Bool.{Bool, true, false, cond}
+use mathlib.Core.List.{List}
 use Prim.Native.Nat.{ℕ}
 use native.Mathlib.Omega.{arith}
 use borrow.Author.Tests.{eq-eqb, ne-eqb}
-use Rattle.event.specs.Refusals.{Issue}
+use Rattle.kinds.specs.Tests.{_∈?_}
+use Rattle.kinds.specs.Places.{eventIn}
+use Rattle.rows.specs.Event.{requestOf}
+use Rattle.event.specs.Refusals.{Issue, issueE, below, fault}
+use Rattle.trace.specs.Code.{Ready}
 use Rattle.trace.specs.Lent.{Lent, Left, count}
 use Rattle.trace.specs.Refusals.{outcomeOf}
 use Rattle.trace.specs.Given.{GoodSoFar, Given, accepted, bad-lengths, bad-set, bad-pair, bad-byte, bad-request}
@@ -44,3 +49,28 @@ module _ (issue : Issue) (l : Lent) where
 
   pub accepted-good : outcomeOf issue l .refusal .0 ≡ 0 → GoodSoFar issue l (count l)
   accepted-good h = row-0 (given issue l) h
+
+-- an event whose bytes are in range and whose request is judged has no fault
+fault-none : (issue : Issue) (e : List ℕ) → below e 1 (issue .limits) ≡ true → requestOf e ∈? issue .requests ≡ true → fault issue e ≡ 0
+unfolding fault
+fault-none issue e h k = ap₂ (λ (a b : Bool). cond a (cond b 0 5) 4) h k
+
+-- no event of an accepted trace is refused, and its output buffers have one byte for each
+pub ready : (l : Lent) → outcomeOf issueE l .refusal .0 ≡ 0 → Ready (l .events) (l .pairs) (l .table) (l .verdicts) (l .duties) (l .afters)
+ready l h =
+    let g = accepted-good issueE l h in
+    let f = g .fits in
+    record {
+      few = omega (arith, f .pairs-fit, f .few-events);
+      verdicts-fit = f .verdicts-fit ∙ sym (f .pairs-fit);
+      duties-fit = f .duties-fit ∙ sym (f .pairs-fit);
+      afters-fit = f .afters-fit ∙ sym (f .pairs-fit);
+      good =
+          λ k inside.
+          let e = g .events-good k (omega (arith, f .pairs-fit)) in
+          record {
+            whole = omega (arith, f .pairs-fit, f .whole);
+            has-pair = e .pair-good;
+            no-fault = fault-none issueE (eventIn (l .events) k) (e .bytes-good) (e .request-good);
+          };
+    }

@@ -7,15 +7,15 @@ use kinds::MOST_PAIRS;
 use kinds::PairNumber;
 use kinds::Refusal;
 use verdicts::Finding;
-ghost use Prim.Native.Nat.{_≤_};
+ghost use Prim.Native.Nat.{_<_, _≤_};
 ghost use mathlib.Core.Path.{_≡_};
-ghost use lib.ListN.{length};
-ghost use Rattle.kinds.specs.Places.{mostEvents, mostPairs};
+ghost use lib.ListN.{length, set};
+ghost use Rattle.kinds.specs.Places.{mostPairs, setIn, eventIn};
 ghost use Rattle.event.specs.Refusals.{issueE};
 ghost use Rattle.trace.specs.Lent.{lent, left};
 ghost use Rattle.trace.specs.Refusals.{lengthsFit, badSet, lowestBadSet, faultAt, firstBadEvent, byEvents, outcomeOf};
 ghost use Rattle.trace.specs.Judged.{judged};
-ghost use Rattle.trace.specs.Code.{Room, GoodBefore, OnTable, OneJudged, AllJudged};
+ghost use Rattle.trace.specs.Code.{GoodBefore, Whole, WholeEvents, Good, Ready, OnTable, OneJudged, AllJudged};
 
 // A refusal number and its place (definition 4.1).
 pub struct Outcome {
@@ -86,20 +86,31 @@ fn lowest_bad_set(table: &[u8]) -> usize
     p
 }
 
+// The bytes of event k, which are all in the buffer: a part that starts at 14 times k (definition 3.3).
+fn whole_event(k: EventNumber, events: &[u8]) -> &[u8]
+    requires { ⌜ Whole (now events) (k .0) ⌝ }
+    ensures { λ r. ⌜ now r ≡ eventIn (now (events .entry)) (k .0) ⌝ }
+{
+    let number = k.0;
+    let start = (number as usize) * EVENT_BYTES;
+    &events[start..start + EVENT_BYTES]
+}
+
 // The refusal number of event k in a trace: 3, then 4, then 5 (definition 4.2).
 fn fault_at(k: EventNumber, events: &[u8], pairs: &[u16], table: &[u8]) -> Refusal
+    requires { ⌜ Whole (now events) (k .0) ⌝ }
     ensures { λ r. ⌜ r .0 ≡ faultAt issueE (now (events .entry)) (now (pairs .entry)) (now (table .entry)) (k .0) ⌝ }
 {
     let pair = k.pair_in(pairs);
     let inside = pair.within(table);
-    let fault = event::fault(k.event_in(events));
+    let fault = event::fault(whole_event(k, events));
     let number = fault.0;
     Refusal(kinds::choose_byte(inside, number, Refusal::PAIR.0))
 }
 
 // The first event that is refused; the number of events if there is none.
 fn first_bad_event(events: &[u8], pairs: &[u16], table: &[u8]) -> EventNumber
-    requires { ⌜ length (now pairs) ≤ mostEvents ⌝ }
+    requires { ⌜ WholeEvents (now events) (now pairs) ⌝ }
     ensures { λ r. ⌜ r .0 ≡ firstBadEvent issueE (now (events .entry)) (now (pairs .entry)) (now (table .entry)) ⌝ }
 {
     let mut k: u32 = 0;
@@ -116,7 +127,7 @@ fn first_bad_event(events: &[u8], pairs: &[u16], table: &[u8]) -> EventNumber
 
 // The outcome of the events, if the lengths fit and no set is bad.
 fn by_events(events: &[u8], pairs: &[u16], table: &[u8]) -> Outcome
-    requires { ⌜ length (now pairs) ≤ mostEvents ⌝ }
+    requires { ⌜ WholeEvents (now events) (now pairs) ⌝ }
     ensures { λ r. ⌜ r ≡ byEvents issueE (now (events .entry)) (now (pairs .entry)) (now (table .entry)) ⌝ }
 {
     let first = first_bad_event(events, pairs, table);
@@ -161,19 +172,38 @@ fn outcome_of(
     by_events(events, pairs, table)
 }
 
-// Judges event k on the set of its pair, and writes the set after into the table.
+// The set of a pair that the table has.
+fn set_of(pair: PairNumber, table: &[u8]) -> u8
+    requires { ⌜ pair .0 < length (now table) ⌝ }
+    ensures { λ r. ⌜ r ≡ setIn (now (table .entry)) (pair .0) ⌝ }
+{
+    let number = pair.0;
+    table[number as usize]
+}
+
+// Writes the set of a pair that the table has.
+fn put_set(pair: PairNumber, table: &mut [u8], states: u8)
+    requires { ⌜ pair .0 < length (now table) ⌝ }
+    ensures { λ _. ⌜ now (table .exit) ≡ set (now (table .entry)) (pair .0) states ⌝ }
+{
+    let number = pair.0;
+    table[number as usize] = states;
+}
+
+// Judges event k, which is not refused, on the set of its pair, and writes the set after into the table.
 fn judge_on_table(k: EventNumber, events: &[u8], pairs: &[u16], table: &mut [u8]) -> Finding
+    requires { ⌜ Good (now events) (now pairs) (now table) (k .0) ⌝ }
     ensures { λ r. ⌜ OnTable (now (events .entry)) (now (pairs .entry)) (k .0) (now (table .entry)) r (now (table .exit)) ⌝ }
 {
     let pair = k.pair_in(pairs);
-    let before = pair.set_in(table);
-    let found = verdicts::judge(k.event_in(events), before);
+    let before = set_of(pair, table);
+    let found = verdicts::found(whole_event(k, events), before);
     let after = found.after;
-    pair.put_in(table, after);
+    put_set(pair, table, after);
     found
 }
 
-// Judges event k, and writes its verdict, duty byte and after-set at index k.
+// Judges event k, which is not refused, and writes its verdict, duty byte and after-set at index k.
 fn judge_one(
     k: EventNumber,
     events: &[u8],
@@ -183,6 +213,7 @@ fn judge_one(
     duties: &mut [u8],
     afters: &mut [u8],
 )
+    requires { ⌜ Good (now events) (now pairs) (now table) (k .0) ⌝ }
     ensures { λ _. ⌜ OneJudged (now (events .entry)) (now (pairs .entry)) (k .0)
         (now (table .entry)) (now (verdicts .entry)) (now (duties .entry)) (now (afters .entry))
         (now (table .exit)) (now (verdicts .exit)) (now (duties .exit)) (now (afters .exit)) ⌝ }
@@ -193,7 +224,7 @@ fn judge_one(
     k.put_in(afters, found.after);
 }
 
-// Judges all events, one after another.
+// Judges all events, of which none is refused, one after another.
 fn judge_all(
     events: &[u8],
     pairs: &[u16],
@@ -202,7 +233,7 @@ fn judge_all(
     duties: &mut [u8],
     afters: &mut [u8],
 )
-    requires { ⌜ Room (now pairs) (now verdicts) (now duties) (now afters) ⌝ }
+    requires { ⌜ Ready (now events) (now pairs) (now table) (now verdicts) (now duties) (now afters) ⌝ }
     ensures { λ _. ⌜ AllJudged (now (events .entry)) (now (pairs .entry)) (now (table .entry))
         (now (table .exit)) (now (verdicts .exit)) (now (duties .exit)) (now (afters .exit)) ⌝ }
 {

@@ -26,7 +26,7 @@ cast-loop : tie.Need-cast-loop Inv-loop μ-loop
 cast-loop c = omega arith
 
 fault-at-requires : tie.Need-fault-at-requires Inv-loop μ-loop
-fault-at-requires c κs = search needs
+fault-at-requires c κs = omega (arith, c .before .before .before .before .before .pre .whole, c .loop-test .taken)
 
 returns : tie.Need-returns Inv-loop μ-loop
 returns c =
@@ -38,7 +38,7 @@ returns c =
     (bad (fault-at .result .0) (faultAt issueE (now (args .events)) (now (args .pairs)) (now (args .table)) (loop .k)) (fault-at .ensures) (c .if1 .taken))
 
 add-k : tie.Need-add-k Inv-loop μ-loop
-add-k c = omega (arith, c .before .before .before .before .before .before .before .before .pre)
+add-k c = omega (arith, c .before .before .before .before .before .before .before .before .pre .few)
 
 loop-less : tie.Need-loop-less Inv-loop μ-loop
 loop-less c = omega arith

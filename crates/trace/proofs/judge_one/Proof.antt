@@ -7,7 +7,7 @@ use Rattle.trace.proofs.judge_one.Statement.{statement}
 use Rattle.trace.proofs.judge_one.Tie as tie
 
 judge-on-table-requires : tie.Need-judge-on-table-requires
-judge-on-table-requires c κs = search needs
+judge-on-table-requires c κs = c .before .before .before .before .before .before .before .pre
 
 put-in-requires : tie.Need-put-in-requires
 put-in-requires c κs = search needs

@@ -5,7 +5,8 @@ use denote.Ref.{now}
 use Rattle.event.specs.Refusals.{issueE}
 use Rattle.trace.specs.declared.Outcome.{Outcome}
 use Rattle.trace.specs.Lent.{lent}
-use Rattle.trace.proofs.Laws.{fits, accepted-fits, left-refused, left-accepted, room}
+use Rattle.trace.proofs.Laws.{fits, accepted-fits, left-refused, left-accepted}
+use Rattle.trace.proofs.Whole.{ready}
 use borrow.Author.Needs.{needs}
 use Rattle.trace.proofs.judge_trace.Statement.{statement}
 use Rattle.trace.proofs.judge_trace.Tie as tie
@@ -40,7 +41,7 @@ judge-all-requires c κs =
     let at-outcome-of = c .before .before .before .before .before .before in
     let outcome-of = at-outcome-of .outcome-of in
     let args = at-outcome-of .before .before .before .before .before .before .before .before .before .before .before .args in
-    room issueE
+    ready
     (lent (now (args .events)) (now (args .pairs)) (now (args .table)) (now (args .verdicts)) (now (args .duties)) (now (args .afters)))
     (sym (ap (λ (o : Outcome). o .refusal .0) (outcome-of .ensures)) ∙ if1 .left)
 
