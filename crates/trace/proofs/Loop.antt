@@ -15,13 +15,8 @@ use Rattle.verdicts.specs.Looked.{foundBy}
 use Rattle.verdicts.proofs.Looked.{found-finding}
 use Rattle.event.proofs.Ranges.{in-range}
 use Rattle.trace.specs.Events.{eventAt, eventsFrom, moved, run, outputs}
-use Rattle.trace.specs.Code.{Ready, Good, OnTable, OneJudged, AllJudged}
+use Rattle.trace.specs.Code.{Ready, Good, OneReady, OnTable, OneJudged, AllJudged}
 use Rattle.trace.proofs.Laws.{minus-suc, minus-end}
-
--- an event that is not refused stays so while the table keeps its length
-pub still-good : {events pairs t₀ t : List ℕ} {k : ℕ} → Good events pairs t₀ k → length t ≡ length t₀ → Good events pairs t k
-still-good {events} {pairs} {t₀} {t} {k} g h =
-    record { whole = g .whole; has-pair = subst (λ (n : ℕ). pairIn pairs k < n) (sym h) (g .has-pair); no-fault = g .no-fault }
 
 -- the table has the pair that was read
 pub has-pair-at : {events pairs t : List ℕ} {k p : ℕ} → p ≡ pairIn pairs k → Good events pairs t k → p < length t
@@ -86,6 +81,16 @@ pub record Going (events pairs t₀ : List ℕ) (k : ℕ) (t v d a : List ℕ) :
   pub verdicts-so : Filled verdict events pairs t₀ k t v
   pub duties-so : Filled dutyByte events pairs t₀ k t d
   pub afters-so : Filled afterSet events pairs t₀ k t a
+
+-- an event that is not refused at the start is not refused when its turn has come
+pub one-ready : {events pairs t₀ t v d a : List ℕ} {k : ℕ} → Good events pairs t₀ k → Going events pairs t₀ k t v d a → k < length pairs → OneReady events pairs t v d a k
+one-ready {events} {pairs} {t₀} {t} {k = k} g go h =
+    record {
+      good = record { whole = g .whole; has-pair = subst (λ (n : ℕ). pairIn pairs k < n) (sym (go .long)) (g .has-pair); no-fault = g .no-fault };
+      in-verdicts = omega (arith, go .verdicts-so .long);
+      in-duties = omega (arith, go .duties-so .long);
+      in-afters = omega (arith, go .afters-so .long);
+    }
 
 module _ (events pairs t₀ : List ℕ) where
   pub going-start : (v d a : List ℕ) → Ready events pairs t₀ v d a → Going events pairs t₀ 0 t₀ v d a

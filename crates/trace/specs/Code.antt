@@ -31,6 +31,13 @@ pub record Good (events pairs table : List ℕ) (k : ℕ) : Type 0 where
   pub has-pair : pairIn pairs k < length table
   pub no-fault : fault issueE (eventIn events k) ≡ 0
 
+-- event k is not refused, and the three output buffers have a byte for it
+pub record OneReady (events pairs table verdicts duties afters : List ℕ) (k : ℕ) : Type 0 where
+  pub good : Good events pairs table k
+  pub in-verdicts : k < length verdicts
+  pub in-duties : k < length duties
+  pub in-afters : k < length afters
+
 -- no event is refused, and the three output buffers have one byte for each
 pub record Ready (events pairs table verdicts duties afters : List ℕ) : Type 0 where
   pub few : length pairs ≤ mostEvents

@@ -15,7 +15,7 @@ ghost use Rattle.event.specs.Refusals.{issueE};
 ghost use Rattle.trace.specs.Lent.{lent, left};
 ghost use Rattle.trace.specs.Refusals.{lengthsFit, badSet, lowestBadSet, faultAt, firstBadEvent, byEvents, outcomeOf};
 ghost use Rattle.trace.specs.Judged.{judged};
-ghost use Rattle.trace.specs.Code.{GoodBefore, Whole, WholeEvents, Good, Ready, OnTable, OneJudged, AllJudged};
+ghost use Rattle.trace.specs.Code.{GoodBefore, Whole, WholeEvents, Good, OneReady, Ready, OnTable, OneJudged, AllJudged};
 
 // A refusal number and its place (definition 4.1).
 pub struct Outcome {
@@ -190,6 +190,15 @@ fn put_set(pair: PairNumber, table: &mut [u8], states: u8)
     table[number as usize] = states;
 }
 
+// Writes a byte at the event's index in a buffer that is that long.
+fn put_byte(k: EventNumber, bytes: &mut [u8], byte: u8)
+    requires { ⌜ k .0 < length (now bytes) ⌝ }
+    ensures { λ _. ⌜ now (bytes .exit) ≡ set (now (bytes .entry)) (k .0) byte ⌝ }
+{
+    let number = k.0;
+    bytes[number as usize] = byte;
+}
+
 // Judges event k, which is not refused, on the set of its pair, and writes the set after into the table.
 fn judge_on_table(k: EventNumber, events: &[u8], pairs: &[u16], table: &mut [u8]) -> Finding
     requires { ⌜ Good (now events) (now pairs) (now table) (k .0) ⌝ }
@@ -213,15 +222,15 @@ fn judge_one(
     duties: &mut [u8],
     afters: &mut [u8],
 )
-    requires { ⌜ Good (now events) (now pairs) (now table) (k .0) ⌝ }
+    requires { ⌜ OneReady (now events) (now pairs) (now table) (now verdicts) (now duties) (now afters) (k .0) ⌝ }
     ensures { λ _. ⌜ OneJudged (now (events .entry)) (now (pairs .entry)) (k .0)
         (now (table .entry)) (now (verdicts .entry)) (now (duties .entry)) (now (afters .entry))
         (now (table .exit)) (now (verdicts .exit)) (now (duties .exit)) (now (afters .exit)) ⌝ }
 {
     let found = judge_on_table(k, events, pairs, table);
-    k.put_in(verdicts, found.verdict.0);
-    k.put_in(duties, found.duty.0);
-    k.put_in(afters, found.after);
+    put_byte(k, verdicts, found.verdict.0);
+    put_byte(k, duties, found.duty.0);
+    put_byte(k, afters, found.after);
 }
 
 // Judges all events, of which none is refused, one after another.
