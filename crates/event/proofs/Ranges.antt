@@ -53,6 +53,7 @@ in-range e h =
       error = at 9 (omega arith);
       forwarded = at 10 (omega arith);
       forwarded-resp = at 11 (omega arith);
+      state-after = at 12 (omega arith);
     }
 
 -- an event alone that is not refused has no fault

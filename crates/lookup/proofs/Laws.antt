@@ -15,7 +15,7 @@ use Rattle.words.specs.Words.{half}
 use Rattle.rows.specs.Event.{requestOf, stateAfterOf, seen}
 use Rattle.steps.proofs.Passing.{all-getD}
 use Rattle.lookup.specs.Table.{slots, starts, choices, entries}
-use Rattle.lookup.specs.Code.{slotOf, kindIn, kindOf, contextOf, entryOf, choiceOf, effectIn, effectBy, lookedUp, packed, effectOf, from, to, spread, lookedSets}
+use Rattle.lookup.specs.Code.{slotOf, kindIn, kindOf, contextOf, entryOf, choiceOf, effectIn, effectBy, lookedUp, packed, effectOf, from, to, spread, seenAfter, lookedSets}
 
 -- the slot has the answer, or it does not
 pub kind-found : (answer slot : ℕ) → slot ≡ getD slots (slotOf answer) 0 → slot % 2 ^ 32 ≡ answer → slot / 2 ^ 32 ≡ kindOf answer
@@ -63,9 +63,12 @@ spread-by n among f t x₀ x₁ x₂ x₃ x₄ x₅ x₆ hf ht h₀ h₁ h₂ h�
     seven (λ s. cond (bit f s) (bitAnd t among) 0) x₀ x₁ x₂ x₃ x₄ x₅ x₆ h₀ h₁ h₂ h₃ h₄ h₅ h₆
     ∙ ap₂ (λ (x y : ℕ). map (λ s. cond (bit x s) (bitAnd y among) 0) states) hf ht
 
+-- the states after that the event may have, from its last byte
+pub seen-by : (e : List ℕ) (shown among : ℕ) → shown ≡ stateAfterOf e → among ≡ setOf (seen stateNotSeen (shown % 8)) → among ≡ seenAfter e
+seen-by e shown among h k = k ∙ ap (λ (x : ℕ). setOf (seen stateNotSeen (x % 8))) h
+
 -- the sets that are looked up, from their parts
-pub sets-parts : (e : List ℕ) (request flags answer n shown among : ℕ) (sets : List ℕ) → request ≡ requestOf e → flags ≡ half e 1 → answer ≡ packed e
-    → n ≡ lookedUp request flags answer → shown ≡ stateAfterOf e → among ≡ setOf (seen stateNotSeen shown) → sets ≡ spread n among → sets ≡ lookedSets e
+pub sets-parts : (e : List ℕ) (request flags answer n among : ℕ) (sets : List ℕ) → request ≡ requestOf e → flags ≡ half e 1 → answer ≡ packed e
+    → n ≡ lookedUp request flags answer → among ≡ seenAfter e → sets ≡ spread n among → sets ≡ lookedSets e
 unfolding lookedSets
-sets-parts e request flags answer n shown among sets h k l p q r t =
-    t ∙ ap₂ spread (effect-parts e request flags answer n h k l p) (r ∙ ap (λ (x : ℕ). setOf (seen stateNotSeen x)) q)
+sets-parts e request flags answer n among sets h k l p q t = t ∙ ap₂ spread (effect-parts e request flags answer n h k l p) q

@@ -44,6 +44,7 @@ pub record InRange (e : List ℕ) : Type 0 where
   pub error : respErrOf e < 4
   pub forwarded : forwardedOf e < 2
   pub forwarded-resp : forwardedRespOf e < 8
+  pub state-after : stateAfterOf e < 8
 
 -- a number below 2 is the value of a flag, and one below 4 that of a tag state
 flag-in : (n : ℕ) → n < 2 → n ∈? flag ≡ true

@@ -4,6 +4,7 @@ use mathlib.Core.Path.{_≡_, refl, sym, _∙_, ap, ap₂}
 use mathlib.Core.Bool.{Bool, true, false, cond, _&&_}
 use mathlib.Core.List.{List}
 use Prim.Native.Nat.{ℕ, _<_}
+use native.Mathlib.Nat.{mod-eq-of-lt}
 use lib.Bits.{bitAnd}
 use Rattle.kinds.specs.Codes.{stateNotSeen}
 use Rattle.kinds.proofs.Lists.{map-states}
@@ -20,7 +21,9 @@ module _ (e : List ℕ) (i : InRange e) where
 
   -- the states after that are looked up and among those seen
   pub both-sets : to n < 128 → setOf (λ s′. bit (to n) s′ && seen stateNotSeen (stateAfterOf e) s′) ≡ bitAnd (to n) (seenAfter e)
-  both-sets h = sym (and-setOf (bit (to n)) (seen stateNotSeen (stateAfterOf e))) ∙ ap (λ (m : ℕ). bitAnd m (seenAfter e)) (setOf-bit (to n) h)
+  both-sets h =
+      sym (and-setOf (bit (to n)) (seen stateNotSeen (stateAfterOf e)))
+      ∙ ap₂ (λ (m x : ℕ). bitAnd m (setOf (seen stateNotSeen x))) (setOf-bit (to n) h) (sym (mod-eq-of-lt (i .state-after)))
 
   -- the set of states after from one state
   looked-set : (s : ℕ) → s < 7 → cond (bit (from n) s) (bitAnd (to n) (seenAfter e)) 0 ≡ setAfter e s

@@ -80,7 +80,7 @@ spread n among = map (λ s. cond (bit (from n) s) (bitAnd (to n) among) 0) state
 
 -- the states after that the event may have, as a set
 abbrev pub seenAfter : List ℕ → ℕ
-seenAfter e = setOf (seen stateNotSeen (stateAfterOf e))
+seenAfter e = setOf (seen stateNotSeen (stateAfterOf e % 8))
 
 -- for each of the seven states before, the set of states after
 unfoldable pub lookedSets : List ℕ → List ℕ

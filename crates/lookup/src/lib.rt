@@ -3,7 +3,7 @@ use kinds::LineState;
 use kinds::place;
 ghost use Prim.Native.Nat.{_<_};
 ghost use mathlib.Core.Path.{_≡_};
-ghost use Rattle.lookup.specs.Code.{kindOf, contextOf, entryOf, choiceOf, lookedUp, packed, effectOf, from, to, told, spread, lookedSets};
+ghost use Rattle.lookup.specs.Code.{kindOf, contextOf, entryOf, choiceOf, lookedUp, packed, effectOf, from, to, told, spread, seenAfter, lookedSets};
 
 mod table;
 
@@ -115,6 +115,14 @@ fn spread(effect: Effect, seen: u8) -> [u8; 7]
     ]
 }
 
+// The states after that the event may have, as a set.
+pub fn seen_after(event: &[u8]) -> u8
+    ensures { λ r. ⌜ r ≡ seenAfter (now (event .entry)) ⌝ }
+{
+    let shown = rows::byte_at(event, place::STATE_AFTER) % 8;
+    steps::seen_states(LineState(shown))
+}
+
 // For each of the seven states before, the set of states after (definition 6.2).
 pub fn sets_after(event: &[u8]) -> [u8; 7]
     ensures { λ r. ⌜ r ≡ lookedSets (now (event .entry)) ⌝ }
@@ -122,6 +130,5 @@ pub fn sets_after(event: &[u8]) -> [u8; 7]
     let request = rows::byte_at(event, place::REQUEST);
     let flags = words::half_at(event, place::RET_TO_SRC);
     let effect = Effect(look_up(request, flags, packed(event)));
-    let seen = steps::seen_states(LineState(rows::byte_at(event, place::STATE_AFTER)));
-    spread(effect, seen)
+    spread(effect, seen_after(event))
 }

@@ -3,7 +3,7 @@
 use mathlib.Core.Path.{_≡_, refl, sym, _∙_, ap, ap₂, subst⁻¹}
 use mathlib.Core.Bool.{Bool, true, false, cond, not, _&&_, false≢true}
 use mathlib.Core.List.{List, [], _∷_, _++_}
-use Prim.Native.Nat.{ℕ, zero, suc, _+_, _/_, _%_, _<_, _≤_}
+use Prim.Native.Nat.{ℕ, zero, suc, _+_, _*_, _/_, _%_, _^_, _<_, _≤_}
 use native.Mathlib.Nat.{add-zero, zero-add, add-suc, suc-add}
 use native.Mathlib.Numerals.{add-one}
 use native.Mathlib.Omega.{arith}
@@ -30,20 +30,20 @@ use Rattle.kinds.specs.declared.Forward.{Forward}
 use Rattle.kinds.specs.Answers.{forwardAt}
 
 -- the code's sets of possible states after, by byte 13: each state by itself, and all seven for 7
-abbrev weights : List ℕ
-weights = 1 ∷ 2 ∷ 4 ∷ 8 ∷ 16 ∷ 32 ∷ 64 ∷ allStates ∷ []
+abbrev weights : ℕ
+weights = 0x7F40201008040201
 
--- element n of that list is the set of the states after that the event may have
-pub seen-at : (n : ℕ) → n < 8 → getD weights n 0 ≡ setOf (seen stateNotSeen n)
+-- byte n of that number is the set of the states after that the event may have
+pub seen-at : (n : ℕ) → n < 8 → weights / 2 ^ (n * 8) % 256 ≡ setOf (seen stateNotSeen n)
 unfolding setOf
 seen-at n h = go (ltb n 7) refl
   where
-    go : (b : Bool) → ltb n 7 ≡ b → getD weights n 0 ≡ setOf (seen stateNotSeen n)
-    go true k = each-state (λ m. getD weights m 0 ≡ setOf (seen stateNotSeen m)) refl refl refl refl refl refl refl n (ltb-true n 7 k)
+    go : (b : Bool) → ltb n 7 ≡ b → weights / 2 ^ (n * 8) % 256 ≡ setOf (seen stateNotSeen n)
+    go true k = each-state (λ m. weights / 2 ^ (m * 8) % 256 ≡ setOf (seen stateNotSeen m)) refl refl refl refl refl refl refl n (ltb-true n 7 k)
     go false k = last n (omega (arith, ltb-false n 7 k))
       where
-        last : (m : ℕ) → m ≡ 7 → getD weights m 0 ≡ setOf (seen stateNotSeen m)
-        last m e = subst⁻¹ (λ (i : ℕ). getD weights i 0 ≡ setOf (seen stateNotSeen i)) e refl
+        last : (m : ℕ) → m ≡ 7 → weights / 2 ^ (m * 8) % 256 ≡ setOf (seen stateNotSeen m)
+        last m e = subst⁻¹ (λ (i : ℕ). weights / 2 ^ (i * 8) % 256 ≡ setOf (seen stateNotSeen i)) e refl
 
 pub seen-past : (n : ℕ) → 8 ≤ n → 0 ≡ setOf (seen stateNotSeen n)
 unfolding setOf

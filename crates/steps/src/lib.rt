@@ -1,5 +1,4 @@
 // What one event can do to a line: the states after, found in one loop over the rows, and the duty (definition 6).
-use kinds::ALL_STATES;
 use kinds::Answer;
 use kinds::Channel;
 use kinds::Duty;
@@ -107,13 +106,19 @@ fn row_adds(e: &[u8; EVENT_BYTES], among: u8, row: Row) -> u8
     kinds::choose_byte(row_fits(e, row), row.finals & among, 0)
 }
 
+// The sets of possible states after by byte 13, two digits each from the right: each state by itself, and all seven for not seen.
+const SEEN_STATES: u64 = 0x7F_40_20_10_08_04_02_01;
+
 // The states after that the event may have, as a set: the one that was seen, or all if none was seen.
 pub fn seen_states(shown: LineState) -> u8
     ensures { λ r. ⌜ r ≡ setOf (seen stateNotSeen (shown .0)) ⌝ }
 {
-    let weights: [u8; 8] = [1, 2, 4, 8, 16, 32, 64, ALL_STATES];
-    let at = shown.0 as usize;
-    if at < 8 { weights[at] } else { 0 }
+    let at = shown.0;
+    if at < 8 {
+        ((SEEN_STATES >> (at as u64 * 8)) % 256) as u8
+    } else {
+        0
+    }
 }
 
 // A copy of the event's 14 bytes, so that the loop over the rows does not check the slice's length again.

@@ -145,11 +145,11 @@ kept-other error duty m h = sym (ap (λ (b : Bool). cond (holdsDirty m) duty (co
     same true = refl
     same false = refl
 
--- what is found, from the effect and the state after that was seen: where no state makes a step, and where one does
-module _ (e : List ℕ) (m n b among : ℕ) (hn : n ≡ effectOf e) (hb : b ≡ stateAfterOf e) (hs : among ≡ setOf (seen stateNotSeen b)) where
+-- what is found, from the effect and the states after that may have been seen: where no state makes a step, and where one does
+module _ (e : List ℕ) (m n among : ℕ) (hn : n ≡ effectOf e) (hs : among ≡ seenAfter e) where
   -- the states after, as the code computes them
   after-by : (t : ℕ) → t ≡ to n → bitAnd t among ≡ afterLooked e
-  after-by t ht = ap₂ bitAnd (ht ∙ ap to hn) (hs ∙ ap (λ (x : ℕ). setOf (seen stateNotSeen x)) hb)
+  after-by t ht = ap₂ bitAnd (ht ∙ ap to hn) hs
 
   -- the test whether no state makes a step
   none-by : (f t : ℕ) → f ≡ from n → t ≡ to n → eqb (bitAnd f m) 0 || eqb (bitAnd t among) 0 ≡ eqb (bitAnd (from (effectOf e)) m) 0 || eqb (afterLooked e) 0

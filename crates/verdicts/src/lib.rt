@@ -1,6 +1,5 @@
 // One event judged on the set of its pair (definition 7.3, 6.3).
 use kinds::Duty;
-use kinds::LineState;
 use kinds::Refusal;
 use kinds::RespErr;
 use kinds::Verdict;
@@ -43,8 +42,7 @@ pub fn found(event: &[u8], before: u8) -> Finding
     ensures { λ r. ⌜ r ≡ foundBy (now (event .entry)) before ⌝ }
 {
     let effect = lookup::effect_of(event);
-    let seen = steps::seen_states(LineState(rows::byte_at(event, place::STATE_AFTER)));
-    let after = effect.to() & seen;
+    let after = effect.to() & lookup::seen_after(event);
     if (effect.from() & before == 0) | (after == 0) {
         return no_step(before);
     }

@@ -18,19 +18,16 @@ packed-requires c κs = search needs
 look-up-requires : tie.Need-look-up-requires
 look-up-requires c κs = search needs
 
-byte-at-requires-2 : tie.Need-byte-at-requires-2
-byte-at-requires-2 c κs = search needs
-
-seen-states-requires : tie.Need-seen-states-requires
-seen-states-requires c κs = search needs
+seen-after-requires : tie.Need-seen-after-requires
+seen-after-requires c κs = search needs
 
 spread-requires : tie.Need-spread-requires
 spread-requires c κs = search needs
 
 returns : tie.Need-returns
 returns c =
-    sets-parts (now (c .before .before .before .before .before .before .before .before .args .event)) (c .before .before .before .before .before .before .byte-at .result) (c .before .before .before .before .before .half-at .result) (c .before .before .before .before .packed .result) (c .before .before .before .look-up .result) (c .before .before .byte-at2 .result) (c .before .seen-states .result)
-    (c .spread .result) (c .before .before .before .before .before .before .byte-at .ensures) (c .before .before .before .before .before .half-at .ensures) (c .before .before .before .before .packed .ensures) (c .before .before .before .look-up .ensures) (c .before .before .byte-at2 .ensures) (c .before .seen-states .ensures) (c .spread .ensures)
+    sets-parts (now (c .before .before .before .before .before .before .before .args .event)) (c .before .before .before .before .before .byte-at .result) (c .before .before .before .before .half-at .result) (c .before .before .before .packed .result) (c .before .before .look-up .result) (c .before .seen-after .result) (c .spread .result)
+    (c .before .before .before .before .before .byte-at .ensures) (c .before .before .before .before .half-at .ensures) (c .before .before .before .packed .ensures) (c .before .before .look-up .ensures) (c .before .seen-after .ensures) (c .spread .ensures)
 
 pub sets-after-spec : {M : Type 1} → statement M
 sets-after-spec =
@@ -40,7 +37,6 @@ sets-after-spec =
     half-at-requires
     packed-requires
     look-up-requires
-    byte-at-requires-2
-    seen-states-requires
+    seen-after-requires
     spread-requires
     returns)

@@ -9,14 +9,11 @@ use Rattle.verdicts.proofs.found.Tie as tie
 effect-of-requires : tie.Need-effect-of-requires
 effect-of-requires c κs = search needs
 
-byte-at-requires : tie.Need-byte-at-requires
-byte-at-requires c κs = search needs
-
-seen-states-requires : tie.Need-seen-states-requires
-seen-states-requires c κs = search needs
-
 to-requires : tie.Need-to-requires
 to-requires c κs = search needs
+
+seen-after-requires : tie.Need-seen-after-requires
+seen-after-requires c κs = search needs
 
 from-requires : tie.Need-from-requires
 from-requires c κs = search needs
@@ -26,12 +23,11 @@ no-step-requires c κs = search needs
 
 returns : tie.Need-returns
 returns c =
-    found-none (now (c .before .before .before .before .before .before .before .before .args .event)) (c .before .before .before .before .before .before .before .before .args .before) (c .before .before .before .before .before .before .effect-of .result .0) (c .before .before .before .before .before .byte-at .result) (c .before .before .before .before .seen-states .result) (c .before .before .before .before .before .before .effect-of .ensures)
-    (c .before .before .before .before .before .byte-at .ensures) (c .before .before .before .before .seen-states .ensures) (c .before .before .from .result) (c .before .before .before .to .result) (c .no-step .result) (c .before .before .from .ensures) (c .before .before .before .to .ensures) (c .before .if1 .taken)
-    (c .no-step .ensures)
+    found-none (now (c .before .before .before .before .before .before .before .args .event)) (c .before .before .before .before .before .before .before .args .before) (c .before .before .before .before .before .effect-of .result .0) (c .before .before .before .seen-after .result) (c .before .before .before .before .before .effect-of .ensures) (c .before .before .before .seen-after .ensures)
+    (c .before .before .from .result) (c .before .before .before .before .to .result) (c .no-step .result) (c .before .before .from .ensures) (c .before .before .before .before .to .ensures) (c .before .if1 .taken) (c .no-step .ensures)
 
-byte-at-requires-2 : tie.Need-byte-at-requires-2
-byte-at-requires-2 c κs = search needs
+byte-at-requires : tie.Need-byte-at-requires
+byte-at-requires c κs = search needs
 
 told-requires : tie.Need-told-requires
 told-requires c κs = search needs
@@ -41,22 +37,21 @@ duty-kept-requires c κs = search needs
 
 returns-2 : tie.Need-returns-2
 returns-2 c =
-    found-some (now (c .before .before .before .before .before .before .before .before .before .before .args .event)) (c .before .before .before .before .before .before .before .before .before .before .args .before) (c .before .before .before .before .before .before .before .before .effect-of .result .0) (c .before .before .before .before .before .before .before .byte-at .result) (c .before .before .before .before .before .before .seen-states .result) (c .before .before .before .before .before .before .before .before .effect-of .ensures)
-    (c .before .before .before .before .before .before .before .byte-at .ensures) (c .before .before .before .before .before .before .seen-states .ensures) (c .before .before .before .before .from .result) (c .before .before .before .before .before .to .result) (c .before .before .byte-at2 .result) (c .before .told .result) (c .duty-kept .result)
-    (c .before .before .before .before .from .ensures) (c .before .before .before .before .before .to .ensures) (c .before .before .before .if1 .left) (c .before .before .byte-at2 .ensures) (c .before .told .ensures) (c .duty-kept .ensures)
+    found-some (now (c .before .before .before .before .before .before .before .before .before .args .event)) (c .before .before .before .before .before .before .before .before .before .args .before) (c .before .before .before .before .before .before .before .effect-of .result .0) (c .before .before .before .before .before .seen-after .result) (c .before .before .before .before .before .before .before .effect-of .ensures) (c .before .before .before .before .before .seen-after .ensures)
+    (c .before .before .before .before .from .result) (c .before .before .before .before .before .before .to .result) (c .before .before .byte-at .result) (c .before .told .result) (c .duty-kept .result) (c .before .before .before .before .from .ensures) (c .before .before .before .before .before .before .to .ensures) (c .before .before .before .if1 .left)
+    (c .before .before .byte-at .ensures) (c .before .told .ensures) (c .duty-kept .ensures)
 
 pub found-spec : {M : Type 1} → statement M
 found-spec =
     tie.close
     (tie.spec
     effect-of-requires
-    byte-at-requires
-    seen-states-requires
     to-requires
+    seen-after-requires
     from-requires
     no-step-requires
     returns
-    byte-at-requires-2
+    byte-at-requires
     told-requires
     duty-kept-requires
     returns-2)
