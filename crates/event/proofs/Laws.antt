@@ -47,7 +47,7 @@ module _ (e : List ℕ) (bytes : (i : ℕ) → byte e i < 256) where
   both-under : under e 0 (powers front) && under e 6 (powers back) ≡ below e 1 (issueE .limits)
   both-under =
       rw (lt-ltb (byte e 0) 256 (bytes 0), lt-ltb (byte e 6) 256 (bytes 6), lt-ltb (byte e 7) 256 (bytes 7))
-      (below-append e 1 (drop 1 (powers front)) (drop 2 (powers back)))
+      (below-append e 1 (drop 1 (powers front)) (drop 2 (powers back)) ∙ ap (below e 1) front-back)
 
   -- the two tests of `in_range`
   pub in-range-by : (x y : ℕ) → x ≡ word e 0 → y ≡ word e 6

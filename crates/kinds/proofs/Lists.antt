@@ -29,6 +29,7 @@ abbrev pub agree : Bool → Bool → Bool
 agree true b = b
 agree false b = not b
 
+-- then they are equal
 pub agree-same : (a b : Bool) → agree a b ≡ true → a ≡ b
 agree-same true b h = sym h
 agree-same false true h = h

@@ -14,7 +14,9 @@ word-at-requires-2 c κs = search needs
 
 returns : tie.Need-returns
 returns c =
-    in-range-by (now (c .before .before .before .args .event)) (λ i. c .before .before .shared-slice-known .given i .fits) (c .before .word-at .result) (c .word-at2 .result) (c .before .word-at .ensures) (c .word-at2 .ensures)
+    let front = c .before .word-at in
+    let back = c .word-at2 in
+    in-range-by (now (c .before .before .before .args .event)) (λ i. c .before .before .shared-slice-known .given i .fits) (front .result) (back .result) (front .ensures) (back .ensures)
 
 pub in-range-spec : {M : Type 1} → statement M
 in-range-spec = tie.close (tie.spec word-at-requires word-at-requires-2 returns)

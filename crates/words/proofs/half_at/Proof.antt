@@ -12,7 +12,7 @@ last-requires : tie.Need-last-requires
 last-requires c κs = search needs
 
 returns : tie.Need-returns
-returns c = c .last .ensures ∙ half-last (now (c .before .before .before .args .bytes)) (c .before .before .before .args .at) (omega arith)
+returns c = let args = c .before .before .before .args in c .last .ensures ∙ half-last (now (args .bytes)) (args .at) (omega arith)
 
 sub-if2 : tie.Need-sub-if2
 sub-if2 c = search needs
@@ -21,7 +21,7 @@ last-requires-2 : tie.Need-last-requires-2
 last-requires-2 c κs = search needs
 
 returns-2 : tie.Need-returns-2
-returns-2 c = c .last2 .ensures ∙ half-last (now (c .before .before .before .before .args .bytes)) (c .before .before .before .before .args .at) (omega arith)
+returns-2 c = let args = c .before .before .before .before .args in c .last2 .ensures ∙ half-last (now (args .bytes)) (args .at) (omega arith)
 
 four-requires : tie.Need-four-requires
 four-requires c κs = search needs

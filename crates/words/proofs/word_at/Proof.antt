@@ -12,7 +12,7 @@ last-requires : tie.Need-last-requires
 last-requires c κs = search needs
 
 returns : tie.Need-returns
-returns c = c .last .ensures ∙ word-last (now (c .before .before .before .args .bytes)) (c .before .before .before .args .at) (omega arith)
+returns c = let args = c .before .before .before .args in c .last .ensures ∙ word-last (now (args .bytes)) (args .at) (omega arith)
 
 sub-if2 : tie.Need-sub-if2
 sub-if2 c = search needs
@@ -21,7 +21,7 @@ last-requires-2 : tie.Need-last-requires-2
 last-requires-2 c κs = search needs
 
 returns-2 : tie.Need-returns-2
-returns-2 c = c .last2 .ensures ∙ word-last (now (c .before .before .before .before .args .bytes)) (c .before .before .before .before .args .at) (omega arith)
+returns-2 c = let args = c .before .before .before .before .args in c .last2 .ensures ∙ word-last (now (args .bytes)) (args .at) (omega arith)
 
 sub-eight : tie.Need-sub-eight
 sub-eight c = search needs
@@ -36,7 +36,7 @@ eight-requires : tie.Need-eight-requires
 eight-requires c κs = search needs
 
 returns-3 : tie.Need-returns-3
-returns-3 c = c .eight .ensures ∙ word-part (now (c .before .before .before .before .before .args .bytes)) (c .before .before .before .before .before .args .at)
+returns-3 c = let args = c .before .before .before .before .before .args in c .eight .ensures ∙ word-part (now (args .bytes)) (args .at)
 
 pub word-at-spec : {M : Type 1} → statement M
 word-at-spec =
