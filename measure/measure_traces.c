@@ -16,8 +16,19 @@ static uint64_t nothing(LENT)
     return 0;
 }
 
-const struct judge judges[JUDGES + 1] = {
-    {"proved", korehyumo_trace}, {"by_table", by_table_trace}, {"by_rows", by_rows_trace}, {"around", nothing},
+/* Hands each event of a trace in alone. */
+static uint64_t each_alone(LENT)
+{
+    static uint8_t sets[7], duties_alone[7];
+    (void)pairs, (void)table, (void)verdicts, (void)duties, (void)afters;
+    (void)pairs_len, (void)table_len, (void)verdicts_len, (void)duties_len, (void)afters_len;
+    for (size_t at = 0; at < events_len; at += EVENT_BYTES)
+        korehyumo_event(events + at, EVENT_BYTES, sets, duties_alone);
+    return 0;
+}
+
+const struct judge judges[MEASURED] = {
+    {"proved", korehyumo_trace}, {"by_table", by_table_trace}, {"by_rows", by_rows_trace}, {"around", nothing}, {"alone", each_alone},
 };
 
 const struct size sizes[SIZES] = {{64, 64}, {512, 64}, {4096, 64}, {4096, 512}, {4096, 4096}, {0, 4096}};
@@ -42,18 +53,18 @@ static void repeat(const struct judge *judge, const struct trace *trace, unsigne
 /* Judges the trace of a cell with the judge of that cell so many times. */
 static void repeat_cell(unsigned cell, unsigned long times)
 {
-    repeat(&judges[cell % (JUDGES + 1)], &traces[cell / (JUDGES + 1)], times);
+    repeat(&judges[cell % MEASURED], &traces[cell / MEASURED], times);
 }
 
 /* Measures and prints the time of a call of each judge on each trace. */
 static void print_times(void)
 {
-    enum { CELLS = SIZES * (JUDGES + 1) };
+    enum { CELLS = SIZES * MEASURED };
     static struct timed timed[CELLS];
     take_times(timed, CELLS, repeat_cell);
     for (unsigned cell = 0; cell < CELLS; cell++) {
-        const struct trace *trace = &traces[cell / (JUDGES + 1)];
-        printf("time %s %zu %zu %.3f\n", judges[cell % (JUDGES + 1)].name, trace->n, trace->pairs, timed[cell].least);
+        const struct trace *trace = &traces[cell / MEASURED];
+        printf("time %s %zu %zu %.3f\n", judges[cell % MEASURED].name, trace->n, trace->pairs, timed[cell].least);
     }
 }
 
@@ -101,7 +112,7 @@ static int repeat_one(char **words)
     make_trace(&traces[0], strtoul(words[1], 0, 10), strtoul(words[2], 0, 10), SEED);
     if (strcmp(words[0], "by_table") == 0)
         judges_ready();
-    for (unsigned n = 0; n <= JUDGES; n++)
+    for (unsigned n = 0; n < MEASURED; n++)
         if (strcmp(words[0], judges[n].name) == 0) {
             repeat(&judges[n], &traces[0], strtoul(words[3], 0, 10));
             return 0;

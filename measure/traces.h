@@ -17,8 +17,11 @@ struct judge {
 /* How many judges are compared. */
 #define JUDGES 3
 
-/* The judges, the proved one first; the last does nothing, and measures what stands around a call. */
-extern const struct judge judges[JUDGES + 1];
+/* How many are measured: the judges, what does nothing, to measure what stands around a call, and what hands events in alone. */
+#define MEASURED (JUDGES + 2)
+
+/* The judges, the proved one first, and then the other two. */
+extern const struct judge judges[MEASURED];
 
 /* How many events and pairs a measured trace has. */
 struct size {
