@@ -45,3 +45,14 @@ module _ (e : List ℕ) (i : InRange e) where
   pub looked-sets : lookedSets e ≡ setsAfter e
   unfolding lookedSets spread
   looked-sets = map-states (λ s. cond (bit (from n) s) (bitAnd (to n) (seenAfter e)) 0) (setAfter e) looked-set
+
+  -- WHY ONE LOOKUP SERVES ALL STATES BEFORE: from every state from which the event is a step, the states after are the same.
+  pub same-after : (s t : ℕ) → s < 7 → t < 7 → (setAfter e s ≡ 0 → ⊥) → (setAfter e t ≡ 0 → ⊥) → setAfter e s ≡ setAfter e t
+  same-after s t h k p q = from-one s h p ∙ sym (from-one t k q)
+    where
+      from-one : (x : ℕ) → x < 7 → (setAfter e x ≡ 0 → ⊥) → setAfter e x ≡ bitAnd (to n) (seenAfter e)
+      from-one x l some = go (bit (from n) x) refl
+        where
+          go : (b : Bool) → bit (from n) x ≡ b → setAfter e x ≡ bitAnd (to n) (seenAfter e)
+          go true m = sym (looked-set x l) ∙ ap (λ (c : Bool). cond c (bitAnd (to n) (seenAfter e)) 0) m
+          go false m = absurd (some (sym (looked-set x l) ∙ ap (λ (c : Bool). cond c (bitAnd (to n) (seenAfter e)) 0) m))

@@ -1,4 +1,5 @@
 pub mod Laws
+pub mod Good
 pub mod Bites
 pub mod Runs
 pub mod Turns

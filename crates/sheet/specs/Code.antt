@@ -4,7 +4,9 @@ use mathlib.Core.Path.{_≡_}
 use mathlib.Core.Bool.{Bool}
 use mathlib.Core.List.{List, _++_}
 use lib.ListN.{length, take, drop}
+use Rattle.event.specs.Refusals.{issueE, fault}
 use Rattle.lines.specs.Seen.{tooLong, reach}
+use Rattle.parser.specs.declared.ParsedLine.{ParsedLine}
 use Rattle.sheet.specs.declared.Answered.{Answered}
 use Rattle.sheet.specs.declared.Next.{Next}
 use Rattle.sheet.specs.declared.Eaten.{Eaten}
@@ -23,6 +25,10 @@ pub record Answers (t : Told) (out : List ℕ) (at : ℕ) (r : Answered) (out′
 pub record AnswersOn (t : Told) (out : List ℕ) (at : ℕ) (r : Answered) (out′ table′ : List ℕ) : Type 0 where
   pub answers-so : Answers t out at r out′
   pub table-so : table′ ≡ t .table
+
+-- the event of a line that is not refused has no fault
+abbrev pub NoFault : ParsedLine → Type 0
+NoFault line = line .refusal .0 ≡ 0 → fault issueE (line .event) ≡ 0
 
 -- there is room for the output of a line
 abbrev pub Roomy : List ℕ → ℕ → Type 0

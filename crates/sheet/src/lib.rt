@@ -14,7 +14,7 @@ ghost use lib.ListN.{length, replicate};
 ghost use Rattle.kinds.specs.Codes.{allStates};
 ghost use Rattle.sheet.specs.Sheet.{refuse, onHeader, onParsed, onLine, mostLines};
 ghost use Rattle.sheet.specs.Turns.{wanted, answerWith, begunWith, begun, turnLeft, turned};
-ghost use Rattle.sheet.specs.Code.{Answers, AnswersOn, Roomy, nextIn, eatLeft, ate, movedDown};
+ghost use Rattle.sheet.specs.Code.{NoFault, Answers, AnswersOn, Roomy, nextIn, eatLeft, ate, movedDown};
 
 // With this many bytes held, the next line can be judged, whatever follows.
 const ENOUGH: usize = TOO_LONG + 1;
@@ -89,7 +89,7 @@ fn judge_header(line: &[u8], out: &mut [u8], at: usize) -> Answered
     refuse_line(Refusal::HEADER, 0, out, at)
 }
 
-// Judges a parsed line on the set of its pair, or writes its refusal.
+// Judges a parsed line on the set of its pair, or writes its refusal. The event of a line that is not refused has no fault.
 fn judge_parsed(
     lines: u32,
     parsed: ParsedLine,
@@ -100,6 +100,7 @@ fn judge_parsed(
     requires { ⌜ Roomy (now out) at ⌝ }
     requires { ⌜ 0 < lines ⌝ }
     requires { ⌜ lines < mostLines ⌝ }
+    requires { ⌜ NoFault parsed ⌝ }
     ensures { λ r. ⌜ AnswersOn (onParsed lines (now (table .entry)) parsed)
         (now (out .entry)) at r (now (out .exit)) (now (table .exit)) ⌝ }
 {
@@ -110,7 +111,7 @@ fn judge_parsed(
     let pair = parsed.pair;
     let event = parsed.event;
     let before = pair.set_in(table);
-    let found = verdicts::judge(&event, before);
+    let found = verdicts::found(&event, before);
     let after = found.after;
     pair.put_in(table, after);
     let k = lines - 1;

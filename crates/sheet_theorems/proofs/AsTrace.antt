@@ -26,7 +26,7 @@ use Rattle.replies.specs.Replies.{answerLine}
 use Rattle.sheet.specs.Sheet.{startTable}
 use Rattle.sheet_theorems.specs.Good.{eventOn, eventsOf, good, foundOn, answerLines}
 use Rattle.sheet_theorems.specs.AsTrace.{bytesOf, pairsOf, asTrace, spelled}
-use Rattle.sheet_theorems.proofs.Good.{parsed-pair-in, parsed-in-range, parsed-requested, parsed-length}
+use Rattle.sheet.proofs.Good.{parsed-pair-in, parsed-in-range, parsed-requested, parsed-length}
 use Rattle.sheet_theorems.proofs.Answers.{good-accepted}
 use Rattle.sheet_theorems.proofs.Reached.{start-length, start-set}
 

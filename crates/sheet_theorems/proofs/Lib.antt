@@ -1,4 +1,3 @@
-pub mod Good
 pub mod Answers
 pub mod Named
 pub mod Reached

@@ -27,7 +27,7 @@ use Rattle.histories.proofs.Verdicts.{verdict-is, is-verdict, silent-duty, duty
 use Rattle.sheet.specs.Sheet.{startTable}
 use Rattle.sheet_theorems.specs.Good.{eventOn, eventsOf, good, foundBehind}
 use Rattle.sheet_theorems.specs.SheetHistories.{HistoryOn, SomeHistoryOn, pairOn, PassesTo, Reaches, Passes, VerdictOn, DutyOn}
-use Rattle.sheet_theorems.proofs.Good.{parsed-pair-in}
+use Rattle.sheet.proofs.Good.{parsed-pair-in}
 use Rattle.sheet_theorems.proofs.Answers.{good-accepted, events-append}
 
 -- the set that every pair starts from holds exactly the seven states

@@ -42,7 +42,7 @@ use Rattle.sheet.proofs.Bites.{eaten-keeps, eaten-stops}
 use Rattle.sheet.proofs.Runs.{run-is-sheet, runs-agree, run-exists}
 use Rattle.sheet.proofs.Turns.{turn-eats, turn-runs, turn-stops, begun-start, turns-write}
 use Rattle.sheet.proofs.Ending.{turns-exist}
-use Rattle.sheet_theorems.proofs.Good.{no-fault, parsed-no-fault}
+use Rattle.sheet.proofs.Good.{no-fault, parsed-no-fault}
 use Rattle.sheet_theorems.proofs.Answers.{good-accepted, good-then-more, good-alone, answer-behind}
 use Rattle.sheet_theorems.proofs.Named.{named}
 use Rattle.sheet_theorems.proofs.Reached.{seven-states, pair-inside, set-exact, shown-exact, verdict-given, gives-verdict, duty-given, duty-none}

@@ -8,3 +8,4 @@ pub mod Listing
 pub mod AnswerTheorems
 pub mod TagColumn
 pub mod TagTheorems
+pub mod LookupTheorems

@@ -2,6 +2,7 @@
 -- Assumes nothing.
 use native.Mathlib.Omega.{arith}
 use denote.Ref.{now}
+use Rattle.sheet.proofs.Good.{parse-no-fault}
 use Rattle.sheet.proofs.Laws.{positive, first-line, line-too-many, line-too-long, line-read}
 use borrow.Author.Needs.{needs}
 use Rattle.sheet.proofs.judge_line.Statement.{statement}
@@ -57,12 +58,7 @@ parse-line-requires c κs = search needs
 
 judge-parsed-requires : tie.Need-judge-parsed-requires
 judge-parsed-requires c κs =
-    let if2 = c .before .before .before .before .if2 in
-    let if1 = c .before .before .before .before .before .if1 in
-    let start = c .before .before .before .before .before .before .before .before .before in
-    let args = start .args in
-    let pre = start .pre in
-    (pre, (positive (args .lines) (if1 .left), omega (arith, if2 .left)))
+    (c .before .before .before .before .before .before .before .before .before .pre, (positive (c .before .before .before .before .before .before .before .before .before .args .lines) (c .before .before .before .before .before .if1 .left), (omega (arith, c .before .before .before .before .if2 .left), parse-no-fault (now (c .before .before .before .before .before .before .before .before .before .args .line)) (c .before .before .parse-line .result) (c .before .before .parse-line .ensures))))
 
 same-length-4 : tie.Need-same-length-4
 same-length-4 c = search needs

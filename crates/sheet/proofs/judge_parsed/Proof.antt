@@ -1,6 +1,9 @@
 -- `sheet::judge_parsed` meets its contract: refused, the table stays; else the set of its pair moves and the answer is put.
 -- Assumes nothing.
+use mathlib.Core.Path.{_∙_}
 use denote.Ref.{now}
+use Rattle.event.proofs.Ranges.{in-range}
+use Rattle.verdicts.proofs.Looked.{found-finding}
 use Rattle.sheet.proofs.Laws.{parsed-refused, answer-put}
 use borrow.Author.Needs.{needs}
 use Rattle.sheet.proofs.judge_parsed.Statement.{statement}
@@ -22,11 +25,11 @@ returns c =
 set-in-requires : tie.Need-set-in-requires
 set-in-requires c κs = search needs
 
-slice-aggregate-judge : tie.Need-slice-aggregate-judge
-slice-aggregate-judge c = search needs
+slice-aggregate-found : tie.Need-slice-aggregate-found
+slice-aggregate-found c = search needs
 
-judge-requires : tie.Need-judge-requires
-judge-requires c κs = search needs
+found-requires : tie.Need-found-requires
+found-requires c κs = search needs
 
 put-in-requires : tie.Need-put-in-requires
 put-in-requires c κs = search needs
@@ -45,17 +48,11 @@ same-length-3 c = search needs
 
 returns-2 : tie.Need-returns-2
 returns-2 c =
-    let put-answer = c .before .before .put-answer in
-    let put-in = c .before .before .before .before .before .before .put-in in
-    let judge = c .before .before .before .before .before .before .before .before .judge in
-    let at-set-in = c .before .before .before .before .before .before .before .before .before .before in
-    let set-in = at-set-in .set-in in
-    let if1 = at-set-in .before .before .before .before .if1 in
-    let start = at-set-in .before .before .before .before .before .before .before .before in
-    let args = start .args in
-    let pre = start .pre in
-    answer-put (args .lines) (args .at) (put-answer .result) (now (args .table)) (now (args .out)) _ _ (args .parsed) (judge .result)
-    (set-in .result) (pre .1 .0) (pre .1 .1) (pre .0) (if1 .left) (set-in .ensures) (judge .ensures) (put-in .ensures) (put-answer .ensures)
+    let pre = c .before .before .before .before .before .before .before .before .before .before .before .before .before .before .before .before .before .before .pre in
+    answer-put (c .before .before .before .before .before .before .before .before .before .before .before .before .before .before .before .before .before .before .args .lines) (c .before .before .before .before .before .before .before .before .before .before .before .before .before .before .before .before .before .before .args .at) (c .before .before .put-answer .result) (now (c .before .before .before .before .before .before .before .before .before .before .before .before .before .before .before .before .before .before .args .table)) (now (c .before .before .before .before .before .before .before .before .before .before .before .before .before .before .before .before .before .before .args .out)) _ _ (c .before .before .before .before .before .before .before .before .before .before .before .before .before .before .before .before .before .before .args .parsed) (c .before .before .before .before .before .before .before .before .found .result)
+    (c .before .before .before .before .before .before .before .before .before .before .set-in .result) (pre .1 .0) (pre .1 .1 .0) (pre .0) (c .before .before .before .before .before .before .before .before .before .before .before .before .before .before .if1 .left) (c .before .before .before .before .before .before .before .before .before .before .set-in .ensures)
+    (c .before .before .before .before .before .before .before .before .found .ensures ∙ found-finding (c .before .before .before .before .before .before .before .before .before .before .before .before .before .before .before .before .before .before .args .parsed .event) (in-range (c .before .before .before .before .before .before .before .before .before .before .before .before .before .before .before .before .before .before .args .parsed .event) (pre .1 .1 .1 (c .before .before .before .before .before .before .before .before .before .before .before .before .before .before .if1 .left))) (c .before .before .before .before .before .before .before .before .before .before .set-in .result))
+    (c .before .before .before .before .before .before .put-in .ensures) (c .before .before .put-answer .ensures)
 
 pub judge-parsed-spec : {M : Type 1} → statement M
 judge-parsed-spec =
@@ -65,8 +62,8 @@ judge-parsed-spec =
     same-length
     returns
     set-in-requires
-    slice-aggregate-judge
-    judge-requires
+    slice-aggregate-found
+    found-requires
     put-in-requires
     sub-k
     put-answer-requires

@@ -22,6 +22,7 @@ use Rattle.names.specs.Columns.{pairCode, requestCode, retToSrcCode, doNotGoToS
 use Rattle.names.proofs.Names.{Sought, none, found, seek, pairLimit, limits}
 use Rattle.parser.specs.Parsed.{codesOf, lineCodes, known, wellFormed, eventOf, parsedAs, parsed}
 use Rattle.parser.specs.declared.ParsedLine.{ParsedLine}
+use Rattle.sheet.specs.Code.{NoFault}
 use Rattle.parser.proofs.Events.{under, codes-known, codes-under, parsed-ill, parsed-high, parsed-fine}
 
 names-requested : all (λ (n : Named). n .code ∈? requests) requestNames ≡ true
@@ -182,3 +183,7 @@ module _ (line : List ℕ) (h : parsed line .refusal .0 ≡ 0) where
 
   pub parsed-length : length (parsed line .event) ≡ eventLength
   parsed-length = ap (λ (e : ParsedLine). length (e .event)) (says line h .so) ∙ event-long line (says line h .well-formed)
+
+-- a line as it was parsed
+pub parse-no-fault : (line : List ℕ) (e : ParsedLine) → e ≡ parsed line → NoFault e
+parse-no-fault line e h k = ap (λ (x : ParsedLine). fault issueE (x .event)) h ∙ parsed-no-fault line (sym (ap (λ (x : ParsedLine). x .refusal .0) h) ∙ k)
