@@ -13,12 +13,12 @@ ghost use Rattle.kinds.specs.Codes.{states};
 ghost use Rattle.event.specs.Refusals.{issueE, below, fault, refusalAlone};
 ghost use Rattle.event.specs.Alone.{judgedAlone};
 
-// The limits of bytes 1 to 7 (definition 2.3): the bits that a byte below its limit does not have, two digits for each byte, byte 0 last.
-// From byte 7 down: Resp below 8, opcode below 32, channel below 2, tag state below 4, excl, DoNotGoToSD and RetToSrc below 2; byte 0 is free.
+// The limits of bytes 1 to 7 (definition 2.3): the bits that a byte below its limit does not have, two digits a byte, byte 0 last. From
+// byte 7 down: Resp below 8, opcode below 32, channel below 2, tag state below 4, excl, DoNotGoToSD and RetToSrc below 2; byte 0 is free.
 const FRONT: u64 = 0xF8_E0_FE_FC_FE_FE_FE_00;
 
-// The limits of bytes 8 to 13 likewise, byte 6 last.
-// From byte 13 down: state after below 8, the forwarded data's Resp below 8 and presence below 2, RespErr and TagOp below 4, FwdState below 8.
+// The limits of bytes 8 to 13 likewise, byte 6 last. From byte 13 down: state after below 8, the forwarded data's Resp below 8 and presence
+// below 2, RespErr and TagOp below 4, FwdState below 8; bytes 7 and 6 are free.
 const BACK: u64 = 0xF8_F8_FE_FC_FC_F8_00_00;
 
 // The answer to one event alone: for each of the seven states before, a set of states after and a duty.

@@ -1,9 +1,10 @@
-// What an event can do to a line, looked up by request and answer for all states before at once, without a walk along the rows (definition 6).
+// What an event can do to a line, looked up by request and answer for all states before at once (definition 6). Nothing is walked through.
 use kinds::LineState;
 use kinds::place;
 ghost use Prim.Native.Nat.{_<_};
 ghost use mathlib.Core.Path.{_≡_};
-ghost use Rattle.lookup.specs.Code.{kindOf, contextOf, entryOf, choiceOf, lookedUp, packed, effectOf, from, to, told, spread, seenAfter, lookedSets};
+ghost use Rattle.lookup.specs.Code.{kindOf, contextOf, entryOf, choiceOf, lookedUp, packed, effectOf};
+ghost use Rattle.lookup.specs.Code.{from, to, told, spread, seenAfter, lookedSets};
 
 mod table;
 
