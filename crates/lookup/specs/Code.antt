@@ -1,4 +1,4 @@
--- What is looked up for an event, and what it says. That it says what the rows permit is `says-so` in proofs/Looked.antt.
+-- What is looked up for an event, and what it says. That it says what the rows permit is `says-so` in proofs/Says.antt.
 use Prim.Native.Nat.{ℕ, _+_, _*_, _/_, _%_, _^_}
 use mathlib.Core.Bool.{cond}
 use mathlib.Core.List.{List, map}

@@ -1,4 +1,4 @@
-// What an event can do to a line, looked up by request and answer for all states before at once (definition 6). Nothing is walked through.
+// What an event can do to a line, looked up by request and state (definition 6): by its answer too, and for all states before at once.
 use kinds::LineState;
 use kinds::place;
 ghost use Prim.Native.Nat.{_<_};
@@ -55,7 +55,7 @@ fn context_of(flags: u64) -> u64
     ((flags % HALF * GATHER) >> 24) % 32
 }
 
-// The entry for a request and a kind of answer.
+// The entry for a request and a kind of answer: the states before, as sets, the states after and the duty.
 fn entry_of(request: u8, kind: u64) -> u64
     requires { ⌜ kind < 32 ⌝ }
     ensures { λ r. ⌜ r ≡ entryOf request kind ⌝ }
