@@ -94,6 +94,15 @@ SnpClean = 2
 abbrev pub SnpNotSharedDirty : ℕ
 SnpNotSharedDirty = 4
 
+abbrev pub SnpUnique : ℕ
+SnpUnique = 7
+
+abbrev pub SnpCleanInvalid : ℕ
+SnpCleanInvalid = 9
+
+abbrev pub SnpMakeInvalid : ℕ
+SnpMakeInvalid = 10
+
 abbrev pub SnpCleanFwd : ℕ
 SnpCleanFwd = 18
 
@@ -106,12 +115,15 @@ SnpPreferUnique = 21
 abbrev pub SnpPreferUniqueFwd : ℕ
 SnpPreferUniqueFwd = 22
 
--- the seven requests that are judged
+-- the ten requests that are judged
 abbrev pub requests : List ℕ
 requests =
     SnpShared ∷
     SnpClean ∷
     SnpNotSharedDirty ∷
+    SnpUnique ∷
+    SnpCleanInvalid ∷
+    SnpMakeInvalid ∷
     SnpCleanFwd ∷
     SnpNotSharedDirtyFwd ∷
     SnpPreferUnique ∷

@@ -107,10 +107,13 @@ impl RespErr {
     pub const NDERR: RespErr = RespErr(3);
 }
 
-// The seven requests that are judged, one bit each: bit n is the request with code n (definition 2.4).
+// The ten requests that are judged, one bit each: bit n is the request with code n (definition 2.4).
 const KNOWN: u32 = (1 << Request::SNP_SHARED.0)
     + (1 << Request::SNP_CLEAN.0)
     + (1 << Request::SNP_NOT_SHARED_DIRTY.0)
+    + (1 << Request::SNP_UNIQUE.0)
+    + (1 << Request::SNP_CLEAN_INVALID.0)
+    + (1 << Request::SNP_MAKE_INVALID.0)
     + (1 << Request::SNP_CLEAN_FWD.0)
     + (1 << Request::SNP_NOT_SHARED_DIRTY_FWD.0)
     + (1 << Request::SNP_PREFER_UNIQUE.0)
@@ -126,6 +129,12 @@ impl Request {
 
     pub const SNP_NOT_SHARED_DIRTY: Request = Request(4);
 
+    pub const SNP_UNIQUE: Request = Request(7);
+
+    pub const SNP_CLEAN_INVALID: Request = Request(9);
+
+    pub const SNP_MAKE_INVALID: Request = Request(10);
+
     pub const SNP_CLEAN_FWD: Request = Request(18);
 
     pub const SNP_NOT_SHARED_DIRTY_FWD: Request = Request(20);
@@ -134,7 +143,7 @@ impl Request {
 
     pub const SNP_PREFER_UNIQUE_FWD: Request = Request(22);
 
-    // Whether it is one of the seven that are judged.
+    // Whether it is one of the ten that are judged.
     pub fn known(self) -> bool
         ensures { λ r. ⌜ r ≡ self .0 ∈? requests ⌝ }
     {
@@ -356,6 +365,8 @@ impl Duty {
     pub const REQUESTER: Duty = Duty(2);
 
     pub const LOST: Duty = Duty(3);
+
+    pub const DISCARDED: Duty = Duty(4);
 }
 
 // Why a call is refused, or that it is accepted (definition 4.1, 8.7, 11.5).

@@ -28,13 +28,13 @@ unfolding kindOf
 kind-none answer slot h k =
     sym (ap (λ (b : Bool). cond b (slot / 2 ^ 32) 0) (ne-eqb (slot % 2 ^ 32) answer k)) ∙ ap (λ (n : ℕ). kindIn n answer) h
 
--- where the entries of a request start, 96 at most
-pub start-most : (n : ℕ) → getD starts n 0 ≤ 96
-start-most n = leb-true (getD starts n 0) 96 (all-getD (λ m. leb m 96) starts n refl refl)
+-- where the entries of a request start, 192 at most
+pub start-most : (n : ℕ) → getD starts n 0 ≤ 192
+start-most n = leb-true (getD starts n 0) 192 (all-getD (λ m. leb m 192) starts n refl refl)
 
 -- the entry of a request and a kind, from where the request's entries start
-pub entry-by : (request kind start n : ℕ) → start ≡ getD starts (request % 32) 0 → n ≡ getD entries ((start + kind) % 128) 0 → n ≡ entryOf request kind
-entry-by request kind start n h k = k ∙ ap (λ (m : ℕ). getD entries ((m + kind) % 128) 0) h
+pub entry-by : (request kind start n : ℕ) → start ≡ getD starts (request % 32) 0 → n ≡ getD entries ((start + kind) % 256) 0 → n ≡ entryOf request kind
+entry-by request kind start n h k = k ∙ ap (λ (m : ℕ). getD entries ((m + kind) % 256) 0) h
 
 -- two bits of the choices of a kind
 pub choice-by : (kind flags context c : ℕ) → context ≡ contextOf flags → c ≡ getD choices kind 0 → c / 2 ^ (context * 2) % 4 ≡ choiceOf kind flags

@@ -9,12 +9,12 @@ use Rattle.kinds.specs.Tests.{any, all, _∈?_}
 use Rattle.kinds.specs.Codes.{allStates, requests, tags}
 use Rattle.kinds.specs.Answers.{wire}
 use Rattle.sets.specs.Sets.{setOf, bit}
-use Rattle.rows.specs.Event.{byte, respErrOf}
+use Rattle.rows.specs.Event.{byte}
 use Rattle.rows.specs.Rows.{Row, rows}
 use Rattle.rows.specs.Permitted.{asked, answered, tagged, someTag, tagsAllow, tagOps, rulesOf}
 use Rattle.steps.specs.Steps.{duty}
 use Rattle.lookup.specs.Table.{keys, slots}
-use Rattle.lookup.specs.Code.{kindOf, entryOf, effectBy, from, to, told, unlessLost}
+use Rattle.lookup.specs.Code.{kindOf, entryOf, effectBy, from, to, told, withoutDirty}
 
 -- the event with this snoop and this packed answer, whose state after was not seen
 abbrev pub eventOf : ℕ → ℕ → ℕ → ℕ → ℕ → ℕ → List ℕ
@@ -45,7 +45,7 @@ forSnoop e r = asked e (r .table) (r .ret) (r .marked) && someTag e (r .table) (
 unfoldable pub says : ℕ → List ℕ → List Row → Bool
 says n e rs =
     eqb (from n) (setOf (λ s. any (λ r. eqb s (r .before)) rs))
-    && all (λ r. eqb (to n) (setOf (λ s. s ∈? r .finals)) && (eqb (told n) (duty e allStates) && eqb (unlessLost (respErrOf e) (told n)) (duty e 0))) rs
+    && all (λ r. eqb (to n) (setOf (λ s. s ∈? r .finals)) && (eqb (told n) (duty e allStates) && eqb (withoutDirty (told n)) (duty e 0))) rs
 
 -- the effect of an answer, of which these are the kind and the rows, says what its rows for a snoop say
 unfoldable pub rightSnoop : ℕ → List Row → ℕ → ℕ → ℕ → ℕ → ℕ → ℕ → Bool

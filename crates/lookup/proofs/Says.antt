@@ -25,11 +25,11 @@ use Rattle.steps.specs.Code.{codeOf, rowFits}
 use Rattle.steps.proofs.Walk.{by, rows-steps}
 use Rattle.steps.proofs.Passing.{all-getD}
 use Rattle.lookup.specs.Table.{keys, slots}
-use Rattle.lookup.specs.Code.{slotOf, kindIn, kindOf, entryOf, choiceOf, effectIn, effectBy, lookedUp, packed, effectOf, from, to, told, unlessLost}
+use Rattle.lookup.specs.Code.{slotOf, kindIn, kindOf, entryOf, choiceOf, effectIn, effectBy, lookedUp, packed, effectOf, from, to, told, withoutDirty}
 use Rattle.lookup.proofs.Looked.{eventOf, flagsOf, kept, forAnswer, forSnoop, says, flag, tagSeen, rightSnoop, rightSnoops, rightAnswer, all-right}
 use Rattle.lookup.proofs.Looked.{packedBy, keyed, all-keyed, taken, all-taken, no-kind}
 
--- The bytes of the event are in their ranges, and its request is one of the seven.
+-- The bytes of the event are in their ranges, and its request is one of the ten.
 pub record InRange (e : List ℕ) : Type 0 where
   pub request : requestOf e ∈? requests ≡ true
   pub ret : retToSrcOf e < 2
@@ -289,7 +289,7 @@ module _ (e : List ℕ) (i : InRange e) where
 
   -- the duty that is looked up is right
   abbrev dutyRight : Bool
-  dutyRight = eqb (told n) (duty e allStates) && eqb (unlessLost (respErrOf e) (told n)) (duty e 0)
+  dutyRight = eqb (told n) (duty e allStates) && eqb (withoutDirty (told n)) (duty e 0)
 
   from-rows : from n ≡ setOf (λ s. any (λ r. eqb s (r .before)) (rowsFor e))
   unfolding says
@@ -325,7 +325,7 @@ module _ (e : List ℕ) (i : InRange e) where
   pub record LookedDuty : Type 0 where
     pub to-below : to n < 128
     pub with-dirty : told n ≡ duty e allStates
-    pub without-dirty : unlessLost (respErrOf e) (told n) ≡ duty e 0
+    pub without-dirty : withoutDirty (told n) ≡ duty e 0
 
   pub looked-duty : (s : ℕ) → s < 7 → bit (from n) s ≡ true → LookedDuty
   looked-duty s h k =
@@ -334,9 +334,9 @@ module _ (e : List ℕ) (i : InRange e) where
       let both = all-at (λ x. eqb (to n) (setOf (λ m. m ∈? x .finals)) && dutyRight) to-rows (f .inside) in
       let p = eqb (to n) (setOf (λ m. m ∈? r .finals)) in
       let a = eqb (told n) (duty e allStates) in
-      let b = eqb (unlessLost (respErrOf e) (told n)) (duty e 0) in
+      let b = eqb (withoutDirty (told n)) (duty e 0) in
       record {
         to-below = subst (λ (m : ℕ). m < 128) (sym (eqb-true (to n) (setOf (λ m. m ∈? r .finals)) (and-left p dutyRight both))) (setOf-below (λ m. m ∈? r .finals));
         with-dirty = eqb-true (told n) (duty e allStates) (and-left a b (and-right p dutyRight both));
-        without-dirty = eqb-true (unlessLost (respErrOf e) (told n)) (duty e 0) (and-right a b (and-right p dutyRight both));
+        without-dirty = eqb-true (withoutDirty (told n)) (duty e 0) (and-right a b (and-right p dutyRight both));
       }

@@ -14,7 +14,7 @@ use Rattle.kinds.specs.declared.Forward.the-variants.{NoForward, CompData}
 use Rattle.kinds.specs.Answers.{wire, hasData, answerResp, answerFwd}
 use Rattle.kinds.proofs.Lists.{one-of, same-equal, and-left, and-right}
 use Rattle.rows.specs.declared.Table.{Table}
-use Rattle.rows.specs.declared.Table.the-variants.{B46, B57, B59, B60, NdErr}
+use Rattle.rows.specs.declared.Table.the-variants.{B46, B57, B59, B60, Unique, CleanInvalid, MakeInvalid, NdErr}
 use Rattle.rows.specs.Event.{byte, requestOf, retToSrcOf, doNotGoToSDOf, exclOf, answerOf, respOf, fwdStateOf, respErrOf, forwardedOf, forwardedRespOf}
 use Rattle.rows.specs.Permitted.{rulesOf, fits, asked, answered}
 
@@ -42,6 +42,9 @@ isNdErr B46 = false
 isNdErr B57 = false
 isNdErr B59 = false
 isNdErr B60 = false
+isNdErr Unique = false
+isNdErr CleanInvalid = false
+isNdErr MakeInvalid = false
 isNdErr NdErr = true
 
 -- `answered`: the event has the row's answer, field by field, and a RespErr of the table; only the row of NDERR has NDERR
@@ -80,6 +83,9 @@ error-row n B46 a h = usual n (hasData a) h
 error-row n B57 a h = usual n (hasData a) h
 error-row n B59 a h = usual n (hasData a) h
 error-row n B60 a h = usual n (hasData a) h
+error-row n Unique a h = usual n (hasData a) h
+error-row n CleanInvalid a h = usual n (hasData a) h
+error-row n MakeInvalid a h = usual n (hasData a) h
 error-row n NdErr a h = one-of (λ m. eqb m NDERR) n (NDERR ∷ []) h refl
 
 pub answered-so : (e : List ℕ) (T : Table) (a : Answer) → answered e T a ≡ true → AnsweredSo e T a

@@ -1,15 +1,15 @@
--- Which steps the rows permit (definition 5.6 to 5.11).
+-- Which steps the rows permit (definition 5.6 to 5.12).
 use Prim.Native.Nat.{ℕ}
 use mathlib.Core.Bool.{Bool, cond, not, _&&_, _||_}
 use mathlib.Core.List.{List, [], _∷_}
 use lib.Dec.{eqb}
 use Rattle.kinds.specs.Tests.{any, _∈?_, same}
 use Rattle.kinds.specs.Codes.{UD, UDP, SD, tagDirty, tags, tagNotSeen, opInvalid, opTransfer, opUpdate, OK, DERR, NDERR, requests, respPD, fwdPD}
-use Rattle.kinds.specs.Codes.{SnpShared, SnpClean, SnpNotSharedDirty, SnpCleanFwd, SnpNotSharedDirtyFwd, SnpPreferUnique, SnpPreferUniqueFwd}
+use Rattle.kinds.specs.Codes.{SnpShared, SnpClean, SnpNotSharedDirty, SnpUnique, SnpCleanInvalid, SnpMakeInvalid, SnpCleanFwd, SnpNotSharedDirtyFwd, SnpPreferUnique, SnpPreferUniqueFwd}
 use Rattle.kinds.specs.declared.Answer.{Answer}
 use Rattle.kinds.specs.Answers.{wire, hasData, answerResp, answerFwd}
 use Rattle.rows.specs.declared.Table.{Table}
-use Rattle.rows.specs.declared.Table.the-variants.{B46, B57, B59, B60, NdErr}
+use Rattle.rows.specs.declared.Table.the-variants.{B46, B57, B59, B60, Unique, CleanInvalid, MakeInvalid, NdErr}
 use Rattle.rows.specs.Event.{seen, requestOf, retToSrcOf, doNotGoToSDOf, exclOf, tagOf, answerOf, tagOpOf, respErrOf}
 use Rattle.rows.specs.Rows.{Row, X, rows}
 
@@ -37,12 +37,15 @@ byTags t s a =
     (cond (eqb s UDP) (opInvalid ∷ []) (opInvalid ∷ opTransfer ∷ []))
 
 -- SnpPreferUniqueFwd uses B4.59 with either excl, and B4.60 too with excl 0 (definition 5.6); the row of NDERR has no data (5.11).
--- The `onData` of B4.46 is a house rule, until its printed tag column is at hand (5.9).
+-- The `onData` of B4.46 and of the three snoops of the bench copy is a house rule, until their printed tag columns are at hand (5.9).
 abbrev pub rulesOf : Table → Rules
 rulesOf B46 = record { asks = SnpShared ∷ SnpClean ∷ SnpNotSharedDirty ∷ SnpPreferUnique ∷ []; excl = X; errors = okOrDerr; onData = byTags }
 rulesOf B57 = record { asks = SnpCleanFwd ∷ SnpNotSharedDirtyFwd ∷ []; excl = X; errors = okOrDerr; onData = byTags }
 rulesOf B59 = record { asks = SnpPreferUniqueFwd ∷ []; excl = X; errors = okOrDerr; onData = byTags }
 rulesOf B60 = record { asks = SnpPreferUniqueFwd ∷ []; excl = 0; errors = okOrDerr; onData = byTags }
+rulesOf Unique = record { asks = SnpUnique ∷ []; excl = X; errors = okOrDerr; onData = byTags }
+rulesOf CleanInvalid = record { asks = SnpCleanInvalid ∷ []; excl = X; errors = okOrDerr; onData = byTags }
+rulesOf MakeInvalid = record { asks = SnpMakeInvalid ∷ []; excl = X; errors = okOrDerr; onData = byTags }
 rulesOf NdErr = record { asks = requests; excl = X; errors = λ a. NDERR ∷ []; onData = λ t s a. [] }
 
 -- a column (0, 1 or X) fits a flag

@@ -1,7 +1,7 @@
--- The rows, one line per printed row, in the printed order, under the table's number (definition 5.2 to 5.7, 5.11).
+-- The rows, one line per printed row, in the printed order, under the table's number (definition 5.2 to 5.7, 5.11, 5.12).
 -- A line reads: table, state before, states after (the expected one first), RetToSrc, answer to Home. What the name has after Fwded is the
--- printed answer to the Requester. The printed TagOp columns are `tagsAllow` and `byTags` in Permitted.antt; for B4.46, whose copy here has
--- none, they are a house rule.
+-- printed answer to the Requester. The printed TagOp columns are `tagsAllow` and `byTags` in Permitted.antt; for B4.46 and the bench copy,
+-- which have none here, they are a house rule.
 -- row* is a row with the star: DoNotGoToSD forbids it (definition 5.7). `∷` ends a line, and `[]` ends the list.
 use Prim.Native.Nat.{ℕ}
 use mathlib.Core.Bool.{Bool, true, false}
@@ -12,7 +12,7 @@ use Rattle.kinds.specs.Answers.{SnpResp-I, SnpResp-SC, SnpRespData-I, SnpRespDa
 use Rattle.kinds.specs.Answers.{SnpResp-I-Fwded-SC, SnpResp-SC-Fwded-SC, SnpResp-SD-Fwded-SC, SnpResp-I-Fwded-SD-PD, SnpResp-SC-Fwded-SD-PD, SnpResp-I-Fwded-UC, SnpResp-I-Fwded-UD-PD}
 use Rattle.kinds.specs.Answers.{SnpRespData-I-Fwded-SC, SnpRespData-SC-Fwded-SC, SnpRespData-SD-Fwded-SC, SnpRespData-I-Fwded-SD-PD, SnpRespData-SC-Fwded-SD-PD, SnpRespData-I-PD-Fwded-SC, SnpRespData-SC-PD-Fwded-SC}
 use Rattle.rows.specs.declared.Table.{Table}
-use Rattle.rows.specs.declared.Table.the-variants.{B46, B57, B59, B60, NdErr}
+use Rattle.rows.specs.declared.Table.the-variants.{B46, B57, B59, B60, Unique, CleanInvalid, MakeInvalid, NdErr}
 
 -- A row: it permits one answer from one state before, and names the states after (definition 5.1).
 pub record Row : Type 0 where
@@ -137,10 +137,56 @@ rows·B4·60 =
     row B60 SD to-I X SnpRespData-I-PD ∷
     []
 
+-- BENCH COPY: SnpUnique, with either excl (definition 5.12).
+abbrev pub rows·SnpUnique : List Row
+rows·SnpUnique =
+    row Unique I to-I X SnpResp-I ∷
+    row Unique UCE to-I X SnpResp-I ∷
+    row Unique UC to-I X SnpResp-I ∷
+    row Unique UC to-I X SnpRespData-I ∷
+    row Unique UD to-I X SnpRespData-I-PD ∷
+    row Unique SD to-I X SnpRespData-I-PD ∷
+    row Unique UDP to-I X SnpRespDataPtl-I-PD ∷
+    row Unique SC to-I 0 SnpResp-I ∷
+    row Unique SC to-I 1 SnpRespData-I ∷
+    []
+
+-- BENCH COPY: SnpCleanInvalid, with either excl (definition 5.12).
+abbrev pub rows·SnpCleanInvalid : List Row
+rows·SnpCleanInvalid =
+    row CleanInvalid I to-I X SnpResp-I ∷
+    row CleanInvalid UCE to-I X SnpResp-I ∷
+    row CleanInvalid UD to-I X SnpRespData-I-PD ∷
+    row CleanInvalid UDP to-I X SnpRespDataPtl-I-PD ∷
+    row CleanInvalid SD to-I X SnpRespData-I-PD ∷
+    row CleanInvalid UC to-I X SnpResp-I ∷
+    row CleanInvalid SC to-I X SnpResp-I ∷
+    []
+
+-- BENCH COPY: SnpMakeInvalid, with either excl: from every state, and no data (definition 5.12).
+abbrev pub rows·SnpMakeInvalid : List Row
+rows·SnpMakeInvalid =
+    row MakeInvalid I to-I X SnpResp-I ∷
+    row MakeInvalid UC to-I X SnpResp-I ∷
+    row MakeInvalid UCE to-I X SnpResp-I ∷
+    row MakeInvalid UD to-I X SnpResp-I ∷
+    row MakeInvalid UDP to-I X SnpResp-I ∷
+    row MakeInvalid SC to-I X SnpResp-I ∷
+    row MakeInvalid SD to-I X SnpResp-I ∷
+    []
+
 -- NDERR: one row, from every state (definition 5.11).
 abbrev pub rows·NDERR : List Row
 rows·NDERR = map (λ s. row NdErr s to-I X SnpResp-I) states
 
 -- all rows
 unfoldable pub rows : List Row
-rows = rows·B4·46 ++ rows·B4·57 ++ rows·B4·59 ++ rows·B4·60 ++ rows·NDERR
+rows =
+    rows·B4·46
+    ++ rows·B4·57
+    ++ rows·B4·59
+    ++ rows·B4·60
+    ++ rows·SnpUnique
+    ++ rows·SnpCleanInvalid
+    ++ rows·SnpMakeInvalid
+    ++ rows·NDERR

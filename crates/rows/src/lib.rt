@@ -16,12 +16,15 @@ ghost use Rattle.kinds.specs.Answers.{wire};
 ghost use Rattle.rows.specs.Event.{byte, seen, answerOf, tagOf};
 ghost use Rattle.rows.specs.Permitted.{rulesOf, okOrDerr, byTags, tagsAllow, asked, answered, tagged, someTag, fits};
 
-// The printed tables, and the row of NDERR (definition 5.2 to 5.5, 5.11).
+// The printed tables, the bench copy's rows for three snoops more, and the row of NDERR (definition 5.2 to 5.5, 5.11, 5.12).
 pub enum Table {
     B46,
     B57,
     B59,
     B60,
+    Unique,
+    CleanInvalid,
+    MakeInvalid,
     NdErr,
 }
 
@@ -67,6 +70,9 @@ impl Table {
             }
             Table::B59 => n == Request::SNP_PREFER_UNIQUE_FWD.0,
             Table::B60 => n == Request::SNP_PREFER_UNIQUE_FWD.0,
+            Table::Unique => n == Request::SNP_UNIQUE.0,
+            Table::CleanInvalid => n == Request::SNP_CLEAN_INVALID.0,
+            Table::MakeInvalid => n == Request::SNP_MAKE_INVALID.0,
             Table::NdErr => request.known(),
         }
     }
@@ -80,6 +86,9 @@ impl Table {
             Table::B57 => X,
             Table::B59 => X,
             Table::B60 => 0,
+            Table::Unique => X,
+            Table::CleanInvalid => X,
+            Table::MakeInvalid => X,
             Table::NdErr => X,
         }
     }
@@ -94,12 +103,15 @@ impl Table {
             Table::B57 => usual,
             Table::B59 => usual,
             Table::B60 => usual,
+            Table::Unique => usual,
+            Table::CleanInvalid => usual,
+            Table::MakeInvalid => usual,
             Table::NdErr => nderr(error),
         }
     }
 
-    // Whether an answer with data from this table may carry this TagOp. For B4.46 that is a house rule, until its printed tag column is
-    // at hand (definition 5.9).
+    // Whether an answer with data from this table may carry this TagOp. For B4.46 and the bench copy's rows that is a house rule, until
+    // their printed tag columns are at hand (definition 5.9).
     fn on_data(self, tag: TagState, before: LineState, answer: Answer, op: TagOp) -> bool
         ensures { λ r. ⌜ r ≡ op .0 ∈? rulesOf self .onData (tag .0) (before .0) answer ⌝ }
     {
@@ -109,6 +121,9 @@ impl Table {
             Table::B57 => taken,
             Table::B59 => taken,
             Table::B60 => taken,
+            Table::Unique => taken,
+            Table::CleanInvalid => taken,
+            Table::MakeInvalid => taken,
             Table::NdErr => false,
         }
     }

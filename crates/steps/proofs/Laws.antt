@@ -12,7 +12,7 @@ use lib.Bits.{bitAnd}
 use lib.Dec.{eqb, ltb}
 use lib.ListN.{length, getD, set, take}
 use lib.Seq.{take-all, take-suc-set}
-use Rattle.kinds.specs.Codes.{stateNotSeen, allStates, NDERR, respPD, fwdPD}
+use Rattle.kinds.specs.Codes.{stateNotSeen, allStates, OK, NDERR, SnpMakeInvalid, respPD, fwdPD}
 use Rattle.kinds.specs.Places.{eventLength}
 use Rattle.kinds.specs.declared.Answer.{Answer}
 use Rattle.kinds.specs.declared.Answer.the-variants.{SnpResp, SnpRespData, SnpRespDataPtl}
@@ -22,7 +22,7 @@ use Rattle.rows.specs.declared.Table.{Table}
 use Rattle.rows.specs.declared.Table.the-variants.{NdErr}
 use Rattle.sets.specs.Sets.{setOf, holdsDirty}
 use Rattle.rows.specs.Event.{byte, requestOf, channelOf, opcodeOf, respOf, fwdStateOf, respErrOf, seen}
-use Rattle.steps.specs.Steps.{duty, noDuty, Home, Requester, lost}
+use Rattle.steps.specs.Steps.{duty, noDuty, Home, Requester, lost, discarded}
 use Rattle.steps.specs.Code.{bytesFrom, eventBytes, mark, at-before, at-ret, at-table, at-resp, at-fwd, at-message, columnAt}
 use Rattle.steps.specs.Code.{tableAt, answerAt, rowAt, rowFits, rowAdds, tablesOf, messageOf, rowKey, wireKey, eventKey}
 use Rattle.steps.specs.declared.Row as code
@@ -59,9 +59,10 @@ seen-past n h =
       ne-eqb n 6 (omega arith),
     )
 
--- a table number above 3 is NDERR's
-pub table-else : (n : ℕ) → (n ≡ 0 → ⊥) → (n ≡ 1 → ⊥) → (n ≡ 2 → ⊥) → (n ≡ 3 → ⊥) → NdErr ≡ tableAt n
-table-else n a b c d = simp (ne-eqb n 0 a, ne-eqb n 1 b, ne-eqb n 2 c, ne-eqb n 3 d)
+-- a table number above 6 is NDERR's
+pub table-else : (n : ℕ) → (n ≡ 0 → ⊥) → (n ≡ 1 → ⊥) → (n ≡ 2 → ⊥) → (n ≡ 3 → ⊥) → (n ≡ 4 → ⊥) → (n ≡ 5 → ⊥) → (n ≡ 6 → ⊥) → NdErr ≡ tableAt n
+table-else n a b c d e f g =
+    simp (ne-eqb n 0 a, ne-eqb n 1 b, ne-eqb n 2 c, ne-eqb n 3 d, ne-eqb n 4 e, ne-eqb n 5 f, ne-eqb n 6 g)
 
 -- a message number above 1 is SnpRespDataPtl's
 pub answer-else : (m r f : ℕ) → (m ≡ 0 → ⊥) → (m ≡ 1 → ⊥) → SnpRespDataPtl (record { 0 = r }) ≡ answerAt m r f
@@ -129,24 +130,31 @@ fits-rest e r true x y h k p q =
     and-true false t = refl
 fits-rest e r false x y h k p q = absurd (false≢true (sym k))
 
--- one choice inside another
+-- one choice inside another, and a third inside that
 pub two-choices : (s t : Bool) (a b d x r : ℕ) → x ≡ cond t b d → r ≡ cond s a x → r ≡ cond s a (cond t b d)
 two-choices s t a b d x r h k = k ∙ ap (cond s a) h
+
+pub three-choices : (s t u : Bool) (a b c d x y r : ℕ) → x ≡ cond u c d → y ≡ cond t b x → r ≡ cond s a y → r ≡ cond s a (cond t b (cond u c d))
+three-choices s t u a b c d x y r h k l = two-choices s t a b (cond u c d) y r (two-choices t u b c d x y h k) l
 
 -- `row_adds` computes rowAdds
 pub adds : (e : List ℕ) (among : ℕ) (r : code.Row) (b : Bool) (v : ℕ) → b ≡ rowFits e r → v ≡ cond b (bitAnd (r .finals) among) 0 → v ≡ rowAdds e among r
 adds e among r b v h k = k ∙ ap (λ (x : Bool). cond x (bitAnd (r .finals) among) 0) h
 
 -- the choices of `duty`, each from the one before
-pub duty-by : (e : List ℕ) (before r f x : ℕ) (home requester held : Bool) (d₁ d₂ d : ℕ) → r ≡ respOf e → home ≡ respPD r → f ≡ fwdStateOf e → requester ≡ fwdPD f
-    → x ≡ respErrOf e → held ≡ holdsDirty before → d₁ ≡ cond (eqb x NDERR && held) lost noDuty → d₂ ≡ cond requester Requester d₁ → d ≡ cond home Home d₂ → d ≡ duty e before
+pub duty-by : (e : List ℕ) (before r f q x : ℕ) (home requester held : Bool) (d₀ d₁ d₂ d : ℕ)
+    → r ≡ respOf e → home ≡ respPD r → f ≡ fwdStateOf e → requester ≡ fwdPD f → q ≡ requestOf e → x ≡ respErrOf e → held ≡ holdsDirty before
+    → d₀ ≡ cond (eqb q SnpMakeInvalid && eqb x OK && held) discarded noDuty → d₁ ≡ cond (eqb x NDERR && held) lost d₀
+    → d₂ ≡ cond requester Requester d₁ → d ≡ cond home Home d₂ → d ≡ duty e before
 unfolding duty
-duty-by e before r f x home requester held d₁ d₂ d hr hh hf hq hx hs h₁ h₂ h =
+duty-by e before r f q x home requester held d₀ d₁ d₂ d hr hh hf hp hq hx hs h₀ h₁ h₂ h =
     h
     ∙ ap₂ (λ (b : Bool) (n : ℕ). cond b Home n) (hh ∙ ap respPD hr)
     (h₂
-    ∙ ap₂ (λ (b : Bool) (n : ℕ). cond b Requester n) (hq ∙ ap fwdPD hf)
-    (h₁ ∙ ap₂ (λ (n : ℕ) (b : Bool). cond (eqb n NDERR && b) lost noDuty) hx hs))
+    ∙ ap₂ (λ (b : Bool) (n : ℕ). cond b Requester n) (hp ∙ ap fwdPD hf)
+    (h₁
+    ∙ ap₂ (λ (b : Bool) (n : ℕ). cond b lost n) (ap₂ (λ (n : ℕ) (b : Bool). eqb n NDERR && b) hx hs)
+    (h₀ ∙ ap₂ (λ (b c : Bool). cond (b && c) discarded noDuty) (ap₂ (λ (n m : ℕ). eqb n SnpMakeInvalid && eqb m OK) hq hx) hs)))
 
 -- the key of the event, from its table part and its message part
 pub key-by : (e : List ℕ) (tables message key : ℕ) → tables ≡ tablesOf (requestOf e) (respErrOf e) → message ≡ messageOf (channelOf e) (opcodeOf e)

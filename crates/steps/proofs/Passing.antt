@@ -17,7 +17,7 @@ use Rattle.sets.specs.Sets.{setOf}
 use Rattle.rows.specs.Event.{requestOf, respErrOf, stateAfterOf, seen}
 use Rattle.rows.specs.Rows.{rows}
 use Rattle.rows.specs.declared.Table.{Table}
-use Rattle.rows.specs.declared.Table.the-variants.{B46, B57, B59, B60, NdErr}
+use Rattle.rows.specs.declared.Table.the-variants.{B46, B57, B59, B60, Unique, CleanInvalid, MakeInvalid, NdErr}
 use Rattle.rows.specs.Permitted.{asked, answered, someTag, rulesOf}
 use Rattle.rows.proofs.Parts.{isNdErr, asked-so, answered-so}
 use Rattle.steps.specs.declared.Row as code
@@ -51,6 +51,9 @@ tables-half e T h k =
     each B57 = refl
     each B59 = refl
     each B60 = refl
+    each Unique = refl
+    each CleanInvalid = refl
+    each MakeInvalid = refl
     each NdErr = refl
 
 -- a row that fits has the event's key

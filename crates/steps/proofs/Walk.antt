@@ -21,7 +21,7 @@ use Rattle.steps.specs.declared.Row as code
 use Rattle.rows.specs.Event.{tagOf, stateAfterOf, seen}
 use Rattle.rows.specs.Rows.{Row, row, rows}
 use Rattle.rows.specs.declared.Table.{Table}
-use Rattle.rows.specs.declared.Table.the-variants.{B46, B57, B59, B60, NdErr}
+use Rattle.rows.specs.declared.Table.the-variants.{B46, B57, B59, B60, Unique, CleanInvalid, MakeInvalid, NdErr}
 use Rattle.kinds.specs.Answers.{SnpResp-I, wire}
 use Rattle.rows.specs.Permitted.{asked, answered, tagged, permitted, someTag}
 use Rattle.steps.specs.Steps.{steps, setAfter, setsAfter}
@@ -209,7 +209,10 @@ half B46 = 0
 half B57 = 0
 half B59 = 1
 half B60 = 1
-half NdErr = 2
+half Unique = 2
+half CleanInvalid = 2
+half MakeInvalid = 3
+half NdErr = 3
 
 -- the key of a word is that of its table and answer
 unfoldable pub keyed : ℕ → Bool

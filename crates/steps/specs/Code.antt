@@ -1,19 +1,19 @@
 -- What private functions compute. No public claim names this file.
 use Prim.Native.Nat.{ℕ, zero, suc, _+_, _-_, _*_, _/_, _%_, _^_}
-use mathlib.Core.Bool.{Bool, cond, _&&_}
+use mathlib.Core.Bool.{Bool, cond, _&&_, _||_}
 use mathlib.Core.List.{List, [], _∷_}
 use lib.ListN.{getD, set}
 use lib.Bits.{bitAnd, bitOr}
 use lib.Dec.{eqb}
 use Rattle.kinds.specs.Tests.{_∈?_}
 use Rattle.kinds.specs.Places.{eventLength}
-use Rattle.kinds.specs.Codes.{RSP, op-SnpRespDataPtl, NDERR, SnpPreferUniqueFwd}
+use Rattle.kinds.specs.Codes.{RSP, op-SnpRespDataPtl, NDERR, SnpUnique, SnpCleanInvalid, SnpMakeInvalid, SnpPreferUniqueFwd}
 use Rattle.kinds.specs.declared.Answer.{Answer}
 use Rattle.kinds.specs.declared.Answer.the-variants.{SnpResp, SnpRespData, SnpRespDataPtl}
 use Rattle.kinds.specs.Answers.{forwardAt}
 use Rattle.sets.specs.Sets.{setOf}
 use Rattle.rows.specs.declared.Table.{Table}
-use Rattle.rows.specs.declared.Table.the-variants.{B46, B57, B59, B60, NdErr}
+use Rattle.rows.specs.declared.Table.the-variants.{B46, B57, B59, B60, Unique, CleanInvalid, MakeInvalid, NdErr}
 use Rattle.steps.specs.declared.Row as code
 use Rattle.rows.specs.Event.{byte, requestOf, answerOf, respErrOf}
 use Rattle.rows.specs.Rows.{Row}
@@ -33,7 +33,7 @@ codeOf r = record { table = r .table; before = record { 0 = r .before }; ret = r
 
 -- the number of rows
 abbrev pub rowCount : ℕ
-rowCount = 73
+rowCount = 96
 
 -- the star's bit in a word; the set of states after lies below it
 abbrev pub mark : ℕ
@@ -68,7 +68,14 @@ columnAt w place = w / 2 ^ place % 16
 
 -- the table with this number
 abbrev pub tableAt : ℕ → Table
-tableAt n = cond (eqb n 0) B46 (cond (eqb n 1) B57 (cond (eqb n 2) B59 (cond (eqb n 3) B60 NdErr)))
+tableAt n =
+    cond (eqb n 0) B46
+    (cond (eqb n 1) B57
+    (cond (eqb n 2) B59
+    (cond (eqb n 3) B60
+    (cond (eqb n 4) Unique
+    (cond (eqb n 5) CleanInvalid
+    (cond (eqb n 6) MakeInvalid NdErr))))))
 
 -- the answer, from its message, Resp and FwdState
 abbrev pub answerAt : ℕ → ℕ → ℕ → Answer
@@ -100,7 +107,9 @@ withRow e among r sets = set sets (r .before .0) (bitOr (getD sets (r .before .0
 
 -- the key's table part (the table's number halved), by whether RespErr is NDERR and by the request
 abbrev pub tablesIf : Bool → ℕ → ℕ
-tablesIf nderr request = cond nderr 2 (cond (eqb request SnpPreferUniqueFwd) 1 0)
+tablesIf nderr request =
+    cond (nderr || eqb request SnpMakeInvalid) 3
+    (cond (eqb request SnpUnique || eqb request SnpCleanInvalid) 2 (cond (eqb request SnpPreferUniqueFwd) 1 0))
 
 abbrev pub tablesOf : ℕ → ℕ → ℕ
 tablesOf request error = tablesIf (eqb error NDERR) request

@@ -5,9 +5,9 @@ use mathlib.Core.Bool.{Bool, true, cond, _&&_}
 use mathlib.Core.List.{List, map}
 use lib.Dec.{eqb}
 use Rattle.kinds.specs.Tests.{any, _∈?_}
-use Rattle.kinds.specs.Codes.{states, stateNotSeen, tags, tagNotSeen, NDERR, respPD, fwdPD}
+use Rattle.kinds.specs.Codes.{states, stateNotSeen, tags, tagNotSeen, OK, NDERR, SnpMakeInvalid, respPD, fwdPD}
 use Rattle.sets.specs.Sets.{setOf, holdsDirty}
-use Rattle.rows.specs.Event.{seen, tagOf, respOf, fwdStateOf, respErrOf, stateAfterOf}
+use Rattle.rows.specs.Event.{seen, requestOf, tagOf, respOf, fwdStateOf, respErrOf, stateAfterOf}
 use Rattle.rows.specs.Permitted.{permitted}
 
 -- A step of the event from s to s′ (definition 6.1): some row permits it with some tag state; tag state and s′ are as seen, or any.
@@ -43,12 +43,20 @@ Requester = 2
 abbrev pub lost : ℕ
 lost = 3
 
+abbrev pub discarded : ℕ
+discarded = 4
+
+-- the request throws the line away on purpose, and the answer is OK
+abbrev pub discards : List ℕ → Bool
+discards e = eqb (requestOf e) SnpMakeInvalid && eqb (respErrOf e) OK
+
 -- the duty byte of an explained event, given the set before: the first case that applies (definition 6.3)
 unfoldable pub duty : List ℕ → ℕ → ℕ
 duty e before =
     cond (respPD (respOf e)) Home
     (cond (fwdPD (fwdStateOf e)) Requester
-    (cond (eqb (respErrOf e) NDERR && holdsDirty before) lost noDuty))
+    (cond (eqb (respErrOf e) NDERR && holdsDirty before) lost
+    (cond (discards e && holdsDirty before) discarded noDuty)))
 
 -- the duty byte of one event alone, judged from state s; 0 if the set of states after is empty (definition 6.5)
 abbrev pub dutyAlone : List ℕ → ℕ → ℕ

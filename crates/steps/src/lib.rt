@@ -50,6 +50,9 @@ fn table_of(number: u8) -> Table
         1 => Table::B57,
         2 => Table::B59,
         3 => Table::B60,
+        4 => Table::Unique,
+        5 => Table::CleanInvalid,
+        6 => Table::MakeInvalid,
         _ => Table::NdErr,
     }
 }
@@ -135,12 +138,15 @@ fn event_bytes(event: &[u8]) -> [u8; EVENT_BYTES]
     bytes
 }
 
-// The key's table part: the table's number halved. B4.59 and B4.60 share one value, and NDERR has its own.
+// The key's table part: the table's number halved. B4.46 and B4.57 share a value, and so do B4.59 and B4.60, SnpUnique and
+// SnpCleanInvalid, SnpMakeInvalid and NDERR.
 fn tables_of(request: u8, error: u8) -> u8
     ensures { λ r. ⌜ r ≡ tablesOf request error ⌝ }
 {
+    let either = (request == Request::SNP_UNIQUE.0) | (request == Request::SNP_CLEAN_INVALID.0);
+    let last = (error == RespErr::NDERR.0) | (request == Request::SNP_MAKE_INVALID.0);
     let printed = kinds::choose_byte(request == Request::SNP_PREFER_UNIQUE_FWD.0, 1, 0);
-    kinds::choose_byte(error == RespErr::NDERR.0, 2, printed)
+    kinds::choose_byte(last, 3, kinds::choose_byte(either, 2, printed))
 }
 
 // The key's message part.
@@ -201,9 +207,13 @@ pub fn duty(event: &[u8], before: u8) -> Duty
 {
     let to_home = Resp(rows::byte_at(event, place::RESP)).passes_dirty();
     let to_requester = FwdState(rows::byte_at(event, place::FWD_STATE)).passes_dirty();
-    let lost = (rows::byte_at(event, place::RESP_ERR) == RespErr::NDERR.0)
-        & sets::holds_dirty(before);
-    let else_lost = kinds::choose_byte(lost, Duty::LOST.0, Duty::NONE.0);
+    let request = rows::byte_at(event, place::REQUEST);
+    let error = rows::byte_at(event, place::RESP_ERR);
+    let held = sets::holds_dirty(before);
+    let lost = (error == RespErr::NDERR.0) & held;
+    let discards = (request == Request::SNP_MAKE_INVALID.0) & (error == RespErr::OK.0);
+    let else_discarded = kinds::choose_byte(discards & held, Duty::DISCARDED.0, Duty::NONE.0);
+    let else_lost = kinds::choose_byte(lost, Duty::LOST.0, else_discarded);
     let else_requester = kinds::choose_byte(to_requester, Duty::REQUESTER.0, else_lost);
     Duty(kinds::choose_byte(to_home, Duty::HOME.0, else_requester))
 }

@@ -37,7 +37,13 @@ const B59: u32 = 2 << TABLE_AT;
 
 const B60: u32 = 3 << TABLE_AT;
 
-const ND_ERR: u32 = 4 << TABLE_AT;
+const UNIQUE: u32 = 4 << TABLE_AT;
+
+const CLEAN_INVALID: u32 = 5 << TABLE_AT;
+
+const MAKE_INVALID: u32 = 6 << TABLE_AT;
+
+const ND_ERR: u32 = 7 << TABLE_AT;
 
 // The states before.
 const I: u32 = (LineState::I.0 as u32) << BEFORE_AT;
@@ -143,8 +149,8 @@ const SnpRespData_I_Fwded_SD_PD: u32 = SNP_RESP_DATA + RESP_I + FWDED_SD_PD;
 
 const SnpRespData_I_PD_Fwded_SC: u32 = SNP_RESP_DATA + RESP_I_PD + FWDED_SC;
 
-// The number of rows: 66 printed ones, and one for NDERR from each state.
-pub const ROW_COUNT: usize = 73;
+// The number of rows: 66 printed ones, 23 of the bench copy, and one for NDERR from each state.
+pub const ROW_COUNT: usize = 96;
 
 // All rows, as in specs/Rows.antt of the crate rows.
 pub const ROWS: [u32; ROW_COUNT] = [
@@ -218,6 +224,32 @@ pub const ROWS: [u32; ROW_COUNT] = [
     B60 + SC + TO_I + X + SnpResp_I_Fwded_UC,
     B60 + SD + TO_I + X + SnpResp_I_Fwded_UD_PD,
     B60 + SD + TO_I + X + SnpRespData_I_PD,
+    // Bench copy: SnpUnique
+    UNIQUE + I + TO_I + X + SnpResp_I,
+    UNIQUE + UCE + TO_I + X + SnpResp_I,
+    UNIQUE + UC + TO_I + X + SnpResp_I,
+    UNIQUE + UC + TO_I + X + SnpRespData_I,
+    UNIQUE + UD + TO_I + X + SnpRespData_I_PD,
+    UNIQUE + SD + TO_I + X + SnpRespData_I_PD,
+    UNIQUE + UDP + TO_I + X + SnpRespDataPtl_I_PD,
+    UNIQUE + SC + TO_I + RET_0 + SnpResp_I,
+    UNIQUE + SC + TO_I + RET_1 + SnpRespData_I,
+    // Bench copy: SnpCleanInvalid
+    CLEAN_INVALID + I + TO_I + X + SnpResp_I,
+    CLEAN_INVALID + UCE + TO_I + X + SnpResp_I,
+    CLEAN_INVALID + UD + TO_I + X + SnpRespData_I_PD,
+    CLEAN_INVALID + UDP + TO_I + X + SnpRespDataPtl_I_PD,
+    CLEAN_INVALID + SD + TO_I + X + SnpRespData_I_PD,
+    CLEAN_INVALID + UC + TO_I + X + SnpResp_I,
+    CLEAN_INVALID + SC + TO_I + X + SnpResp_I,
+    // Bench copy: SnpMakeInvalid, from every state, and no data
+    MAKE_INVALID + I + TO_I + X + SnpResp_I,
+    MAKE_INVALID + UC + TO_I + X + SnpResp_I,
+    MAKE_INVALID + UCE + TO_I + X + SnpResp_I,
+    MAKE_INVALID + UD + TO_I + X + SnpResp_I,
+    MAKE_INVALID + UDP + TO_I + X + SnpResp_I,
+    MAKE_INVALID + SC + TO_I + X + SnpResp_I,
+    MAKE_INVALID + SD + TO_I + X + SnpResp_I,
     // NDERR: one row, from every state
     ND_ERR + I + TO_I + X + SnpResp_I,
     ND_ERR + UC + TO_I + X + SnpResp_I,

@@ -10,12 +10,13 @@ use lib.Bits.{bitAnd, and-zero-r}
 use lib.Dec.{eqb}
 use Rattle.kinds.specs.Tests.{any}
 use Rattle.kinds.specs.Codes.{states, stateNotSeen, allStates, NDERR, respPD, fwdPD}
+use Rattle.kinds.proofs.Laws.{one-of-2}
 use Rattle.kinds.proofs.Lists.{any-found, any-states, any-and, and-left, and-right}
 use Rattle.sets.specs.Sets.{setOf, bit, holdsDirty}
 use Rattle.sets.proofs.Laws.{setOf-states, cond-setOf, meet, bit-state}
 use Rattle.rows.specs.Event.{stateAfterOf, seen, respOf, fwdStateOf, respErrOf}
-use Rattle.steps.specs.Steps.{steps, duty, noDuty, Home, Requester, lost}
-use Rattle.lookup.specs.Code.{effectOf, from, to, told, unlessLost, seenAfter}
+use Rattle.steps.specs.Steps.{steps, duty, discards, noDuty, Home, Requester, lost, discarded}
+use Rattle.lookup.specs.Code.{effectOf, from, to, told, withoutDirty, seenAfter}
 use Rattle.lookup.proofs.Says.{InRange, looked-steps, looked-duty, from-below}
 use Rattle.lookup.proofs.Sets.{both-sets}
 use Rattle.verdicts.specs.Verdicts.{afterSet, verdict, dutyByte, finding, explained, unexplained, notJudged}
@@ -65,16 +66,20 @@ finding-some e m a d h k l p =
     l k
     ∙ ap (λ (x : ℕ). record { after = a; verdict = record { 0 = explained }; duty = record { 0 = x } }) p)
 
--- the duty depends on the set before only by whether it holds a Dirty state
+-- the duty, by whether the set before holds a Dirty state
+abbrev dutyIf : List ℕ → Bool → ℕ
+dutyIf e b =
+    cond (respPD (respOf e)) Home
+    (cond (fwdPD (fwdStateOf e)) Requester
+    (cond (eqb (respErrOf e) NDERR && b) lost
+    (cond (discards e && b) discarded noDuty)))
+
+-- the duty depends on the set before by nothing else
 duty-dirty : (e : List ℕ) (m : ℕ) → duty e m ≡ cond (holdsDirty m) (duty e allStates) (duty e 0)
 unfolding duty bit
 duty-dirty e m = go (holdsDirty m)
   where
-    go : (b : Bool)
-        → cond (respPD (respOf e)) Home (cond (fwdPD (fwdStateOf e)) Requester (cond (eqb (respErrOf e) NDERR && b) lost noDuty))
-        ≡ cond b
-        (cond (respPD (respOf e)) Home (cond (fwdPD (fwdStateOf e)) Requester (cond (eqb (respErrOf e) NDERR && true) lost noDuty)))
-        (cond (respPD (respOf e)) Home (cond (fwdPD (fwdStateOf e)) Requester (cond (eqb (respErrOf e) NDERR && false) lost noDuty)))
+    go : (b : Bool) → dutyIf e b ≡ cond b (dutyIf e true) (dutyIf e false)
     go true = refl
     go false = refl
 
@@ -104,7 +109,7 @@ module _ (e : List ℕ) (i : InRange e) (m : ℕ) where
   pub record Hit : Type 0 where
     pub after-is : afterSet e m ≡ afterLooked e
     pub some-before : eqb m 0 ≡ false
-    pub duty-is : duty e m ≡ dutyKept (respErrOf e) (told n) m
+    pub duty-is : duty e m ≡ dutyKept (told n) m
 
   was-hit : eqb (bitAnd (from n) m) 0 ≡ false → Hit
   was-hit h =
@@ -132,14 +137,16 @@ module _ (e : List ℕ) (i : InRange e) (m : ℕ) where
       go false true p q = finding-none e m (was-hit p .after-is ∙ eqb-true (afterLooked e) 0 q)
       go false false p q =
           let w = was-hit p in
-          finding-some e m (afterLooked e) (dutyKept (respErrOf e) (told n) m) (w .after-is) q (w .some-before) (w .duty-is)
+          finding-some e m (afterLooked e) (dutyKept (told n) m) (w .after-is) q (w .some-before) (w .duty-is)
 
--- the duty of a step, by whether the error is NDERR
-pub kept-nderr : (error duty m r : ℕ) → error ≡ NDERR → r ≡ cond (holdsDirty m) duty noDuty → r ≡ dutyKept error duty m
-kept-nderr error duty m r h k = k ∙ sym (ap (λ (b : Bool). cond (holdsDirty m) duty (cond b noDuty duty)) (eq-eqb error NDERR h))
+-- the duty of a step, by whether it is lost or discarded
+pub kept-dirty : (duty m r : ℕ) → eqb duty lost || eqb duty discarded ≡ true → r ≡ cond (holdsDirty m) duty noDuty → r ≡ dutyKept duty m
+kept-dirty duty m r h k =
+    k ∙ sym (ap (λ (b : Bool). cond (holdsDirty m) duty (cond b noDuty duty)) (sym (one-of-2 duty lost discarded) ∙ h))
 
-pub kept-other : (error duty m : ℕ) → (error ≡ NDERR → ⊥) → duty ≡ dutyKept error duty m
-kept-other error duty m h = sym (ap (λ (b : Bool). cond (holdsDirty m) duty (cond b noDuty duty)) (ne-eqb error NDERR h) ∙ same (holdsDirty m))
+pub kept-other : (duty m : ℕ) → eqb duty lost || eqb duty discarded ≡ false → duty ≡ dutyKept duty m
+kept-other duty m h =
+    sym (ap (λ (b : Bool). cond (holdsDirty m) duty (cond b noDuty duty)) (sym (one-of-2 duty lost discarded) ∙ h) ∙ same (holdsDirty m))
   where
     same : (b : Bool) → cond b duty duty ≡ duty
     same true = refl
@@ -159,13 +166,13 @@ module _ (e : List ℕ) (m n among : ℕ) (hn : n ≡ effectOf e) (hs : among �
   unfolding foundBy
   found-none f t x hf ht k p = p ∙ sym (ap (λ (c : Bool). cond c (noStep m) (stepFound e m)) (sym (none-by f t hf ht) ∙ k))
 
-  pub found-some : (f t error told′ d : ℕ) → f ≡ from n → t ≡ to n → eqb (bitAnd f m) 0 || eqb (bitAnd t among) 0 ≡ false
-      → error ≡ respErrOf e → told′ ≡ told n → d ≡ dutyKept error told′ m
+  pub found-some : (f t told′ d : ℕ) → f ≡ from n → t ≡ to n → eqb (bitAnd f m) 0 || eqb (bitAnd t among) 0 ≡ false
+      → told′ ≡ told n → d ≡ dutyKept told′ m
       → _≡_ {A = Finding} (record { after = bitAnd t among; verdict = record { 0 = explained }; duty = record { 0 = d } }) (foundBy e m)
   unfolding foundBy
-  found-some f t error told′ d hf ht k he hd p =
+  found-some f t told′ d hf ht k hd p =
       ap₂ (λ (x y : ℕ). record { after = x; verdict = record { 0 = explained }; duty = record { 0 = y } }) (after-by t ht)
-      (p ∙ ap₂ (λ (x y : ℕ). dutyKept x y m) he (hd ∙ ap told hn))
+      (p ∙ ap (λ (x : ℕ). dutyKept x m) (hd ∙ ap told hn))
       ∙ sym (ap (λ (c : Bool). cond c (noStep m) (stepFound e m)) (sym (none-by f t hf ht) ∙ k))
 
 -- the verdict where no state makes a step

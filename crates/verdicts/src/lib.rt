@@ -1,9 +1,7 @@
 // One event judged on the set of its pair (definition 7.3, 6.3).
 use kinds::Duty;
 use kinds::Refusal;
-use kinds::RespErr;
 use kinds::Verdict;
-use kinds::place;
 ghost use mathlib.Core.Path.{_≡_};
 ghost use Rattle.verdicts.specs.Verdicts.{finding};
 ghost use Rattle.verdicts.specs.Looked.{noStep, dutyKept, foundBy};
@@ -27,11 +25,11 @@ fn no_step(before: u8) -> Finding
     }
 }
 
-// The duty byte of a step: with NDERR nothing is lost where the set before holds no Dirty state.
-fn duty_kept(error: u8, told: u8, before: u8) -> u8
-    ensures { λ r. ⌜ r ≡ dutyKept error told before ⌝ }
+// The duty byte of a step: nothing is lost or discarded where the set before holds no Dirty state.
+fn duty_kept(told: u8, before: u8) -> u8
+    ensures { λ r. ⌜ r ≡ dutyKept told before ⌝ }
 {
-    if error == RespErr::NDERR.0 {
+    if (told == Duty::LOST.0) | (told == Duty::DISCARDED.0) {
         return kinds::choose_byte(sets::holds_dirty(before), told, Duty::NONE.0);
     }
     told
@@ -46,8 +44,7 @@ pub fn found(event: &[u8], before: u8) -> Finding
     if (effect.from() & before == 0) | (after == 0) {
         return no_step(before);
     }
-    let error = rows::byte_at(event, place::RESP_ERR);
-    let duty = duty_kept(error, effect.told(), before);
+    let duty = duty_kept(effect.told(), before);
     Finding {
         after,
         verdict: Verdict::EXPLAINED,

@@ -21,6 +21,9 @@ passes-dirty-requires-2 c κs = search needs
 byte-at-requires-3 : tie.Need-byte-at-requires-3
 byte-at-requires-3 c κs = search needs
 
+byte-at-requires-4 : tie.Need-byte-at-requires-4
+byte-at-requires-4 c κs = search needs
+
 holds-dirty-requires : tie.Need-holds-dirty-requires
 holds-dirty-requires c κs = search needs
 
@@ -33,22 +36,15 @@ choose-byte-requires-2 c κs = search needs
 choose-byte-requires-3 : tie.Need-choose-byte-requires-3
 choose-byte-requires-3 c κs = search needs
 
+choose-byte-requires-4 : tie.Need-choose-byte-requires-4
+choose-byte-requires-4 c κs = search needs
+
 returns : tie.Need-returns
 returns c =
-    let choose-byte2 = c .before .choose-byte2 in
-    let choose-byte = c .before .before .choose-byte in
-    let holds-dirty = c .before .before .before .holds-dirty in
-    let byte-at3 = c .before .before .before .before .before .byte-at3 in
-    let passes-dirty2 = c .before .before .before .before .before .before .passes-dirty2 in
-    let byte-at2 = c .before .before .before .before .before .before .before .byte-at2 in
-    let passes-dirty = c .before .before .before .before .before .before .before .before .passes-dirty in
-    let at-byte-at = c .before .before .before .before .before .before .before .before .before in
-    let byte-at = at-byte-at .byte-at in
-    let args = at-byte-at .before .before .args in
-    duty-by (now (args .event)) (args .before) (byte-at .result) (byte-at2 .result) (byte-at3 .result) (passes-dirty .result)
-    (passes-dirty2 .result) (holds-dirty .result) (choose-byte .result) (choose-byte2 .result) (c .choose-byte3 .result) (byte-at .ensures)
-    (passes-dirty .ensures) (byte-at2 .ensures) (passes-dirty2 .ensures) (byte-at3 .ensures) (holds-dirty .ensures) (choose-byte .ensures)
-    (choose-byte2 .ensures) (c .choose-byte3 .ensures)
+    duty-by (now (c .before .before .before .before .before .before .before .before .before .before .before .before .before .before .before .args .event)) (c .before .before .before .before .before .before .before .before .before .before .before .before .before .before .before .args .before) (c .before .before .before .before .before .before .before .before .before .before .before .before .before .byte-at .result) (c .before .before .before .before .before .before .before .before .before .before .before .byte-at2 .result) (c .before .before .before .before .before .before .before .before .before .byte-at3 .result) (c .before .before .before .before .before .before .before .before .byte-at4 .result) (c .before .before .before .before .before .before .before .before .before .before .before .before .passes-dirty .result)
+    (c .before .before .before .before .before .before .before .before .before .before .passes-dirty2 .result) (c .before .before .before .before .before .before .before .holds-dirty .result) (c .before .before .before .choose-byte .result) (c .before .before .choose-byte2 .result) (c .before .choose-byte3 .result) (c .choose-byte4 .result)
+    (c .before .before .before .before .before .before .before .before .before .before .before .before .before .byte-at .ensures) (c .before .before .before .before .before .before .before .before .before .before .before .before .passes-dirty .ensures) (c .before .before .before .before .before .before .before .before .before .before .before .byte-at2 .ensures) (c .before .before .before .before .before .before .before .before .before .before .passes-dirty2 .ensures) (c .before .before .before .before .before .before .before .before .before .byte-at3 .ensures) (c .before .before .before .before .before .before .before .before .byte-at4 .ensures) (c .before .before .before .before .before .before .before .holds-dirty .ensures)
+    (c .before .before .before .choose-byte .ensures) (c .before .before .choose-byte2 .ensures) (c .before .choose-byte3 .ensures) (c .choose-byte4 .ensures)
 
 pub duty-spec : {M : Type 1} → statement M
 duty-spec =
@@ -59,8 +55,10 @@ duty-spec =
     byte-at-requires-2
     passes-dirty-requires-2
     byte-at-requires-3
+    byte-at-requires-4
     holds-dirty-requires
     choose-byte-requires
     choose-byte-requires-2
     choose-byte-requires-3
+    choose-byte-requires-4
     returns)

@@ -17,7 +17,19 @@ returns-4 : tie.Need-returns-4
 returns-4 c = rw (c .match .keys4)
 
 returns-5 : tie.Need-returns-5
-returns-5 c = table-else (c .before .args .number) (c .match .rest .0 .0 .0 .1) (c .match .rest .0 .0 .1) (c .match .rest .0 .1) (c .match .rest .1)
+returns-5 c = rw (c .match .keys5)
+
+returns-6 : tie.Need-returns-6
+returns-6 c = rw (c .match .keys6)
+
+returns-7 : tie.Need-returns-7
+returns-7 c = rw (c .match .keys7)
+
+returns-8 : tie.Need-returns-8
+returns-8 c =
+    let rest = c .match .rest in
+    table-else (c .before .args .number) (rest .0 .0 .0 .0 .0 .0 .1) (rest .0 .0 .0 .0 .0 .1) (rest .0 .0 .0 .0 .1) (rest .0 .0 .0 .1)
+    (rest .0 .0 .1) (rest .0 .1) (rest .1)
 
 pub table-of-spec : {M : Type 1} → statement M
-table-of-spec = tie.close (tie.spec returns returns-2 returns-3 returns-4 returns-5)
+table-of-spec = tie.close (tie.spec returns returns-2 returns-3 returns-4 returns-5 returns-6 returns-7 returns-8)

@@ -1,8 +1,9 @@
 -- `steps::tables_of` meets its contract: by the error, then by the request.
 -- Assumes nothing.
+use mathlib.Core.Bool.{_||_}
 use lib.Dec.{eqb}
-use Rattle.kinds.specs.Codes.{NDERR, SnpPreferUniqueFwd}
-use Rattle.steps.proofs.Laws.{two-choices}
+use Rattle.kinds.specs.Codes.{NDERR, SnpUnique, SnpCleanInvalid, SnpMakeInvalid, SnpPreferUniqueFwd}
+use Rattle.steps.proofs.Laws.{three-choices}
 use borrow.Author.Needs.{needs}
 use Rattle.steps.proofs.tables_of.Statement.{statement}
 use Rattle.steps.proofs.tables_of.Tie as tie
@@ -13,12 +14,15 @@ choose-byte-requires c κs = search needs
 choose-byte-requires-2 : tie.Need-choose-byte-requires-2
 choose-byte-requires-2 c κs = search needs
 
+choose-byte-requires-3 : tie.Need-choose-byte-requires-3
+choose-byte-requires-3 c κs = search needs
+
 returns : tie.Need-returns
 returns c =
-    let choose-byte = c .before .before .choose-byte in
-    let args = c .before .before .before .before .args in
-    two-choices (eqb (args .error) NDERR) (eqb (args .request) SnpPreferUniqueFwd) 2 1 0 (choose-byte .result) (c .choose-byte2 .result)
-    (choose-byte .ensures) (c .choose-byte2 .ensures)
+    three-choices (eqb (c .before .before .before .before .before .before .before .before .args .error) NDERR || eqb (c .before .before .before .before .before .before .before .before .args .request) SnpMakeInvalid) (eqb (c .before .before .before .before .before .before .before .before .args .request) SnpUnique || eqb (c .before .before .before .before .before .before .before .before .args .request) SnpCleanInvalid)
+    (eqb (c .before .before .before .before .before .before .before .before .args .request) SnpPreferUniqueFwd) 3 2 1 0 (c .before .before .choose-byte .result) (c .before .choose-byte2 .result) (c .choose-byte3 .result) (c .before .before .choose-byte .ensures)
+    (c .before .choose-byte2 .ensures) (c .choose-byte3 .ensures)
 
 pub tables-of-spec : {M : Type 1} → statement M
-tables-of-spec = tie.close (tie.spec choose-byte-requires choose-byte-requires-2 returns)
+tables-of-spec =
+    tie.close (tie.spec choose-byte-requires choose-byte-requires-2 choose-byte-requires-3 returns)

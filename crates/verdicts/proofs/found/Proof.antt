@@ -26,9 +26,6 @@ returns c =
     found-none (now (c .before .before .before .before .before .before .before .args .event)) (c .before .before .before .before .before .before .before .args .before) (c .before .before .before .before .before .effect-of .result .0) (c .before .before .before .seen-after .result) (c .before .before .before .before .before .effect-of .ensures) (c .before .before .before .seen-after .ensures)
     (c .before .before .from .result) (c .before .before .before .before .to .result) (c .no-step .result) (c .before .before .from .ensures) (c .before .before .before .before .to .ensures) (c .before .if1 .taken) (c .no-step .ensures)
 
-byte-at-requires : tie.Need-byte-at-requires
-byte-at-requires c κs = search needs
-
 told-requires : tie.Need-told-requires
 told-requires c κs = search needs
 
@@ -37,9 +34,9 @@ duty-kept-requires c κs = search needs
 
 returns-2 : tie.Need-returns-2
 returns-2 c =
-    found-some (now (c .before .before .before .before .before .before .before .before .before .args .event)) (c .before .before .before .before .before .before .before .before .before .args .before) (c .before .before .before .before .before .before .before .effect-of .result .0) (c .before .before .before .before .before .seen-after .result) (c .before .before .before .before .before .before .before .effect-of .ensures) (c .before .before .before .before .before .seen-after .ensures)
-    (c .before .before .before .before .from .result) (c .before .before .before .before .before .before .to .result) (c .before .before .byte-at .result) (c .before .told .result) (c .duty-kept .result) (c .before .before .before .before .from .ensures) (c .before .before .before .before .before .before .to .ensures) (c .before .before .before .if1 .left)
-    (c .before .before .byte-at .ensures) (c .before .told .ensures) (c .duty-kept .ensures)
+    found-some (now (c .before .before .before .before .before .before .before .before .args .event)) (c .before .before .before .before .before .before .before .before .args .before) (c .before .before .before .before .before .before .effect-of .result .0) (c .before .before .before .before .seen-after .result) (c .before .before .before .before .before .before .effect-of .ensures) (c .before .before .before .before .seen-after .ensures)
+    (c .before .before .before .from .result) (c .before .before .before .before .before .to .result) (c .before .told .result) (c .duty-kept .result) (c .before .before .before .from .ensures) (c .before .before .before .before .before .to .ensures) (c .before .before .if1 .left)
+    (c .before .told .ensures) (c .duty-kept .ensures)
 
 pub found-spec : {M : Type 1} → statement M
 found-spec =
@@ -51,7 +48,6 @@ found-spec =
     from-requires
     no-step-requires
     returns
-    byte-at-requires
     told-requires
     duty-kept-requires
     returns-2)

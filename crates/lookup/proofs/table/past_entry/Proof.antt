@@ -9,7 +9,7 @@ use Rattle.lookup.proofs.table.past_entry.Statement.{statement}
 use Rattle.lookup.proofs.table.past_entry.Tie as tie
 
 returns : tie.Need-returns
-returns c = sym (List·getD-eq-default entries 0 (beyond-le 128 (c .args .n) (search needs)))
+returns c = sym (List·getD-eq-default entries 0 (beyond-le 256 (c .args .n) (search needs)))
 
 pub past-entry-spec : {M : Type 1} → statement M
 past-entry-spec = tie.close (tie.spec returns)

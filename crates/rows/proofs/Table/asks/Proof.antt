@@ -23,6 +23,15 @@ enum-told-4 c = search needs
 enum-told-5 : tie.Need-enum-told-5
 enum-told-5 c = search needs
 
+enum-told-6 : tie.Need-enum-told-6
+enum-told-6 c = search needs
+
+enum-told-7 : tie.Need-enum-told-7
+enum-told-7 c = search needs
+
+enum-told-8 : tie.Need-enum-told-8
+enum-told-8 c = search needs
+
 known-requires : tie.Need-known-requires
 known-requires c κs = search needs
 
@@ -49,7 +58,22 @@ returns-4 c =
     told (λ T. args .request .0 ∈? rulesOf T .asks) (c .before .enum-told4 .given .1) (one-of-1 (args .request .0) 22)
 
 returns-5 : tie.Need-returns-5
-returns-5 c = told (λ T. c .before .before .before .args .request .0 ∈? rulesOf T .asks) (c .before .enum-told5 .given .1) (c .known .ensures)
+returns-5 c =
+    let args = c .before .before .before .args in
+    told (λ T. args .request .0 ∈? rulesOf T .asks) (c .before .enum-told5 .given .1) (one-of-1 (args .request .0) 7)
+
+returns-6 : tie.Need-returns-6
+returns-6 c =
+    let args = c .before .before .before .args in
+    told (λ T. args .request .0 ∈? rulesOf T .asks) (c .before .enum-told6 .given .1) (one-of-1 (args .request .0) 9)
+
+returns-7 : tie.Need-returns-7
+returns-7 c =
+    let args = c .before .before .before .args in
+    told (λ T. args .request .0 ∈? rulesOf T .asks) (c .before .enum-told7 .given .1) (one-of-1 (args .request .0) 10)
+
+returns-8 : tie.Need-returns-8
+returns-8 c = told (λ T. c .before .before .before .args .request .0 ∈? rulesOf T .asks) (c .before .enum-told8 .given .1) (c .known .ensures)
 
 pub asks-spec : {M : Type 1} → statement M
 asks-spec =
@@ -60,9 +84,15 @@ asks-spec =
     enum-told-3
     enum-told-4
     enum-told-5
+    enum-told-6
+    enum-told-7
+    enum-told-8
     known-requires
     returns
     returns-2
     returns-3
     returns-4
-    returns-5)
+    returns-5
+    returns-6
+    returns-7
+    returns-8)

@@ -25,6 +25,15 @@ enum-told-4 c = search needs
 enum-told-5 : tie.Need-enum-told-5
 enum-told-5 c = search needs
 
+enum-told-6 : tie.Need-enum-told-6
+enum-told-6 c = search needs
+
+enum-told-7 : tie.Need-enum-told-7
+enum-told-7 c = search needs
+
+enum-told-8 : tie.Need-enum-told-8
+enum-told-8 c = search needs
+
 nderr-requires : tie.Need-nderr-requires
 nderr-requires c κs = search needs
 
@@ -54,8 +63,26 @@ returns-4 c =
 
 returns-5 : tie.Need-returns-5
 returns-5 c =
+    let ok-or-derr = c .before .before .ok-or-derr in
+    let args = c .before .before .before .args in
+    told (λ T. args .error .0 ∈? rulesOf T .errors (args .answer)) (c .enum-told5 .given .1) (ok-or-derr .ensures)
+
+returns-6 : tie.Need-returns-6
+returns-6 c =
+    let ok-or-derr = c .before .before .ok-or-derr in
+    let args = c .before .before .before .args in
+    told (λ T. args .error .0 ∈? rulesOf T .errors (args .answer)) (c .enum-told6 .given .1) (ok-or-derr .ensures)
+
+returns-7 : tie.Need-returns-7
+returns-7 c =
+    let ok-or-derr = c .before .before .ok-or-derr in
+    let args = c .before .before .before .args in
+    told (λ T. args .error .0 ∈? rulesOf T .errors (args .answer)) (c .enum-told7 .given .1) (ok-or-derr .ensures)
+
+returns-8 : tie.Need-returns-8
+returns-8 c =
     let args = c .before .before .before .before .args in
-    told (λ T. args .error .0 ∈? rulesOf T .errors (args .answer)) (c .before .enum-told5 .given .1) (c .nderr .ensures)
+    told (λ T. args .error .0 ∈? rulesOf T .errors (args .answer)) (c .before .enum-told8 .given .1) (c .nderr .ensures)
 
 pub errors-spec : {M : Type 1} → statement M
 errors-spec =
@@ -67,9 +94,15 @@ errors-spec =
     enum-told-3
     enum-told-4
     enum-told-5
+    enum-told-6
+    enum-told-7
+    enum-told-8
     nderr-requires
     returns
     returns-2
     returns-3
     returns-4
-    returns-5)
+    returns-5
+    returns-6
+    returns-7
+    returns-8)

@@ -26,6 +26,15 @@ enum-told-4 c = search needs
 enum-told-5 : tie.Need-enum-told-5
 enum-told-5 c = search needs
 
+enum-told-6 : tie.Need-enum-told-6
+enum-told-6 c = search needs
+
+enum-told-7 : tie.Need-enum-told-7
+enum-told-7 c = search needs
+
+enum-told-8 : tie.Need-enum-told-8
+enum-told-8 c = search needs
+
 returns : tie.Need-returns
 returns c =
     let by-tags = c .before .before .by-tags in
@@ -56,8 +65,29 @@ returns-4 c =
 
 returns-5 : tie.Need-returns-5
 returns-5 c =
+    let by-tags = c .before .before .by-tags in
     let args = c .before .before .before .args in
-    told (λ T. args .op .0 ∈? rulesOf T .onData (args .tag .0) (args .before .0) (args .answer)) (c .enum-told5 .given .1) refl
+    told (λ T. args .op .0 ∈? rulesOf T .onData (args .tag .0) (args .before .0) (args .answer)) (c .enum-told5 .given .1)
+    (by-tags .ensures)
+
+returns-6 : tie.Need-returns-6
+returns-6 c =
+    let by-tags = c .before .before .by-tags in
+    let args = c .before .before .before .args in
+    told (λ T. args .op .0 ∈? rulesOf T .onData (args .tag .0) (args .before .0) (args .answer)) (c .enum-told6 .given .1)
+    (by-tags .ensures)
+
+returns-7 : tie.Need-returns-7
+returns-7 c =
+    let by-tags = c .before .before .by-tags in
+    let args = c .before .before .before .args in
+    told (λ T. args .op .0 ∈? rulesOf T .onData (args .tag .0) (args .before .0) (args .answer)) (c .enum-told7 .given .1)
+    (by-tags .ensures)
+
+returns-8 : tie.Need-returns-8
+returns-8 c =
+    let args = c .before .before .before .args in
+    told (λ T. args .op .0 ∈? rulesOf T .onData (args .tag .0) (args .before .0) (args .answer)) (c .enum-told8 .given .1) refl
 
 pub on-data-spec : {M : Type 1} → statement M
 on-data-spec =
@@ -69,8 +99,14 @@ on-data-spec =
     enum-told-3
     enum-told-4
     enum-told-5
+    enum-told-6
+    enum-told-7
+    enum-told-8
     returns
     returns-2
     returns-3
     returns-4
-    returns-5)
+    returns-5
+    returns-6
+    returns-7
+    returns-8)
