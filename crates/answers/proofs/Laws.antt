@@ -12,7 +12,7 @@ use lib.Dec.{eqb, ltb, leb}
 use lib.ListN.{length, getD, take, drop, set, length-append, length-drop, length-map}
 use lib.Seq.{sets-eq, take-suc, take-at, drop-append-add, drop-drop, getD-drop, length-take-le}
 use Rattle.kinds.specs.Tests.{_∈?_}
-use Rattle.kinds.specs.Codes.{RSP, DAT}
+use Rattle.kinds.specs.Codes.{RSP, DAT, SnpUnique, SnpCleanInvalid, SnpMakeInvalid, SnpCleanFwd, SnpNotSharedDirtyFwd, SnpPreferUniqueFwd}
 use Rattle.kinds.proofs.Laws.{one-of-2, and-5}
 use Rattle.event.specs.Refusals.{issueE, below}
 use Rattle.answers.specs.declared.Question.{Question}
@@ -23,10 +23,14 @@ use Rattle.answers.specs.Table.{lists, spans, numbers, answers, contextC
 use Rattle.answers.specs.Code.{tablesOf, contextOf, spanOf, nineOf, answerAt, answersAt}
 
 -- the choices of `tables`, each from the one before
-pub tables-by : (request excl plain unique r : ℕ) → plain ≡ cond (eqb request 18 || eqb request 20) 1 0 → unique ≡ cond (eqb excl 0) 3 2
-    → r ≡ cond (eqb request 22) unique plain → r ≡ tablesOf request excl
-tables-by request excl plain unique r hp hu hr =
-    hr ∙ ap₂ (cond (eqb request 22)) hu (hp ∙ ap (λ (b : Bool). cond b 1 0) (one-of-2 request 18 20))
+pub tables-by : (request excl plain both printed make clean r : ℕ)
+    → plain ≡ cond (eqb request SnpCleanFwd || eqb request SnpNotSharedDirtyFwd) 1 0 → both ≡ cond (eqb excl 0) 3 2
+    → printed ≡ cond (eqb request SnpPreferUniqueFwd) both plain → make ≡ cond (eqb request SnpMakeInvalid) 6 printed
+    → clean ≡ cond (eqb request SnpCleanInvalid) 5 make → r ≡ cond (eqb request SnpUnique) 4 clean → r ≡ tablesOf request excl
+tables-by request excl plain both printed make clean r hp hb hq hm hc hr =
+    let is-plain = hp ∙ ap (λ (b : Bool). cond b 1 0) (one-of-2 request SnpCleanFwd SnpNotSharedDirtyFwd) in
+    let is-printed = hq ∙ ap₂ (cond (eqb request SnpPreferUniqueFwd)) hb is-plain in
+    hr ∙ ap (cond (eqb request SnpUnique) 4) (hc ∙ ap (cond (eqb request SnpCleanInvalid) 5) (hm ∙ ap (cond (eqb request SnpMakeInvalid) 6) is-printed))
 
 -- the range test of `fault` is that of all five bytes
 pub range-by : (q : Question) (fine : Bool)

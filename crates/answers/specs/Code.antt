@@ -5,14 +5,21 @@ use mathlib.Core.List.{List, [], _∷_, map}
 use lib.Dec.{eqb, ltb}
 use lib.ListN.{getD, take, drop}
 use Rattle.kinds.specs.Tests.{_∈?_}
-use Rattle.kinds.specs.Codes.{SnpCleanFwd, SnpNotSharedDirtyFwd, SnpPreferUniqueFwd, tagDirty, RSP, DAT}
+use Rattle.kinds.specs.Codes.{SnpUnique, SnpCleanInvalid, SnpMakeInvalid, SnpCleanFwd, SnpNotSharedDirtyFwd, SnpPreferUniqueFwd, tagDirty, RSP, DAT}
 use Rattle.answers.specs.declared.Question.{Question}
 use Rattle.answers.specs.Table.{lists, spans, numbers, answers, firstOnDat}
 
--- the tables that hold for a request and excl: 0 is B4.46, 1 is B4.57, 2 is B4.59, 3 is B4.59 with B4.60
+-- the printed tables that hold for a request and excl: 0 is B4.46, 1 is B4.57, 2 is B4.59, 3 is B4.59 with B4.60
+abbrev pub printedOf : ℕ → ℕ → ℕ
+printedOf request excl =
+    cond (eqb request SnpPreferUniqueFwd) (cond (eqb excl 0) 3 2) (cond (request ∈? (SnpCleanFwd ∷ SnpNotSharedDirtyFwd ∷ [])) 1 0)
+
+-- the tables that hold: also 4 for SnpUnique, 5 for SnpCleanInvalid, 6 for SnpMakeInvalid
 abbrev pub tablesOf : ℕ → ℕ → ℕ
 tablesOf request excl =
-    cond (eqb request SnpPreferUniqueFwd) (cond (eqb excl 0) 3 2) (cond (request ∈? (SnpCleanFwd ∷ SnpNotSharedDirtyFwd ∷ [])) 1 0)
+    cond (eqb request SnpUnique) 4
+    (cond (eqb request SnpCleanInvalid) 5
+    (cond (eqb request SnpMakeInvalid) 6 (printedOf request excl)))
 
 -- the context of a question: tables, RetToSrc, DoNotGoToSD, Dirty tags and state before
 abbrev pub contextOf : Question → ℕ

@@ -57,15 +57,19 @@ fn fault(q: Question) -> Refusal
     Refusal(kinds::choose_byte(fine, by_request, Refusal::RANGE.0))
 }
 
-// The tables that hold: 0 is B4.46, 1 is B4.57, 2 is B4.59, 3 is B4.59 with B4.60 (definition 5.2 to 5.6).
+// The tables that hold: 0 is B4.46, 1 is B4.57, 2 is B4.59, 3 is B4.59 with B4.60, 4 is SnpUnique, 5 is SnpCleanInvalid, 6 is
+// SnpMakeInvalid (definition 5.2 to 5.6, 5.12).
 fn tables(request: Request, excl: u8) -> u8
     ensures { λ r. ⌜ r ≡ tablesOf (request .0) excl ⌝ }
 {
     let n = request.0;
     let forwards = (n == Request::SNP_CLEAN_FWD.0) | (n == Request::SNP_NOT_SHARED_DIRTY_FWD.0);
     let plain = kinds::choose_byte(forwards, 1, 0);
-    let unique = kinds::choose_byte(excl == 0, 3, 2);
-    kinds::choose_byte(n == Request::SNP_PREFER_UNIQUE_FWD.0, unique, plain)
+    let both = kinds::choose_byte(excl == 0, 3, 2);
+    let printed = kinds::choose_byte(n == Request::SNP_PREFER_UNIQUE_FWD.0, both, plain);
+    let or_make = kinds::choose_byte(n == Request::SNP_MAKE_INVALID.0, 6, printed);
+    let or_clean = kinds::choose_byte(n == Request::SNP_CLEAN_INVALID.0, 5, or_make);
+    kinds::choose_byte(n == Request::SNP_UNIQUE.0, 4, or_clean)
 }
 
 // What the list of a question depends on, in one number: tables, RetToSrc, DoNotGoToSD, Dirty tags and state before.

@@ -14,14 +14,29 @@ choose-byte-requires-2 c κs = search needs
 choose-byte-requires-3 : tie.Need-choose-byte-requires-3
 choose-byte-requires-3 c κs = search needs
 
+choose-byte-requires-4 : tie.Need-choose-byte-requires-4
+choose-byte-requires-4 c κs = search needs
+
+choose-byte-requires-5 : tie.Need-choose-byte-requires-5
+choose-byte-requires-5 c κs = search needs
+
+choose-byte-requires-6 : tie.Need-choose-byte-requires-6
+choose-byte-requires-6 c κs = search needs
+
 returns : tie.Need-returns
 returns c =
-    let choose-byte2 = c .before .before .choose-byte2 in
-    let choose-byte = c .before .before .before .choose-byte in
-    let args = c .before .before .before .before .before .before .args in
-    tables-by (args .request .0) (args .excl) (choose-byte .result) (choose-byte2 .result) (c .choose-byte3 .result) (choose-byte .ensures)
-    (choose-byte2 .ensures) (c .choose-byte3 .ensures)
+    tables-by (c .before .before .before .before .before .before .before .before .before .before .before .before .args .request .0) (c .before .before .before .before .before .before .before .before .before .before .before .before .args .excl) (c .before .before .before .before .before .before .before .before .before .choose-byte .result) (c .before .before .before .before .before .before .before .before .choose-byte2 .result) (c .before .before .before .before .before .before .choose-byte3 .result) (c .before .before .before .before .choose-byte4 .result)
+    (c .before .before .choose-byte5 .result) (c .choose-byte6 .result) (c .before .before .before .before .before .before .before .before .before .choose-byte .ensures) (c .before .before .before .before .before .before .before .before .choose-byte2 .ensures) (c .before .before .before .before .before .before .choose-byte3 .ensures)
+    (c .before .before .before .before .choose-byte4 .ensures) (c .before .before .choose-byte5 .ensures) (c .choose-byte6 .ensures)
 
 pub tables-spec : {M : Type 1} → statement M
 tables-spec =
-    tie.close (tie.spec choose-byte-requires choose-byte-requires-2 choose-byte-requires-3 returns)
+    tie.close
+    (tie.spec
+    choose-byte-requires
+    choose-byte-requires-2
+    choose-byte-requires-3
+    choose-byte-requires-4
+    choose-byte-requires-5
+    choose-byte-requires-6
+    returns)
