@@ -5,11 +5,13 @@ use mathlib.Core.Logic.{_↔_, _⊎_, ⊎-elim}
 use mathlib.Core.Bool.{Bool, true, false, cond, not, _&&_}
 use Prim.Native.Nat.{ℕ, suc, _<_}
 use native.Mathlib.Omega.{arith}
+use borrow.Author.Tests.{eqb-true}
 use lib.ListN.{length, getD}
-use Rattle.kinds.specs.Codes.{dirty}
+use Rattle.kinds.specs.Codes.{dirty, SnpMakeInvalid}
 use Rattle.kinds.specs.Places.{setIn}
 use Rattle.sets.specs.Sets.{bit, holdsDirty}
-use Rattle.steps.specs.Steps.{Step, duty, noDuty, Home, Requester, lost}
+use Rattle.rows.specs.Event.{requestOf}
+use Rattle.steps.specs.Steps.{Step, duty, noDuty, Home, Requester, lost, discarded}
 use Rattle.event.specs.Refusals.{issueE}
 use Rattle.verdicts.specs.Verdicts.{afterSet, verdict, dutyByte, explained, unexplained, notJudged}
 use Rattle.verdicts.proofs.Laws.{From, after-from, from-after, is-explained}
@@ -25,9 +27,10 @@ use Rattle.histories.proofs.Walk.{ends-exact}
 use Rattle.histories.proofs.Own.{length-run, length-outputs}
 use Rattle.histories.proofs.Verdicts.{explained-duty, silent-duty, duty-is}
 use Rattle.histories.proofs.At.{setBefore, set-next, set-lost, set-below, byte-at, after-at, table-at, pair-in, reached-held, verdict-given, gives-verdict}
-use Rattle.theorems.specs.Duties.{nonDataError, HomeHolds, RequesterHolds}
+use Rattle.theorems.specs.Duties.{nonDataError, makesInvalid, HomeHolds, RequesterHolds}
 use Rattle.theorems.specs.Traces.{Accepted, verdictAt, dutyAt, afterAt, setAtEnd, pairOf, eventOf, DutySaid, DirtyReaches}
-use Rattle.theorems.proofs.Told.{law, exactly-one, nobody, error-byte, holds-dirty, dirty-held}
+use Rattle.theorems.proofs.RowLaw.{make-error}
+use Rattle.theorems.proofs.Told.{law, other-request, exactly-one, nobody, error-byte, make-byte, holds-dirty, dirty-held}
 
 -- a state is in a pair's set exactly when a history of the pair ends in it
 pub set-history : (l : Lent) (p k s : ℕ) → bit (setBefore l p k) s ≡ true ↔ HistoryTo l p k s
@@ -133,12 +136,13 @@ module _ (l : Lent) (ok : Accepted l) where
         came = record { state = s; inside = set-history l (pairOf l k) k s .1 h; step = p }
 
     -- DEMAND 2 (definition 1.6) in a trace: exactly one is told
-    pub handed-over : (s s′ : ℕ) → HistoryTo l (pairOf l k) k s → Step (eventOf l k) s s′ → dirty s ≡ true → dirty s′ ≡ false → nonDataError (eventOf l k) ≡ false
+    pub handed-over : (s s′ : ℕ) → HistoryTo l (pairOf l k) k s → Step (eventOf l k) s s′ → dirty s ≡ true → dirty s′ ≡ false
+        → nonDataError (eventOf l k) ≡ false → makesInvalid (eventOf l k) ≡ false
         → HomeHolds (eventOf l k) (dutyAt l k) ⊎ RequesterHolds (eventOf l k) (dutyAt l k)
-    handed-over s s′ h p d d′ n =
+    handed-over s s′ h p d d′ n i =
         subst (λ (x : ℕ). HomeHolds (eventOf l k) x ⊎ RequesterHolds (eventOf l k) x)
         (sym (explained-byte (passes-explained s s′ h p)))
-        (exactly-one (eventOf l k) (dirty s) (dirty s′) (law (eventOf l k) (p .tag) s s′ (p .by-rows)) d d′ n m)
+        (exactly-one (eventOf l k) (dirty s) (dirty s′) (law (eventOf l k) (p .tag) s s′ (p .by-rows)) d d′ n i m)
 
     -- a non-data error that some history passes: its duty byte is 3 exactly if the set before holds a Dirty state
     error-at : (s s′ : ℕ) → HistoryTo l (pairOf l k) k s → Step (eventOf l k) s s′ → nonDataError (eventOf l k) ≡ true → dutyAt l k ≡ cond (holdsDirty m) lost noDuty
@@ -149,43 +153,61 @@ module _ (l : Lent) (ok : Accepted l) where
         let b = set-history l (pairOf l k) k s .1 h in
         holds-dirty m s (bit-state m s (set-below issueE l good (pairOf l k) k (pair-in issueE l good k inside)) b) b d
 
-    pub lost-at : (s s′ : ℕ) → HistoryTo l (pairOf l k) k s → Step (eventOf l k) s s′ → nonDataError (eventOf l k) ≡ true → (dutyAt l k ≡ lost) ↔ DirtyReaches l k
-    lost-at s s′ h p n = (there, back)
+    -- a duty byte that is d exactly if the set before holds a Dirty state, is d exactly if some history reaches the event with a Dirty line
+    dirty-at : (d : ℕ) → (d ≡ noDuty → ⊥) → dutyAt l k ≡ cond (holdsDirty m) d noDuty → (dutyAt l k ≡ d) ↔ DirtyReaches l k
+    dirty-at d some byte = (there, back)
       where
-        there : dutyAt l k ≡ lost → DirtyReaches l k
+        there : dutyAt l k ≡ d → DirtyReaches l k
         there q = go (holdsDirty m) refl
           where
             go : (b : Bool) → holdsDirty m ≡ b → DirtyReaches l k
             go true b =
                 let f = dirty-held m b in
                 record { state = f .state; is-dirty = f .is-dirty; history = set-history l (pairOf l k) k (f .state) .0 (f .inside) }
-            go false b =
-                let wrong : _≡_ {A = ℕ} lost noDuty = sym q ∙ error-at s s′ h p n ∙ ap (λ (x : Bool). cond x lost noDuty) b in
-                absurd (omega arith)
+            go false b = absurd (some (sym q ∙ byte ∙ ap (λ (x : Bool). cond x d noDuty) b))
 
-        back : DirtyReaches l k → dutyAt l k ≡ lost
-        back r = error-at s s′ h p n ∙ ap (λ (x : Bool). cond x lost noDuty) (dirty-before (r .state) (r .history) (r .is-dirty))
+        back : DirtyReaches l k → dutyAt l k ≡ d
+        back r = byte ∙ ap (λ (x : Bool). cond x d noDuty) (dirty-before (r .state) (r .history) (r .is-dirty))
+
+    pub lost-at : (s s′ : ℕ) → HistoryTo l (pairOf l k) k s → Step (eventOf l k) s s′ → nonDataError (eventOf l k) ≡ true → (dutyAt l k ≡ lost) ↔ DirtyReaches l k
+    lost-at s s′ h p n = dirty-at lost (λ z. absurd (omega arith)) (error-at s s′ h p n)
+
+    -- SnpMakeInvalid that some history passes: its duty byte, by the set before and whether it is a non-data error
+    make-at : (s s′ : ℕ) → HistoryTo l (pairOf l k) k s → Step (eventOf l k) s s′ → makesInvalid (eventOf l k) ≡ true
+        → dutyAt l k ≡ cond (holdsDirty m) (cond (nonDataError (eventOf l k)) lost discarded) noDuty
+    make-at s s′ h p i =
+        explained-byte (passes-explained s s′ h p)
+        ∙ make-byte (eventOf l k) m (dirty s) (dirty s′) (law (eventOf l k) (p .tag) s s′ (p .by-rows))
+        (make-error (eventOf l k) (p .tag) s s′ (p .by-rows) (eqb-true (requestOf (eventOf l k)) SnpMakeInvalid i))
+
+    pub discarded-at : (s s′ : ℕ) → HistoryTo l (pairOf l k) k s → Step (eventOf l k) s s′ → makesInvalid (eventOf l k) ≡ true → nonDataError (eventOf l k) ≡ false
+        → (dutyAt l k ≡ discarded) ↔ DirtyReaches l k
+    discarded-at s s′ h p i n =
+        dirty-at discarded (λ z. absurd (omega arith)) (make-at s s′ h p i ∙ ap (λ (x : Bool). cond (holdsDirty m) (cond x lost discarded) noDuty) n)
 
     -- a duty byte of 0: no history that passes the event gives up a Dirty line in it
     pub kept-dirty : (s s′ : ℕ) → HistoryTo l (pairOf l k) k s → Step (eventOf l k) s s′ → dutyAt l k ≡ noDuty → dirty s ≡ true → dirty s′ ≡ true
-    kept-dirty s s′ h p z d = go (dirty s′) (nonDataError (eventOf l k)) refl refl
+    kept-dirty s s′ h p z d = go (dirty s′) (nonDataError (eventOf l k)) (makesInvalid (eventOf l k)) refl refl refl
       where
-        go : (b n : Bool) → dirty s′ ≡ b → nonDataError (eventOf l k) ≡ n → b ≡ true
-        go true n q r = refl
-        go false true q r =
-            let wrong : _≡_ {A = ℕ} noDuty lost = sym z ∙ lost-at s s′ h p r .1 (record { state = s; is-dirty = d; history = h }) in
-            absurd (omega arith)
-        go false false q r =
+        reaches : DirtyReaches l k
+        reaches = record { state = s; is-dirty = d; history = h }
+
+        go : (b n i : Bool) → dirty s′ ≡ b → nonDataError (eventOf l k) ≡ n → makesInvalid (eventOf l k) ≡ i → b ≡ true
+        go true n i q r w = refl
+        go false true i q r w = let wrong : _≡_ {A = ℕ} noDuty lost = sym z ∙ lost-at s s′ h p r .1 reaches in absurd (omega arith)
+        go false false true q r w = let wrong : _≡_ {A = ℕ} noDuty discarded = sym z ∙ discarded-at s s′ h p w r .1 reaches in absurd (omega arith)
+        go false false false q r w =
             absurd
             (⊎-elim
-            (λ w. let wrong : _≡_ {A = ℕ} noDuty Home = sym z ∙ w .says in absurd (omega arith))
-            (λ w. let wrong : _≡_ {A = ℕ} noDuty Requester = sym z ∙ w .says in absurd (omega arith))
-            (handed-over s s′ h p d q r))
+            (λ x. let wrong : _≡_ {A = ℕ} noDuty Home = sym z ∙ x .says in absurd (omega arith))
+            (λ x. let wrong : _≡_ {A = ℕ} noDuty Requester = sym z ∙ x .says in absurd (omega arith))
+            (handed-over s s′ h p d q r w))
 
-    -- a duty byte of 1 or 2: every history that passes the event gives up a Dirty line in it, and it is no non-data error
+    -- a duty byte of 1 or 2: every history that passes the event gives up a Dirty line in it, it is no non-data error, and its request is
+    -- not SnpMakeInvalid
     pub given-up : (s s′ : ℕ) → HistoryTo l (pairOf l k) k s → Step (eventOf l k) s s′ → (dutyAt l k ≡ Home) ⊎ (dutyAt l k ≡ Requester)
-        → (dirty s ≡ true) × (dirty s′ ≡ false) × (nonDataError (eventOf l k) ≡ false)
-    given-up s s′ h p told = go (dirty s) (dirty s′) (nonDataError (eventOf l k)) refl refl refl
+        → (dirty s ≡ true) × (dirty s′ ≡ false) × (nonDataError (eventOf l k) ≡ false) × (makesInvalid (eventOf l k) ≡ false)
+    given-up s s′ h p told = go (dirty s) (dirty s′) (nonDataError (eventOf l k)) (makesInvalid (eventOf l k)) refl refl refl refl
       where
         byte : dutyAt l k ≡ duty (eventOf l k) m
         byte = explained-byte (passes-explained s s′ h p)
@@ -193,15 +215,24 @@ module _ (l : Lent) (ok : Accepted l) where
         silent : (d : ℕ) → dutyAt l k ≡ d → (d ≡ Home → ⊥) → (d ≡ Requester → ⊥) → ⊥
         silent d q home requester = ⊎-elim (λ w. home (sym q ∙ w)) (λ w. requester (sym q ∙ w)) told
 
-        not-lost : nonDataError (eventOf l k) ≡ true → ⊥
-        not-lost n = choose (holdsDirty m) refl
+        -- a byte that is d or 0
+        one-or-none : (d : ℕ) → dutyAt l k ≡ cond (holdsDirty m) d noDuty → (d ≡ Home → ⊥) → (d ≡ Requester → ⊥) → ⊥
+        one-or-none d q home requester = choose (holdsDirty m) refl
           where
             choose : (b : Bool) → holdsDirty m ≡ b → ⊥
-            choose true q = silent lost (error-at s s′ h p n ∙ ap (λ (x : Bool). cond x lost noDuty) q) (λ z. absurd (omega arith)) (λ z. absurd (omega arith))
-            choose false q = silent noDuty (error-at s s′ h p n ∙ ap (λ (x : Bool). cond x lost noDuty) q) (λ z. absurd (omega arith)) (λ z. absurd (omega arith))
+            choose true w = silent d (q ∙ ap (λ (x : Bool). cond x d noDuty) w) home requester
+            choose false w = silent noDuty (q ∙ ap (λ (x : Bool). cond x d noDuty) w) (λ z. absurd (omega arith)) (λ z. absurd (omega arith))
 
-        not-kept : (a b : Bool) → dirty s ≡ a → dirty s′ ≡ b → nonDataError (eventOf l k) ≡ false → a && not b && not false ≡ false → ⊥
-        not-kept a b q r n z =
+        not-lost : nonDataError (eventOf l k) ≡ true → ⊥
+        not-lost n = one-or-none lost (error-at s s′ h p n) (λ z. absurd (omega arith)) (λ z. absurd (omega arith))
+
+        not-discarded : nonDataError (eventOf l k) ≡ false → makesInvalid (eventOf l k) ≡ true → ⊥
+        not-discarded n i =
+            one-or-none discarded (make-at s s′ h p i ∙ ap (λ (x : Bool). cond (holdsDirty m) (cond x lost discarded) noDuty) n)
+            (λ z. absurd (omega arith)) (λ z. absurd (omega arith))
+
+        not-kept : (a b : Bool) → dirty s ≡ a → dirty s′ ≡ b → nonDataError (eventOf l k) ≡ false → makesInvalid (eventOf l k) ≡ false → a && not b && not false ≡ false → ⊥
+        not-kept a b q r n i z =
             silent noDuty
             (byte
             ∙ nobody (eventOf l k) (dirty s) (dirty s′) (law (eventOf l k) (p .tag) s s′ (p .by-rows))
@@ -209,15 +240,17 @@ module _ (l : Lent) (ok : Accepted l) where
             ∙ ap (λ (x : Bool). a && not x && not (nonDataError (eventOf l k))) r
             ∙ ap (λ (x : Bool). a && not b && not x) n
             ∙ z)
+            (other-request (eventOf l k) i)
             m
             .says
             ∙ ap (λ (x : Bool). cond (x && holdsDirty m) lost noDuty) n)
             (λ w. absurd (omega arith))
             (λ w. absurd (omega arith))
 
-        go : (a b n : Bool) → dirty s ≡ a → dirty s′ ≡ b → nonDataError (eventOf l k) ≡ n
-            → (dirty s ≡ true) × (dirty s′ ≡ false) × (nonDataError (eventOf l k) ≡ false)
-        go a b true q r w = absurd (not-lost w)
-        go true false false q r w = (q, r, w)
-        go true true false q r w = absurd (not-kept true true q r w refl)
-        go false b false q r w = absurd (not-kept false b q r w refl)
+        go : (a b n i : Bool) → dirty s ≡ a → dirty s′ ≡ b → nonDataError (eventOf l k) ≡ n → makesInvalid (eventOf l k) ≡ i
+            → (dirty s ≡ true) × (dirty s′ ≡ false) × (nonDataError (eventOf l k) ≡ false) × (makesInvalid (eventOf l k) ≡ false)
+        go a b true i q r w v = absurd (not-lost w)
+        go a b false true q r w v = absurd (not-discarded w v)
+        go true false false false q r w v = (q, r, w, v)
+        go true true false false q r w v = absurd (not-kept true true q r w v refl)
+        go false b false false q r w v = absurd (not-kept false b q r w v refl)

@@ -14,7 +14,7 @@ use Rattle.kinds.specs.declared.Forward.the-variants.{NoForward, CompData}
 use Rattle.kinds.specs.Answers.{wire, hasData, answerResp}
 use Rattle.kinds.proofs.Lists.{any-found, found-any, one-of, and-left, and-right, and-both}
 use Rattle.rows.specs.declared.Table.{Table}
-use Rattle.rows.specs.declared.Table.the-variants.{B46, B57, B59, B60, NdErr}
+use Rattle.rows.specs.declared.Table.the-variants.{B46, B57, B59, B60, Unique, CleanInvalid, MakeInvalid, NdErr}
 use Rattle.rows.specs.Event.{byte, seen, requestOf, tagOf, channelOf, opcodeOf, respOf, tagOpOf}
 use Rattle.rows.specs.Rows.{Row, rows}
 use Rattle.rows.specs.Permitted.{rulesOf, byTags, asked, answered, tagsAllow, tagOps, tagged, permitted}
@@ -66,6 +66,9 @@ column-read B46 t s n e a p q h = by-tags t s n e a p q ∙ h
 column-read B57 t s n e a p q h = by-tags t s n e a p q ∙ h
 column-read B59 t s n e a p q h = by-tags t s n e a p q ∙ h
 column-read B60 t s n e a p q h = by-tags t s n e a p q ∙ h
+column-read Unique t s n e a p q h = by-tags t s n e a p q ∙ h
+column-read CleanInvalid t s n e a p q h = by-tags t s n e a p q ∙ h
+column-read MakeInvalid t s n e a p q h = by-tags t s n e a p q ∙ h
 column-read NdErr t s n e a p q h = absurd (false≢true h)
 
 -- data to Home carries what the tag state and the event say
@@ -143,6 +146,9 @@ was-there B46 t s n a h = wide (eqb t tagDirty) (respPD (answerResp a)) (eqb s U
 was-there B57 t s n a h = h
 was-there B59 t s n a h = h
 was-there B60 t s n a h = h
+was-there Unique t s n a h = h
+was-there CleanInvalid t s n a h = h
+was-there MakeInvalid t s n a h = h
 was-there NdErr t s n a h = h
 
 pub as-before : (e : List ℕ) (t s s′ : ℕ) → permitted e t s s′ ≡ true → permittedBy columnsBefore e t s s′ ≡ true
@@ -162,6 +168,9 @@ still-there e B46 ret marked a t s n other k j d h =
 still-there e B57 ret marked a t s n other k j d h = h
 still-there e B59 ret marked a t s n other k j d h = h
 still-there e B60 ret marked a t s n other k j d h = h
+still-there e Unique ret marked a t s n other k j d h = h
+still-there e CleanInvalid ret marked a t s n other k j d h = h
+still-there e MakeInvalid ret marked a t s n other k j d h = h
 still-there e NdErr ret marked a t s n other k j d h = h
 
 only-plain : (e : List ℕ) (t s s′ : ℕ) → plainData e ≡ false → permittedBy columnsBefore e t s s′ ≡ true → permitted e t s s′ ≡ true

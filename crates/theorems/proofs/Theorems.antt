@@ -29,8 +29,8 @@ use Rattle.event.specs.Refusals.{issueE, fault, refusalAlone}
 use Rattle.event.specs.Alone.{acceptedAlone, refusedAlone, judgedAlone}
 use Rattle.theorems.specs.Alone.{AcceptedEvent, setFrom, dutyFrom}
 use Rattle.theorems.specs.Notebook.{event, entries, right}
-use Rattle.theorems.specs.Duties.{nonDataError, HomeHolds, RequesterHolds, NobodyTold, DataIsDuty, SCIsKept, B60Alone, NderrFromUDIllegal}
-use Rattle.theorems.proofs.Told.{law, only, only-number, exactly-one, nobody, nobody-alone, lost-alone, byte-exactly}
+use Rattle.theorems.specs.Duties.{nonDataError, makesInvalid, HomeHolds, RequesterHolds, NobodyTold, DataIsDuty, SCIsKept, B60Alone, NderrFromUDIllegal}
+use Rattle.theorems.proofs.Told.{law, only, only-number, other-request, exactly-one, nobody, nobody-alone, lost-alone, byte-exactly}
 use Rattle.theorems.proofs.Judged.{answer-alone, by-answer, number-alone, each-at, zero-at, set-after-below, duty-of-step, duty-of-none}
 
 -- DEMAND 1, ONE EVENT (definition 1.5, 1.8): any two outcomes that the claim of `event::judge_event` allows are equal.
@@ -103,37 +103,38 @@ duties-exact e h s s′ p = ap (λ (j : Judgment). getD (j .duties) s 0) (accept
 pub within-states : (e : List ℕ) (t s s′ : ℕ) → permitted e t s s′ ≡ true → (s < 7) × (s′ < 7)
 within-states e t s s′ h = (permitted-before e t s s′ h, permitted-after e t s s′ h)
 
--- DEMAND 2, THE DUTY (definition 1.6, 6.6): in every step in which a Dirty line ends not Dirty, and which is no non-data error, exactly one
--- of Home and Requester is told that it has the duty, and the judge's duty byte says which.
+-- DEMAND 2, THE DUTY (definition 1.6, 6.6): in every step in which a Dirty line ends not Dirty, which is no non-data error, and whose
+-- request is not SnpMakeInvalid, exactly one of Home and Requester is told that it has the duty, and the judge's duty byte says which.
 pub duty-clause : (e : List ℕ) → AcceptedEvent e → (s s′ : ℕ) → Step e s s′ → dirty s ≡ true → dirty s′ ≡ false → nonDataError e ≡ false
-    → HomeHolds e (dutyFrom e s) ⊎ RequesterHolds e (dutyFrom e s)
-duty-clause e h s s′ p d d′ n =
+    → makesInvalid e ≡ false → HomeHolds e (dutyFrom e s) ⊎ RequesterHolds e (dutyFrom e s)
+duty-clause e h s s′ p d d′ n i =
     subst (λ (x : ℕ). HomeHolds e x ⊎ RequesterHolds e x) (sym (duties-exact e h s s′ p))
-    (exactly-one e (dirty s) (dirty s′) (law e (p .tag) s s′ (p .by-rows)) d d′ n (2 ^ s))
+    (exactly-one e (dirty s) (dirty s′) (law e (p .tag) s s′ (p .by-rows)) d d′ n i (2 ^ s))
 
--- The converse: no other step hands over a duty. Nobody is told, and the byte is 3 for a non-data error from a Dirty state, else 0.
+-- The converse, again for any request but SnpMakeInvalid: no other step hands over a duty. Nobody is told, and the byte is 3 for a non-data
+-- error from a Dirty state, else 0. What holds for SnpMakeInvalid is in InvalidatingTheorems.antt.
 pub duty-converse : (e : List ℕ) → AcceptedEvent e → (s s′ : ℕ) → Step e s s′ → dirty s && not (dirty s′) && not (nonDataError e) ≡ false
-    → NobodyTold e (dirty s) (dutyFrom e s)
-duty-converse e h s s′ p k =
+    → makesInvalid e ≡ false → NobodyTold e (dirty s) (dutyFrom e s)
+duty-converse e h s s′ p k i =
     subst (NobodyTold e (dirty s)) (sym (duties-exact e h s s′ p))
-    (nobody-alone e s (dirty s′) (law e (p .tag) s s′ (p .by-rows)) (permitted-before e (p .tag) s s′ (p .by-rows)) k)
+    (nobody-alone e s (dirty s′) (law e (p .tag) s s′ (p .by-rows)) (permitted-before e (p .tag) s s′ (p .by-rows)) k i)
 
 -- Both hold for every permitted step, with any bytes, any tag state and any set before.
 pub duty-permitted : (e : List ℕ) (t s s′ : ℕ) → permitted e t s s′ ≡ true → dirty s ≡ true → dirty s′ ≡ false → nonDataError e ≡ false
-    → (before : ℕ) → HomeHolds e (duty e before) ⊎ RequesterHolds e (duty e before)
+    → makesInvalid e ≡ false → (before : ℕ) → HomeHolds e (duty e before) ⊎ RequesterHolds e (duty e before)
 duty-permitted e t s s′ h = exactly-one e (dirty s) (dirty s′) (law e t s s′ h)
 
 pub duty-permitted-converse : (e : List ℕ) (t s s′ : ℕ) → permitted e t s s′ ≡ true → dirty s && not (dirty s′) && not (nonDataError e) ≡ false
-    → (before : ℕ) → NobodyTold e (holdsDirty before) (duty e before)
-duty-permitted-converse e t s s′ h = nobody e (dirty s) (dirty s′) (law e t s s′ h)
+    → makesInvalid e ≡ false → (before : ℕ) → NobodyTold e (holdsDirty before) (duty e before)
+duty-permitted-converse e t s s′ h k i = nobody e (dirty s) (dirty s′) (law e t s s′ h) k (other-request e i)
 
--- A non-data error loses the duty of a Dirty line, and of no other line (definition 6.3).
+-- A non-data error loses the duty of a Dirty line, and of no other line, whatever the request (definition 6.3).
 pub duty-lost : (e : List ℕ) → AcceptedEvent e → (s s′ : ℕ) → Step e s s′ → nonDataError e ≡ true → dutyFrom e s ≡ cond (dirty s) lost noDuty
 duty-lost e h s s′ p n =
     duties-exact e h s s′ p
     ∙ lost-alone e s (dirty s′) (law e (p .tag) s s′ (p .by-rows)) (permitted-before e (p .tag) s s′ (p .by-rows)) n
 
--- In every step, the duty byte is not 0 exactly when the state before is Dirty and the state after is not.
+-- In every step, whatever the request, the duty byte is not 0 exactly when the state before is Dirty and the state after is not.
 pub duty-exactly : (e : List ℕ) → AcceptedEvent e → (s s′ : ℕ) → Step e s s′ → eqb (dutyFrom e s) noDuty ≡ not (dirty s && not (dirty s′))
 duty-exactly e h s s′ p =
     ap (λ (d : ℕ). eqb d noDuty) (duties-exact e h s s′ p)

@@ -16,7 +16,7 @@ use Rattle.kinds.specs.Places.{setIn, pairIn}
 use Rattle.sets.specs.Sets.{setOf, bit}
 use Rattle.rows.specs.Rows.{rows}
 use Rattle.rows.specs.Permitted.{asked, answered, tagged, permitted}
-use Rattle.steps.specs.Steps.{Step, steps, duty, noDuty, Home, Requester, lost}
+use Rattle.steps.specs.Steps.{Step, steps, duty, noDuty, Home, Requester, lost, discarded}
 use Rattle.event.specs.Refusals.{issueE, fault}
 use Rattle.verdicts.specs.Verdicts.{afterSet, verdict, dutyByte, explained, unexplained, notJudged}
 use Rattle.trace.specs.declared.Outcome.{Outcome}
@@ -25,7 +25,7 @@ use Rattle.trace.specs.Refusals.{outcome, lengthsFit, faultAt, byEvents, outcom
 use Rattle.trace.specs.Given.{Given}
 use Rattle.trace.specs.Judged.{trace, refusedLeft, accepts, judged}
 use Rattle.histories.specs.Histories.{own, first, History, HistoryTo, VerdictGiven}
-use Rattle.theorems.specs.Duties.{nonDataError, HomeHolds, RequesterHolds}
+use Rattle.theorems.specs.Duties.{nonDataError, makesInvalid, HomeHolds, RequesterHolds}
 use Rattle.theorems.specs.Traces.{Accepted, verdictAt, dutyAt, afterAt, setAtEnd, pairOf, eventOf, DutySaid, DirtyReaches, example, orders, inOrder}
 -- their proofs
 use Rattle.trace.proofs.Given.{given, gives}
@@ -34,7 +34,7 @@ use Rattle.histories.proofs.Walk.{walk, walk-empty}
 use Rattle.histories.proofs.Own.{own-none}
 use Rattle.histories.proofs.At.{setBefore, set-below, gives-verdict, own-kept, pair-in}
 use Rattle.theorems.proofs.Told.{only}
-use Rattle.theorems.proofs.OnTrace.{good, lengths, verdicts-left, verdict-row, empty-after, unreached, end-set, after-byte, verdict-byte, duty-byte, set-byte, read-set, said, silent-byte, handed-over, given-up, lost-at, kept-dirty}
+use Rattle.theorems.proofs.OnTrace.{good, lengths, verdicts-left, verdict-row, empty-after, unreached, end-set, after-byte, verdict-byte, duty-byte, set-byte, read-set, said, silent-byte, handed-over, given-up, lost-at, discarded-at, kept-dirty}
 
 -- ONE OUTCOME (definition 1.8): any two outcomes that the claim allows are equal, in the result and in every byte of the four buffers.
 pub one-outcome-of-a-trace : (l : Lent) (r r′ : Left) → r ≡ judged issueE l → r′ ≡ judged issueE l → r ≡ r′
@@ -126,23 +126,30 @@ module _ (l : Lent) (ok : Accepted l) where
   pub duty-silent : (k : ℕ) → k < count l → (verdictAt l k ≡ explained → ⊥) → dutyAt l k ≡ noDuty
   duty-silent = silent-byte l ok
 
-  -- DEMAND 2 IN A TRACE (definition 1.6): if some history passes an event in which a Dirty line ends not Dirty, and which is no non-data
-  -- error, the duty byte is 1 or 2 and names the one that is told.
+  -- DEMAND 2 IN A TRACE (definition 1.6): if some history passes an event in which a Dirty line ends not Dirty, which is no non-data error,
+  -- and whose request is not SnpMakeInvalid, the duty byte is 1 or 2 and names the one that is told.
   pub duty-handed-over : (k : ℕ) → k < count l → (s s′ : ℕ) → HistoryTo l (pairOf l k) k s → Step (eventOf l k) s s′
-      → dirty s ≡ true → dirty s′ ≡ false → nonDataError (eventOf l k) ≡ false
+      → dirty s ≡ true → dirty s′ ≡ false → nonDataError (eventOf l k) ≡ false → makesInvalid (eventOf l k) ≡ false
       → HomeHolds (eventOf l k) (dutyAt l k) ⊎ RequesterHolds (eventOf l k) (dutyAt l k)
   duty-handed-over = handed-over l ok
 
-  -- If the duty byte is 1 or 2, every history that passes the event gives up a Dirty line in it, and it is no non-data error.
+  -- If the duty byte is 1 or 2, every history that passes the event gives up a Dirty line in it, it is no non-data error, and its request
+  -- is not SnpMakeInvalid.
   pub duty-given-up : (k : ℕ) → k < count l → (s s′ : ℕ) → HistoryTo l (pairOf l k) k s → Step (eventOf l k) s s′
       → (dutyAt l k ≡ Home) ⊎ (dutyAt l k ≡ Requester)
-      → (dirty s ≡ true) × (dirty s′ ≡ false) × (nonDataError (eventOf l k) ≡ false)
+      → (dirty s ≡ true) × (dirty s′ ≡ false) × (nonDataError (eventOf l k) ≡ false) × (makesInvalid (eventOf l k) ≡ false)
   duty-given-up = given-up l ok
 
   -- If some history passes a non-data error, the duty byte is 3 exactly when some history reaches it with a Dirty line (definition 6.3).
   pub duty-lost-in-trace : (k : ℕ) → k < count l → (s s′ : ℕ) → HistoryTo l (pairOf l k) k s → Step (eventOf l k) s s′
       → nonDataError (eventOf l k) ≡ true → (dutyAt l k ≡ lost) ↔ DirtyReaches l k
   duty-lost-in-trace = lost-at l ok
+
+  -- If some history passes SnpMakeInvalid that is no non-data error, the duty byte is 4 exactly when some history reaches it with a Dirty
+  -- line (definition 6.3). So for a history in which a Dirty line is discarded, the byte says so.
+  pub duty-discarded-in-trace : (k : ℕ) → k < count l → (s s′ : ℕ) → HistoryTo l (pairOf l k) k s → Step (eventOf l k) s s′
+      → makesInvalid (eventOf l k) ≡ true → nonDataError (eventOf l k) ≡ false → (dutyAt l k ≡ discarded) ↔ DirtyReaches l k
+  duty-discarded-in-trace = discarded-at l ok
 
   -- If the duty byte is 0, no history that passes the event gives up a Dirty line in it.
   pub duty-kept : (k : ℕ) → k < count l → (s s′ : ℕ) → HistoryTo l (pairOf l k) k s → Step (eventOf l k) s s′
