@@ -7,7 +7,7 @@ use lib.Dec.{eqb, ltb, leb}
 use lib.ListN.{length, getD}
 use Rattle.text.specs.Text.{bytes}
 use Rattle.kinds.specs.Tests.{same, all}
-use Rattle.kinds.specs.Codes.{SnpShared, SnpClean, SnpNotSharedDirty, SnpCleanFwd, SnpNotSharedDirtyFwd, SnpPreferUnique, SnpPreferUniqueFwd}
+use Rattle.kinds.specs.Codes.{SnpShared, SnpClean, SnpNotSharedDirty, SnpUnique, SnpCleanInvalid, SnpMakeInvalid, SnpCleanFwd, SnpNotSharedDirtyFwd, SnpPreferUnique, SnpPreferUniqueFwd}
 use Rattle.kinds.specs.Codes.{tagInvalid, tagClean, tagDirty, tagNotSeen, opInvalid, opTransfer, opUpdate, opMatch, OK, EXOK, DERR, NDERR}
 use Rattle.kinds.specs.Codes.{Fwd-SC, Fwd-UC, Fwd-UD-PD, Fwd-SD-PD, I, UC, UCE, UD, UDP, SC, SD, stateNotSeen}
 use Rattle.kinds.specs.declared.Answer.{Answer}
@@ -34,12 +34,15 @@ codeOf [] field = unknown
 codeOf (n ∷ ns) field = cond (same field (n .name)) (n .code) (codeOf ns field)
 
 -- The names of each column, in the order of the header.
--- the seven requests
+-- the ten requests
 unfoldable pub requestNames : List Named
 requestNames =
     named "SnpShared" SnpShared ∷
     named "SnpClean" SnpClean ∷
     named "SnpNotSharedDirty" SnpNotSharedDirty ∷
+    named "SnpUnique" SnpUnique ∷
+    named "SnpCleanInvalid" SnpCleanInvalid ∷
+    named "SnpMakeInvalid" SnpMakeInvalid ∷
     named "SnpCleanFwd" SnpCleanFwd ∷
     named "SnpNotSharedDirtyFwd" SnpNotSharedDirtyFwd ∷
     named "SnpPreferUnique" SnpPreferUnique ∷

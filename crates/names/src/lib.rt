@@ -78,6 +78,14 @@ pub fn request(field: &[u8]) -> u32
         code,
     );
     let code = known(field, b"SnpCleanFwd", Request::SNP_CLEAN_FWD.0, code);
+    let code = known(field, b"SnpMakeInvalid", Request::SNP_MAKE_INVALID.0, code);
+    let code = known(
+        field,
+        b"SnpCleanInvalid",
+        Request::SNP_CLEAN_INVALID.0,
+        code,
+    );
+    let code = known(field, b"SnpUnique", Request::SNP_UNIQUE.0, code);
     let code = known(
         field,
         b"SnpNotSharedDirty",

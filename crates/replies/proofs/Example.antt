@@ -5,7 +5,7 @@ use mathlib.Core.List.{_++_}
 use Prim.Native.Nat.{ℕ, _+_}
 use Rattle.kinds.specs.Codes.{allStates}
 use Rattle.sets.specs.Sets.{bit}
-use Rattle.steps.specs.Steps.{noDuty, Home, Requester, lost}
+use Rattle.steps.specs.Steps.{noDuty, Home, Requester, lost, discarded}
 use Rattle.verdicts.specs.Verdicts.{explained, unexplained, notJudged}
 use Rattle.verdicts.specs.declared.Finding.{Finding}
 use Rattle.text.specs.Text.{bytes, eol}
@@ -34,10 +34,10 @@ pub example :
 unfolding headerLine answerLine decimalText verdictText dutyText statesText bit
 example = refl
 
--- two late events: all seven states with the duty on the Requester, and a lost duty
+-- three late events: all seven states with the duty on the Requester, a line discarded, and a lost duty
 pub all-states :
-    answerLine 999999 (found explained Requester allStates) ++ answerLine 1000000 (found explained lost 1)
-    ≡ bytes "999999,explained,Requester,I UC UCE UD UDP SC SD" ++ eol ++ bytes "1000000,explained,lost,I" ++ eol
+    answerLine 999998 (found explained Requester allStates) ++ answerLine 999999 (found explained discarded 1) ++ answerLine 1000000 (found explained lost 1)
+    ≡ bytes "999998,explained,Requester,I UC UCE UD UDP SC SD" ++ eol ++ bytes "999999,explained,discarded,I" ++ eol ++ bytes "1000000,explained,lost,I" ++ eol
 unfolding answerLine decimalText verdictText dutyText statesText bit
 all-states = refl
 

@@ -13,7 +13,7 @@ use lib.ListN.{length, take, drop, length-drop}
 use lib.Seq.{take-all}
 use Rattle.kinds.specs.Codes.{I, UC, UCE, UD, UDP, SC, SD}
 use Rattle.sets.specs.Sets.{bit}
-use Rattle.steps.specs.Steps.{noDuty, Home, Requester, lost}
+use Rattle.steps.specs.Steps.{noDuty, Home, Requester, lost, discarded}
 use Rattle.verdicts.specs.Verdicts.{explained, unexplained, notJudged}
 use Rattle.verdicts.specs.declared.Finding.{Finding}
 use Rattle.text.specs.Text.{bytes, comma, eol}
@@ -47,12 +47,12 @@ dutyPart d = dutyText d ++ comma ∷ []
 pub duty-is : {r : Laid} (l : Laid) {d : ℕ} (code : ℕ) → d ≡ code → r ≡ lay l (dutyPart code) → r ≡ lay l (dutyPart d)
 duty-is l code h e = e ∙ ap (λ (n : ℕ). lay l (dutyPart n)) (sym h)
 
-pub duty-unknown : {r : Laid} (l : Laid) {d : ℕ} → (d ≡ noDuty → ⊥) → (d ≡ Home → ⊥) → (d ≡ Requester → ⊥) → (d ≡ lost → ⊥)
+pub duty-unknown : {r : Laid} (l : Laid) {d : ℕ} → (d ≡ noDuty → ⊥) → (d ≡ Home → ⊥) → (d ≡ Requester → ⊥) → (d ≡ lost → ⊥) → (d ≡ discarded → ⊥)
     → r ≡ lay l (bytes "unknown,") → r ≡ lay l (dutyPart d)
 unfolding dutyText
-duty-unknown l {d} h₀ h₁ h₂ h₃ e =
+duty-unknown l {d} h₀ h₁ h₂ h₃ h₄ e =
     e ∙ ap (λ (s : List ℕ). lay l (s ++ comma ∷ []))
-    (sym (other _ (drop 1 dutyNames) d h₀ ∙ other _ (drop 2 dutyNames) d h₁ ∙ other _ (drop 3 dutyNames) d h₂ ∙ other _ [] d h₃))
+    (sym (other _ (drop 1 dutyNames) d h₀ ∙ other _ (drop 2 dutyNames) d h₁ ∙ other _ (drop 3 dutyNames) d h₂ ∙ other _ (drop 4 dutyNames) d h₃ ∙ other _ [] d h₄))
 
 -- a state that is not in the set, the first one that is, and a later one
 pub not-in : {l : Laid} (m n : ℕ) (name : List ℕ) → (m / 2 ^ n % 2 ≡ 1 → ⊥) → l ≡ lay l (stateText m n name)

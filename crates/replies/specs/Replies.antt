@@ -6,7 +6,7 @@ use mathlib.Core.List.{List, [], _∷_, _++_}
 use lib.Dec.{eqb, ltb}
 use Rattle.kinds.specs.Codes.{I, UC, UCE, UD, UDP, SC, SD}
 use Rattle.sets.specs.Sets.{bit}
-use Rattle.steps.specs.Steps.{noDuty, Home, Requester, lost}
+use Rattle.steps.specs.Steps.{noDuty, Home, Requester, lost, discarded}
 use Rattle.verdicts.specs.Verdicts.{explained, unexplained, notJudged}
 use Rattle.verdicts.specs.declared.Finding.{Finding}
 use Rattle.text.specs.Text.{bytes, comma, eol}
@@ -48,7 +48,7 @@ verdictNames = word explained "explained" ∷ word unexplained "unexplained" ∷
 
 -- the duties' names (definition 8.6)
 abbrev pub dutyNames : List Word
-dutyNames = word noDuty "none" ∷ word Home "Home" ∷ word Requester "Requester" ∷ word lost "lost" ∷ []
+dutyNames = word noDuty "none" ∷ word Home "Home" ∷ word Requester "Requester" ∷ word lost "lost" ∷ word discarded "discarded" ∷ []
 
 -- a verdict's name
 unfoldable pub verdictText : ℕ → List ℕ

@@ -127,6 +127,9 @@ fn put_duty(out: &mut [u8], at: usize, duty: Duty) -> usize
     if code == Duty::LOST.0 {
         return put(out, at, b"lost,");
     }
+    if code == Duty::DISCARDED.0 {
+        return put(out, at, b"discarded,");
+    }
     put(out, at, b"unknown,")
 }
 

@@ -9,3 +9,5 @@ pub mod AnswerTheorems
 pub mod TagColumn
 pub mod TagTheorems
 pub mod LookupTheorems
+pub mod Invalidating
+pub mod InvalidatingTheorems

@@ -4,3 +4,4 @@ pub mod Duties
 pub mod Traces
 pub mod Listing
 pub mod TagColumn
+pub mod Invalidating

@@ -1,6 +1,6 @@
 -- `replies::put_duty` meets its contract: each code has its name, and any other is unknown.
 -- Assumes nothing.
-use Rattle.steps.specs.Steps.{noDuty, Home, Requester, lost}
+use Rattle.steps.specs.Steps.{noDuty, Home, Requester, lost, discarded}
 use borrow.Author.Needs.{needs}
 use Rattle.replies.specs.Replies.{dutyText}
 use Rattle.replies.proofs.Parts.{duty-is, duty-unknown}
@@ -69,14 +69,28 @@ same-length-5 : tie.Need-same-length-5
 same-length-5 c = search needs
 
 returns-5 : tie.Need-returns-5
-returns-5 c =
-    let put5 = c .before .before .put5 in
-    let if4 = c .before .before .before .before .before .if4 in
-    let if3 = c .before .before .before .before .before .before .before .if3 in
-    let at-if2 = c .before .before .before .before .before .before .before .before .before in
-    let if2 = at-if2 .if2 in
-    let if1 = at-if2 .before .before .if1 in
-    duty-unknown _ (if1 .left) (if2 .left) (if3 .left) (if4 .left) (put5 .ensures)
+unfolding dutyText
+returns-5 c = duty-is _ discarded (c .before .before .before .before .before .if5 .taken) (c .before .before .put5 .ensures)
+
+slice-aggregate-put-6 : tie.Need-slice-aggregate-put-6
+slice-aggregate-put-6 c = search needs
+
+put-requires-6 : tie.Need-put-requires-6
+put-requires-6 c κs = tt
+
+same-length-6 : tie.Need-same-length-6
+same-length-6 c = search needs
+
+returns-6 : tie.Need-returns-6
+returns-6 c =
+    let put6 = c .before .before .put6 in
+    let if5 = c .before .before .before .before .before .if5 in
+    let if4 = c .before .before .before .before .before .before .before .if4 in
+    let at-if3 = c .before .before .before .before .before .before .before .before .before in
+    let if3 = at-if3 .if3 in
+    let if2 = at-if3 .before .before .if2 in
+    let if1 = at-if3 .before .before .before .before .if1 in
+    duty-unknown _ (if1 .left) (if2 .left) (if3 .left) (if4 .left) (if5 .left) (put6 .ensures)
 
 pub put-duty-spec : {M : Type 1} → statement M
 put-duty-spec =
@@ -101,4 +115,8 @@ put-duty-spec =
     slice-aggregate-put-5
     put-requires-5
     same-length-5
-    returns-5)
+    returns-5
+    slice-aggregate-put-6
+    put-requires-6
+    same-length-6
+    returns-6)
