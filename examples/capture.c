@@ -1,4 +1,4 @@
-/* Judges a binary capture, and prints each unexplained event and each duty that was handed over or lost.
+/* Judges a binary capture, and prints each unexplained event and each duty that was handed over, lost or discarded.
  *
  *   capture [FILE]
  *
@@ -75,7 +75,7 @@ static int judge_part(struct known *known, struct part *part)
 /* Prints the findings of a judged part, and counts its verdicts. */
 static void tell_part(struct known *known, const struct part *part)
 {
-    static const char *const duties[] = {0, "Home holds the duty", "the Requester holds the duty", "the duty is lost"};
+    static const char *const duties[] = {0, "Home holds the duty", "the Requester holds the duty", "the duty is lost", "the line is discarded"};
     unsigned long long first = events_known(known);
     for (size_t k = 0; k < part->count; k++) {
         const char *told = part->verdicts[k] == KOREHYUMO_UNEXPLAINED ? "unexplained" : duties[part->duties[k]];

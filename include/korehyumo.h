@@ -22,9 +22,10 @@
  *   5     channel      0 or 1       12    its Resp                0 to 7
  *   6     opcode       0 to 31      13    state after             0 to 7
  *
- * Seven requests are judged: SnpShared 1, SnpClean 2, SnpNotSharedDirty 4, SnpCleanFwd 18,
- * SnpNotSharedDirtyFwd 20, SnpPreferUnique 21, SnpPreferUniqueFwd 22. A tag state of 3 was not seen.
- * A state after of 7 was not seen. docs/DEFINITION.md has the codes of every field.
+ * Ten requests are judged: SnpShared 1, SnpClean 2, SnpNotSharedDirty 4, SnpUnique 7,
+ * SnpCleanInvalid 9, SnpMakeInvalid 10, SnpCleanFwd 18, SnpNotSharedDirtyFwd 20, SnpPreferUnique 21,
+ * SnpPreferUniqueFwd 22. A tag state of 3 was not seen. A state after of 7 was not seen.
+ * docs/DEFINITION.md has the codes of every field.
  *
  * PAIRS AND SETS. A pair is one cache line in one cache. The states that it can be in are one byte:
  * bit n is set if state n is possible.
@@ -127,7 +128,8 @@ enum {
     KOREHYUMO_DUTY_NONE = 0,      /* to nobody: no duty was handed over */
     KOREHYUMO_DUTY_HOME = 1,      /* to Home */
     KOREHYUMO_DUTY_REQUESTER = 2, /* to the Requester */
-    KOREHYUMO_DUTY_LOST = 3       /* to nobody: a non-data error, and the line may have been Dirty */
+    KOREHYUMO_DUTY_LOST = 3,      /* to nobody: a non-data error, and the line may have been Dirty */
+    KOREHYUMO_DUTY_DISCARDED = 4  /* to nobody: SnpMakeInvalid threw away a line that may have been Dirty */
 };
 
 /* The number of the refusal in a result; 0 is accepted. */
@@ -158,7 +160,7 @@ static inline size_t korehyumo_count(uint64_t result)
  *   number                refused when (the first that applies is given)
  *   1 KOREHYUMO_LENGTHS   event_len is not 14
  *   4 KOREHYUMO_RANGE     a byte from 1 to 13 is outside its range
- *   5 KOREHYUMO_REQUEST   the request is not one of the seven
+ *   5 KOREHYUMO_REQUEST   the request is not one of the ten
  *
  * Accepted: sets[s] is the set of states that the line can be in after the event if it was in state s
  * before; it is 0 where the rows permit no step from s. duties[s] is the duty, judged from state s
@@ -193,7 +195,7 @@ uint64_t korehyumo_event(const uint8_t *event, size_t event_len,
  *   Then event by event:
  *   3 KOREHYUMO_PAIR      its pair number is not below table_len                    that event
  *   4 KOREHYUMO_RANGE     one of its bytes from 1 to 13 is outside its range        that event
- *   5 KOREHYUMO_REQUEST   its request is not one of the seven                       that event
+ *   5 KOREHYUMO_REQUEST   its request is not one of the ten                         that event
  *
  * Accepted: verdicts[k] is event k's verdict, duties[k] its duty (0 unless it is explained), and
  * afters[k] its pair's set after it. table[p] is exactly the set of states in which some permitted
@@ -231,7 +233,7 @@ uint64_t korehyumo_trace(const uint8_t *events, size_t events_len,
  *   number                refused when (the first that applies is given)
  *   4 KOREHYUMO_RANGE     ret_to_src, do_not_go_to_sd or excl is not 0 or 1, tag is above 2, or
  *                         before is above 6
- *   5 KOREHYUMO_REQUEST   the request is not one of the seven
+ *   5 KOREHYUMO_REQUEST   the request is not one of the ten
  *   9 KOREHYUMO_ROOM      9 times the count is above room_len; never with a room of 261 bytes
  *
  * Accepted: the 9 bytes from room[9 * k] on are answer k, bytes 5 to 13 of an event with the state

@@ -167,8 +167,8 @@ static void trace_example(void)
 /* The room of a question, with more bytes than the longest list has. */
 static uint8_t room[LONGEST_LIST + 64];
 
-/* The seven requests. */
-static const uint8_t requests[7] = {1, 2, 4, 18, 20, 21, 22};
+/* The ten requests. */
+static const uint8_t requests[10] = {1, 2, 4, 7, 9, 10, 18, 20, 21, 22};
 
 /* SnpCleanFwd to a line in UDP with Invalid tags: request, RetToSrc, DoNotGoToSD, excl, tag state, state before. */
 static const uint8_t partial[6] = {18, 0, 0, 0, 0, KOREHYUMO_STATE_UDP};
@@ -249,7 +249,7 @@ static size_t count_answers(const uint8_t question[6])
 static void longest_list(void)
 {
     size_t longest = 0;
-    for (unsigned n = 0; n < 7 * 2 * 2 * 2 * 3 * 7; n++) {
+    for (unsigned n = 0; n < 10 * 2 * 2 * 2 * 3 * 7; n++) {
         uint8_t tag = (uint8_t)(n / 7 % 3), before = (uint8_t)(n % 7);
         const uint8_t question[6] = {requests[n / 168], n / 84 % 2, n / 42 % 2, n / 21 % 2, tag, before};
         size_t count = count_answers(question);

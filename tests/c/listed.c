@@ -8,7 +8,7 @@
 #include "korehyumo.h"
 
 /* How many choices there are of the first five bytes of an event, the tag state being seen. */
-#define SNOOPS (7 * 2 * 2 * 2 * 3)
+#define SNOOPS (10 * 2 * 2 * 2 * 3)
 
 /* How many bytes those are. */
 #define SNOOP_BYTES 5
@@ -52,7 +52,7 @@ static uint8_t take(size_t *choice, unsigned values)
 /* Puts the first five bytes of an event, by the number of their choice. */
 static void put_snoop(uint8_t *bytes, size_t choice)
 {
-    static const uint8_t requests[7] = {1, 2, 4, 18, 20, 21, 22};
+    static const uint8_t requests[10] = {1, 2, 4, 7, 9, 10, 18, 20, 21, 22};
     bytes[4] = take(&choice, 3);
     for (size_t flag = 1; flag <= 3; flag++)
         bytes[flag] = take(&choice, 2);

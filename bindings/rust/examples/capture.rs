@@ -1,4 +1,4 @@
-//! Judges a binary capture, and prints each unexplained event and each duty that was handed over or lost.
+//! Judges a binary capture, and prints each unexplained event and each duty that was handed over, lost or discarded.
 //!
 //!     capture [FILE]
 //!
@@ -178,7 +178,7 @@ fn refused(refusal: Refusal, judged: &Counts) -> Stop {
     Stop::Refused(refusal.number(), judged.number(refusal.place()))
 }
 
-/// Prints a line for an unexplained event, and one for a duty that was handed over or lost.
+/// Prints a line for an unexplained event, and one for a duty that was handed over, lost or discarded.
 fn tell(
     out: &mut impl Write,
     event: EventNumber,
@@ -198,6 +198,7 @@ fn tell(
             "event {event}, pair {pair}: the Requester holds the duty"
         ),
         Duty::Lost => writeln!(out, "event {event}, pair {pair}: the duty is lost"),
+        Duty::Discarded => writeln!(out, "event {event}, pair {pair}: the line is discarded"),
         other => writeln!(out, "event {event}, pair {pair}: {other}"),
     }
 }

@@ -59,7 +59,7 @@ impl Judgment {
 ///
 /// - [`Refusal::Lengths`]: there are not fourteen bytes.
 /// - [`Refusal::Range`] of event 0: a byte from 1 to 13 is outside its range.
-/// - [`Refusal::Request`] of event 0: the request is not one of the seven.
+/// - [`Refusal::Request`] of event 0: the request is not one of the ten.
 pub fn judge_event<Bytes: AsRef<[u8]>>(event: Bytes) -> Result<Judgment, Refusal> {
     let (result, sets, duties) = calls::event(event.as_ref());
     Refusal::unless_accepted(result)?;

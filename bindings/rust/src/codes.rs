@@ -124,6 +124,12 @@ kind! {
         SnpClean = 2,
         /// In table B4.46.
         SnpNotSharedDirty = 4,
+        /// In the bench copy.
+        SnpUnique = 7,
+        /// In the bench copy.
+        SnpCleanInvalid = 9,
+        /// In the bench copy. It throws a Dirty line away on purpose.
+        SnpMakeInvalid = 10,
         /// In table B4.57.
         SnpCleanFwd = 18,
         /// In table B4.57.

@@ -45,6 +45,8 @@ pub enum Duty {
     Requester,
     /// Nobody: there was a non-data error, and the line may have been Dirty.
     Lost,
+    /// Nobody: SnpMakeInvalid threw the line away on purpose, and it may have been Dirty.
+    Discarded,
     /// A code without a name in this version of the package.
     Other(u8),
 }
@@ -88,6 +90,7 @@ impl Duty {
             Duty::Home => 1,
             Duty::Requester => 2,
             Duty::Lost => 3,
+            Duty::Discarded => 4,
             Duty::Other(code) => code,
         }
     }
@@ -113,6 +116,7 @@ impl From<u8> for Duty {
             1 => Duty::Home,
             2 => Duty::Requester,
             3 => Duty::Lost,
+            4 => Duty::Discarded,
             _ => Duty::Other(code),
         }
     }
@@ -136,6 +140,7 @@ impl fmt::Display for Duty {
             Duty::Home => f.pad("Home"),
             Duty::Requester => f.pad("Requester"),
             Duty::Lost => f.pad("lost"),
+            Duty::Discarded => f.pad("discarded"),
             Duty::Other(code) => f.pad(&format!("duty {code}")),
         }
     }

@@ -248,7 +248,7 @@ pub fn permitted_answers(question: Question) -> Result<Vec<Permitted>, Refusal> 
 /// # Errors
 ///
 /// - [`Refusal::Range`] of event 0: a flag is not 0 or 1, the tag state is above 2, or the state before is above 6.
-/// - [`Refusal::Request`] of event 0: the request is not one of the seven.
+/// - [`Refusal::Request`] of event 0: the request is not one of the ten.
 /// - [`Refusal::Room`]: the list has more bytes than the room.
 ///
 /// The room is then as it was lent.

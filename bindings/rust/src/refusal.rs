@@ -26,7 +26,7 @@ pub enum Refusal {
     Pair(EventNumber),
     /// 4: a byte of this event, other than its request, is outside its range.
     Range(EventNumber),
-    /// 5: this event's request is not one of the seven that are judged.
+    /// 5: this event's request is not one of the ten that are judged.
     Request(EventNumber),
     /// 9: the list has more bytes than the room.
     Room,

@@ -10,7 +10,7 @@ use korehyumo::{
 /// An event with every byte in its range. Three in four have an answer of the rows, so that many are explained.
 fn event(draw: &mut Draw) -> [u8; 14] {
     let mut bytes = HIGHEST.map(|highest| draw.byte(highest));
-    bytes[0] = REQUESTS[draw.below(7) as usize];
+    bytes[0] = REQUESTS[draw.below(10) as usize];
     if draw.below(4) == 0 {
         return bytes;
     }
@@ -164,11 +164,11 @@ fn traces_as_events_alone() -> Result<(), Refusal> {
     Ok(())
 }
 
-/// The duty is Home by Resp, Requester by FwdState, and lost only from a Dirty state.
+/// The duty is Home by Resp, Requester by FwdState, and lost or discarded only from a Dirty state.
 #[test]
 fn duties_of_events_alone() -> Result<(), Refusal> {
     let mut draw = Draw(0x2718_2818_2845_9045);
-    let mut told = [0; 4];
+    let mut told = [0; 5];
     for _ in 0..20_000 {
         let bytes = event(&mut draw);
         let judgment = judge_event(bytes)?;
@@ -183,6 +183,7 @@ fn duties_of_events_alone() -> Result<(), Refusal> {
                 (false, 4 | 5, ..) => Duty::Home,
                 (false, _, 6 | 7, _) => Duty::Requester,
                 (false, _, _, 3) if before.is_dirty() => Duty::Lost,
+                (false, _, _, 0) if before.is_dirty() && bytes[0] == 10 => Duty::Discarded,
                 _ => Duty::None,
             };
             assert_eq!(judgment[before].duty, expected);

@@ -54,6 +54,9 @@ fn codes_of_a_snoop() {
         ("SnpShared", 1),
         ("SnpClean", 2),
         ("SnpNotSharedDirty", 4),
+        ("SnpUnique", 7),
+        ("SnpCleanInvalid", 9),
+        ("SnpMakeInvalid", 10),
         ("SnpCleanFwd", 18),
         ("SnpNotSharedDirtyFwd", 20),
         ("SnpPreferUnique", 21),
@@ -95,7 +98,8 @@ fn codes_of_findings() {
         (1, "Home"),
         (2, "Requester"),
         (3, "lost"),
-        (4, "duty 4"),
+        (4, "discarded"),
+        (5, "duty 5"),
     ] {
         assert_eq!(Duty::from(code).to_string(), word);
     }
@@ -103,7 +107,7 @@ fn codes_of_findings() {
         assert_eq!(Verdict::from(code).code(), code);
         assert_eq!(Duty::from(code).code(), code);
         assert_eq!(matches!(Verdict::from(code), Verdict::Other(_)), code > 2);
-        assert_eq!(matches!(Duty::from(code), Duty::Other(_)), code > 3);
+        assert_eq!(matches!(Duty::from(code), Duty::Other(_)), code > 4);
     }
 }
 

@@ -95,7 +95,7 @@ fn event(question: Question, permitted: Permitted) -> Event {
 #[test]
 fn every_question() -> Result<(), Refusal> {
     let all = all_named();
-    assert_eq!((questions().len(), all.len()), (1_176, 55 * 4 * 4 * 7));
+    assert_eq!((questions().len(), all.len()), (1_680, 55 * 4 * 4 * 7));
     for question in questions_from(State::I) {
         let mut lists = State::ALL.map(|_| Vec::new());
         for permitted in &all {
@@ -255,7 +255,7 @@ fn ranges() {
     }
 }
 
-/// A request that is not one of the seven: refused before the room.
+/// A request that is not one of the ten: refused before the room.
 #[test]
 fn requests() {
     for request in (0..=255).filter(|request| !REQUESTS.contains(request)) {

@@ -133,7 +133,7 @@ fn ranges() {
     }
 }
 
-/// A request that is not one of the seven: refused before any later event.
+/// A request that is not one of the ten: refused before any later event.
 #[test]
 fn requests() {
     for event in 0..4 {

@@ -20,7 +20,7 @@ pub record Good (issue : Issue) (q : Question) : Type 0 where
 pub data Given (issue : Issue) (q : Question) (room : List ℕ) : ℕ → Type 0 where
   -- 4: a byte from RetToSrc to the state before is outside its range
   bad-byte : below (questionBytes q) 1 (asking issue .limits) ≡ false → Given issue q room 4
-  -- 5: all are in range, and the request is none of the seven
+  -- 5: all are in range, and the request is none of the ten
   bad-request : below (questionBytes q) 1 (asking issue .limits) ≡ true → requestOf (questionBytes q) ∈? issue .requests ≡ false → Given issue q room 5
   -- 9: the question is good, and nine times the number of answers exceeds the room
   short-room : Good issue q → length room < answerLength * length (answersTo issue q) → Given issue q room 9

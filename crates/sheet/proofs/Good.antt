@@ -29,7 +29,7 @@ names-requested : all (λ (n : Named). n .code ∈? requests) requestNames ≡ t
 unfolding requestNames
 names-requested = refl
 
--- a known request name is one of the seven requests
+-- a known request name is one of the ten requests
 code-requested : (f : List ℕ) → known (codeOf requestNames f) ≡ true → codeOf requestNames f ∈? requests ≡ true
 code-requested f h = go (seek requestNames f)
   where

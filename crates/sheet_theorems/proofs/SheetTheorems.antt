@@ -139,7 +139,7 @@ turn-progress = turn-stops
 pub one-value {ℓ} : {A : Type ℓ} {claimed r r′ : A} → r ≡ claimed → r′ ≡ claimed → r ≡ r′
 one-value p q = p ∙ sym q
 
--- A GOOD LINE IS AN EVENT WITHOUT FAULT (definition 4.1): every byte is in its range, and the request is one of the seven.
+-- A GOOD LINE IS AN EVENT WITHOUT FAULT (definition 4.1): every byte is in its range, and the request is one of the ten.
 pub well-formed-no-fault : (line : List ℕ) → wellFormed line ≡ true → fault issueE (eventOf (lineCodes line)) ≡ 0
 well-formed-no-fault = no-fault
 

@@ -32,7 +32,7 @@ PairGood l k = pairIn (l .pairs) k < length (l .table)
 abbrev pub BytesGood : Issue → Lent → ℕ → Type 0
 BytesGood issue l k = below (eventIn (l .events) k) 1 (issue .limits) ≡ true
 
--- row 5 does not apply to event k: its request is one of the seven
+-- row 5 does not apply to event k: its request is one of the ten
 abbrev pub RequestGood : Issue → Lent → ℕ → Type 0
 RequestGood issue l k = requestOf (eventIn (l .events) k) ∈? issue .requests ≡ true
 

@@ -16,11 +16,11 @@ pub const SHEET: [[u8; 14]; 4] = [
 /// SnpShared answered by SnpResp_I with NDERR, entry m of the notebook.
 pub const IN_ERROR: [u8; 14] = [1, 0, 0, 0, 0, 0, 1, 0, 0, 0, 3, 0, 0, 7];
 
-/// The highest value of each byte of an event. Of the request only the seven codes are judged.
+/// The highest value of each byte of an event. Of the request only the ten codes are judged.
 pub const HIGHEST: [u8; 14] = [255, 1, 1, 1, 3, 1, 31, 7, 7, 3, 3, 1, 7, 7];
 
-/// The codes of the seven requests.
-pub const REQUESTS: [u8; 7] = [1, 2, 4, 18, 20, 21, 22];
+/// The codes of the ten requests.
+pub const REQUESTS: [u8; 10] = [1, 2, 4, 7, 9, 10, 18, 20, 21, 22];
 
 /// The 22 responses of the rows, with their channel, opcode, Resp and FwdState.
 pub const RESPONSES: [(&str, [u8; 4]); 22] = [
