@@ -3,4 +3,5 @@ pub mod Named
 pub mod Reached
 pub mod Refused
 pub mod AsTrace
+pub mod Before
 pub mod SheetTheorems

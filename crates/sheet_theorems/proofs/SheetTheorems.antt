@@ -11,7 +11,7 @@ use native.Mathlib.Omega.{arith}
 use lib.Dec.{leb}
 use lib.ListN.{length, take, drop}
 -- the definitions that the theorems name
-use Rattle.kinds.specs.Tests.{all, _∈?_}
+use Rattle.kinds.specs.Tests.{any, all, same, _∈?_}
 use Rattle.kinds.specs.Codes.{states, allStates}
 use Rattle.kinds.specs.Places.{mostPairs, mostEvents, setIn}
 use Rattle.sets.specs.Sets.{setOf, bit}
@@ -32,7 +32,8 @@ use Rattle.sheet.specs.declared.Carried.{Carried}
 use Rattle.sheet.specs.Pieces.{Held, sure, ready, eaten, total}
 use Rattle.sheet.specs.Runs.{emptied, withPiece, Run, SomeRun, start}
 use Rattle.sheet.specs.Turns.{enough, answerWith, begunWith, begun, inFront, endedBy, carriedOf, turnLeftBy, turned, Turns, SomeTurns}
-use Rattle.sheet_theorems.specs.Examples.{exampleIn, exampleOut, cases, asSaid}
+use Rattle.sheet_theorems.specs.Examples.{exampleIn, exampleOut, cases, benchCases, asSaid}
+use Rattle.sheet_theorems.specs.Before.{namesBefore, newNames}
 use Rattle.sheet_theorems.specs.Good.{eventOn, eventsOf, good, AllGood, foundBehind, answerLines, names}
 use Rattle.sheet_theorems.specs.Refused.{RefusedWith, LineIs, SheetSays}
 use Rattle.sheet_theorems.specs.SheetHistories.{pairOn, ReachesIn, PassesTo, VerdictOn, DutyOn}
@@ -48,6 +49,7 @@ use Rattle.sheet_theorems.proofs.Named.{named}
 use Rattle.sheet_theorems.proofs.Reached.{seven-states, pair-inside, set-exact, shown-exact, verdict-given, gives-verdict, duty-given, duty-none}
 use Rattle.sheet_theorems.proofs.Refused.{refused-told, line-is, one-number, header-passes, said-answers, some-said}
 use Rattle.sheet_theorems.proofs.AsTrace.{judged-so, spelled-so}
+use Rattle.sheet_theorems.proofs.Before.{read-before}
 
 -- THE EXAMPLE (definition 8.11): the whole input gives the whole output, byte for byte.
 pub example-answered : sheetOut exampleIn ≡ exampleOut
@@ -62,6 +64,18 @@ unfolding setOf bit rows asked answered tagged permitted steps duty afterSet ver
     codeOf requestNames flagNames tagNames responses responseNames namedAnswers tagOpNames respErrNames forwardNames finalNames
     isPair readDecimal pairOf columns wellFormed eventOf parsed decimalText verdictText dutyText statesText headerLine answerLine refusedLine header onLine startTable
 refusal-cases = refl
+
+-- THE THREE SNOOPS ON A SHEET (definition 5.12, 8.6) by examples: a line thrown away is `discarded`, and with NDERR it is `lost`.
+pub bench-copy-cases : all asSaid benchCases ≡ true
+unfolding setOf bit rows asked answered tagged permitted steps duty afterSet verdict dutyByte
+    codeOf requestNames flagNames tagNames responses responseNames namedAnswers tagOpNames respErrNames forwardNames finalNames
+    isPair readDecimal pairOf columns wellFormed eventOf parsed decimalText verdictText dutyText statesText headerLine answerLine refusedLine header onLine startTable
+bench-copy-cases = refl
+
+-- OLD SHEETS ARE READ AS BEFORE (definition 5.12, 8.4): a request field that is none of the three new names has the code that it had, or none.
+-- What is judged then is `old-finding` in crates/theorems.
+pub old-names : (field : List ℕ) → any (same field) newNames ≡ false → codeOf requestNames field ≡ codeOf namesBefore field
+old-names = read-before
 
 -- THE REFUSAL TABLE OF THE SHEET (definition 8.7): a line to which a row applies ends the run with the row's number and the line's own.
 pub line-refused : (k : ℕ) (table line : List ℕ) (number : ℕ) → RefusedWith k line number → onLine k table line ≡ refuse number k table

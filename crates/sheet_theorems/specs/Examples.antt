@@ -83,7 +83,7 @@ cases =
     second "0,SnpShared,0,0,0,Invalid,SnpRespData_SC_PD,Invalid,OK,-" "refused,8,2" ∷
     second "0,SnpShared,0,0,0,Invalid,SnpRespData_SC_PD,Invalid,OK,-,?,?" "refused,8,2" ∷
     -- 8: an unknown request, tag, response, TagOp, RespErr, forward, state; a name in another case; a name with a space behind it
-    second "0,SnpUnique,0,0,0,Invalid,SnpRespData_SC_PD,Invalid,OK,-,?" "refused,8,2" ∷
+    second "0,SnpOnce,0,0,0,Invalid,SnpRespData_SC_PD,Invalid,OK,-,?" "refused,8,2" ∷
     second "0,SnpShared,0,0,0,Update,SnpRespData_SC_PD,Invalid,OK,-,?" "refused,8,2" ∷
     second "0,SnpShared,0,0,0,Invalid,SnpRespData_UC,Invalid,OK,-,?" "refused,8,2" ∷
     second "0,SnpShared,0,0,0,Invalid,SnpRespData_SC_PD,?,OK,-,?" "refused,8,2" ∷
@@ -106,7 +106,7 @@ cases =
     second "4096,SnpShared,0,0,0,Invalid,SnpRespData_SC_PD,Invalid,OK,-,?" "refused,3,2" ∷
     second "9999,SnpShared,0,0,0,Invalid,SnpRespData_SC_PD,Invalid,OK,-,?" "refused,3,2" ∷
     second "4095,SnpShared,0,0,0,Invalid,SnpRespData_SC_PD,Invalid,OK,-,?" goodAnswer ∷
-    second "4096,SnpUnique,0,0,0,Invalid,SnpRespData_SC_PD,Invalid,OK,-,?" "refused,8,2" ∷
+    second "4096,SnpOnce,0,0,0,Invalid,SnpRespData_SC_PD,Invalid,OK,-,?" "refused,8,2" ∷
     -- 7 before 8: a line of 161 bytes, with its CR LF and without; a line of 160 bytes is 8
     secondBytes (replicate 161 120) "refused,7,2" ∷
     given (textOf (headerText ∷ []) ++ replicate 161 120) ("refused,7,2" ∷ []) ∷
@@ -124,6 +124,16 @@ cases =
     ("0,unexplained,none," ∷ "1,explained,Home,I SC" ∷ []) ∷
     -- without its CR LF, the last line is answered all the same
     given (textOf (headerText ∷ []) ++ bytes goodText) (goodAnswer ∷ []) ∷
+    []
+
+-- the three snoops of the bench copy (definition 5.12): a line thrown away, the same line lost, a line handed to Home, data that no row lets a
+-- clean line send
+abbrev pub benchCases : List Case
+benchCases =
+    second "0,SnpMakeInvalid,0,0,0,Invalid,SnpResp_I,Invalid,OK,-,?" "0,explained,discarded,I" ∷
+    second "0,SnpMakeInvalid,0,0,0,Invalid,SnpResp_I,Invalid,NDERR,-,?" "0,explained,lost,I" ∷
+    second "0,SnpUnique,0,0,0,Invalid,SnpRespData_I_PD,Invalid,OK,-,?" "0,explained,Home,I" ∷
+    second "0,SnpCleanInvalid,0,0,0,Invalid,SnpRespData_I,Invalid,OK,-,?" "0,unexplained,none," ∷
     []
 
 -- the output is as the case says

@@ -3,3 +3,4 @@ pub mod Good
 pub mod SheetHistories
 pub mod Refused
 pub mod AsTrace
+pub mod Before
