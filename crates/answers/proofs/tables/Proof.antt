@@ -25,9 +25,15 @@ choose-byte-requires-6 c κs = search needs
 
 returns : tie.Need-returns
 returns c =
-    tables-by (c .before .before .before .before .before .before .before .before .before .before .before .before .args .request .0) (c .before .before .before .before .before .before .before .before .before .before .before .before .args .excl) (c .before .before .before .before .before .before .before .before .before .choose-byte .result) (c .before .before .before .before .before .before .before .before .choose-byte2 .result) (c .before .before .before .before .before .before .choose-byte3 .result) (c .before .before .before .before .choose-byte4 .result)
-    (c .before .before .choose-byte5 .result) (c .choose-byte6 .result) (c .before .before .before .before .before .before .before .before .before .choose-byte .ensures) (c .before .before .before .before .before .before .before .before .choose-byte2 .ensures) (c .before .before .before .before .before .before .choose-byte3 .ensures)
-    (c .before .before .before .before .choose-byte4 .ensures) (c .before .before .choose-byte5 .ensures) (c .choose-byte6 .ensures)
+    let choose-byte5 = c .before .before .choose-byte5 in
+    let choose-byte4 = c .before .before .before .before .choose-byte4 in
+    let choose-byte3 = c .before .before .before .before .before .before .choose-byte3 in
+    let choose-byte2 = c .before .before .before .before .before .before .before .before .choose-byte2 in
+    let choose-byte = c .before .before .before .before .before .before .before .before .before .choose-byte in
+    let args = c .before .before .before .before .before .before .before .before .before .before .before .before .args in
+    tables-by (args .request .0) (args .excl) (choose-byte .result) (choose-byte2 .result) (choose-byte3 .result)
+    (choose-byte4 .result) (choose-byte5 .result) (c .choose-byte6 .result) (choose-byte .ensures) (choose-byte2 .ensures)
+    (choose-byte3 .ensures) (choose-byte4 .ensures) (choose-byte5 .ensures) (c .choose-byte6 .ensures)
 
 pub tables-spec : {M : Type 1} → statement M
 tables-spec =

@@ -41,10 +41,22 @@ choose-byte-requires-4 c κs = search needs
 
 returns : tie.Need-returns
 returns c =
-    duty-by (now (c .before .before .before .before .before .before .before .before .before .before .before .before .before .before .before .args .event)) (c .before .before .before .before .before .before .before .before .before .before .before .before .before .before .before .args .before) (c .before .before .before .before .before .before .before .before .before .before .before .before .before .byte-at .result) (c .before .before .before .before .before .before .before .before .before .before .before .byte-at2 .result) (c .before .before .before .before .before .before .before .before .before .byte-at3 .result) (c .before .before .before .before .before .before .before .before .byte-at4 .result) (c .before .before .before .before .before .before .before .before .before .before .before .before .passes-dirty .result)
-    (c .before .before .before .before .before .before .before .before .before .before .passes-dirty2 .result) (c .before .before .before .before .before .before .before .holds-dirty .result) (c .before .before .before .choose-byte .result) (c .before .before .choose-byte2 .result) (c .before .choose-byte3 .result) (c .choose-byte4 .result)
-    (c .before .before .before .before .before .before .before .before .before .before .before .before .before .byte-at .ensures) (c .before .before .before .before .before .before .before .before .before .before .before .before .passes-dirty .ensures) (c .before .before .before .before .before .before .before .before .before .before .before .byte-at2 .ensures) (c .before .before .before .before .before .before .before .before .before .before .passes-dirty2 .ensures) (c .before .before .before .before .before .before .before .before .before .byte-at3 .ensures) (c .before .before .before .before .before .before .before .before .byte-at4 .ensures) (c .before .before .before .before .before .before .before .holds-dirty .ensures)
-    (c .before .before .before .choose-byte .ensures) (c .before .before .choose-byte2 .ensures) (c .before .choose-byte3 .ensures) (c .choose-byte4 .ensures)
+    let choose-byte3 = c .before .choose-byte3 in
+    let choose-byte2 = c .before .before .choose-byte2 in
+    let choose-byte = c .before .before .before .choose-byte in
+    let holds-dirty = c .before .before .before .before .before .before .before .holds-dirty in
+    let byte-at4 = c .before .before .before .before .before .before .before .before .byte-at4 in
+    let byte-at3 = c .before .before .before .before .before .before .before .before .before .byte-at3 in
+    let passes-dirty2 = c .before .before .before .before .before .before .before .before .before .before .passes-dirty2 in
+    let byte-at2 = c .before .before .before .before .before .before .before .before .before .before .before .byte-at2 in
+    let passes-dirty = c .before .before .before .before .before .before .before .before .before .before .before .before .passes-dirty in
+    let byte-at = c .before .before .before .before .before .before .before .before .before .before .before .before .before .byte-at in
+    let args = c .before .before .before .before .before .before .before .before .before .before .before .before .before .before .before .args in
+    duty-by (now (args .event)) (args .before) (byte-at .result) (byte-at2 .result) (byte-at3 .result) (byte-at4 .result)
+    (passes-dirty .result) (passes-dirty2 .result) (holds-dirty .result) (choose-byte .result) (choose-byte2 .result)
+    (choose-byte3 .result) (c .choose-byte4 .result) (byte-at .ensures) (passes-dirty .ensures) (byte-at2 .ensures)
+    (passes-dirty2 .ensures) (byte-at3 .ensures) (byte-at4 .ensures) (holds-dirty .ensures) (choose-byte .ensures)
+    (choose-byte2 .ensures) (choose-byte3 .ensures) (c .choose-byte4 .ensures)
 
 pub duty-spec : {M : Type 1} → statement M
 duty-spec =

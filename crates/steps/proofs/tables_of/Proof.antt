@@ -19,9 +19,13 @@ choose-byte-requires-3 c κs = search needs
 
 returns : tie.Need-returns
 returns c =
-    three-choices (eqb (c .before .before .before .before .before .before .before .before .args .error) NDERR || eqb (c .before .before .before .before .before .before .before .before .args .request) SnpMakeInvalid) (eqb (c .before .before .before .before .before .before .before .before .args .request) SnpUnique || eqb (c .before .before .before .before .before .before .before .before .args .request) SnpCleanInvalid)
-    (eqb (c .before .before .before .before .before .before .before .before .args .request) SnpPreferUniqueFwd) 3 2 1 0 (c .before .before .choose-byte .result) (c .before .choose-byte2 .result) (c .choose-byte3 .result) (c .before .before .choose-byte .ensures)
-    (c .before .choose-byte2 .ensures) (c .choose-byte3 .ensures)
+    let choose-byte2 = c .before .choose-byte2 in
+    let choose-byte = c .before .before .choose-byte in
+    let args = c .before .before .before .before .before .before .before .before .args in
+    three-choices (eqb (args .error) NDERR || eqb (args .request) SnpMakeInvalid)
+    (eqb (args .request) SnpUnique || eqb (args .request) SnpCleanInvalid) (eqb (args .request) SnpPreferUniqueFwd) 3 2 1 0
+    (choose-byte .result) (choose-byte2 .result) (c .choose-byte3 .result) (choose-byte .ensures) (choose-byte2 .ensures)
+    (c .choose-byte3 .ensures)
 
 pub tables-of-spec : {M : Type 1} → statement M
 tables-of-spec =
