@@ -242,6 +242,8 @@ mod tests {
         assert!(matches!(asked_by("make capture"), Ok(Asked::MakeCapture)));
         let asked = asked_by("list SnpNotSharedDirty 1 0 1 Dirty SD");
         assert!(matches!(asked, Ok(Asked::List { question }) if question == [4, 1, 0, 1, 2, 6]));
+        let asked = asked_by("list SnpMakeInvalid 0 1 0 Clean UDP");
+        assert!(matches!(asked, Ok(Asked::List { question }) if question == [10, 0, 1, 0, 1, 4]));
     }
 
     /// A command line that asks for nothing known is refused.
@@ -250,8 +252,9 @@ mod tests {
         let lines = "|else -- judge|event|event --|event judge|event --seed|event --seed x -- judge|event --stage 99 -- judge|\
                      event --random 1000000001 -- judge|answer|answer else|answer event --once|answer capture file more|\
                      make|make sheet|make capture more|wrong else|wrong sheet more|list|list SnpShared 0 0 0 Clean|\
-                     list SnpShared 0 0 0 Clean I I|list SnpOnce 0 0 0 Clean I|list SnpShared 0 0 2 Clean I|\
-                     list SnpShared 0 0 0 ? I|list SnpShared 0 0 0 Clean ?|list 1 0 0 0 0 0|list SnpShared I 0 0 0 Clean";
+                     list SnpShared 0 0 0 Clean I I|list SnpOnce 0 0 0 Clean I|list SnpCleanShared 0 0 0 Clean I|\
+                     list SnpShared 0 0 2 Clean I|list SnpShared 0 0 0 ? I|list SnpShared 0 0 0 Clean ?|\
+                     list 1 0 0 0 0 0|list SnpShared I 0 0 0 Clean";
         for line in lines.split('|') {
             assert!(asked_by(line).is_err(), "{line}");
         }

@@ -3,8 +3,13 @@
 use crate::calls::all::{call, CALLS};
 use crate::calls::{answers, capture, event, sheet, trace};
 use crate::cases::kinds::{Case, Cases};
-use crate::cases::wire::{event_record, lent_in, question_in, question_record, trace_case, trace_rooms};
-use crate::definition::trace::Lent;
+use crate::cases::wire::{event_record, handed_over, lent_in, question_in, question_record, trace_case, trace_rooms};
+use crate::definition;
+use crate::definition::answers::list;
+use crate::definition::codes::{byte, EXPLAINED};
+use crate::definition::event::{alone, has_a_step};
+use crate::definition::sheet::{each_event, lines};
+use crate::definition::trace::{event_of, judge, Lent};
 use crate::definition::values::Definition;
 use crate::running::arrival::Arrival;
 use crate::running::call::{Answer, Call, Feeding};
@@ -24,10 +29,11 @@ const MIX: &[(&str, &str, &[(&str, u64)])] = &[
     ("event", "at the limits", &[("accepted", 40), ("refused 4", 40)]),
     ("event", "lengths 0 to 40", &[("refused 1", 95), ("with a step", 1)]),
     ("event", "near a row", &[("accepted", 100), ("with a step", 0)]),
+    ("trace", "every set", &[("accepted", 100), ("by histories", 100), ("lost", 15), ("discarded", 3)]),
     ("trace", "many lengths", &[("refused 1", 100)]),
     ("trace", "at the limits", &[("accepted", 20), ("refused 1", 45), ("refused 2", 6), ("refused 3", 10), ("refused 4", 2)]),
-    ("trace", "up to 64 events", &[("accepted", 100), ("explained", 1_900), ("unexplained", 60), ("lost", 20)]),
-    ("trace", "up to 4 events", &[("accepted", 100), ("by histories", 100), ("unexplained", 15), ("Requester", 5)]),
+    ("trace", "up to 64 events", &[("accepted", 100), ("explained", 1_900), ("unexplained", 60), ("lost", 20), ("discarded", 10)]),
+    ("trace", "up to 4 events", &[("accepted", 100), ("by histories", 100), ("unexplained", 15), ("Requester", 5), ("discarded", 4)]),
     ("trace", "bad sets", &[("refused 2", 100)]),
     ("trace", "bad pair numbers", &[("refused 3", 100)]),
     ("trace", "bad bytes", &[("refused 4", 100)]),
@@ -35,7 +41,7 @@ const MIX: &[(&str, &str, &[(&str, u64)])] = &[
     ("trace", "several damages", &[("refused 1", 15), ("refused 2", 7), ("refused 3", 30), ("refused 4", 12), ("refused 5", 5)]),
     ("trace", "bad lengths", &[("refused 1", 100)]),
     ("trace", "anything", &[("accepted", 15), ("refused 1", 5), ("refused 2", 5), ("refused 3", 30), ("refused 4", 8)]),
-    ("sheet", "known names", &[("accepted", 100), ("explained", 1_000), ("unexplained", 10_000)]),
+    ("sheet", "known names", &[("accepted", 100), ("explained", 1_000), ("unexplained", 10_000), ("discarded", 10)]),
     ("sheet", "names not known", &[("accepted", 1), ("refused 8", 95)]),
     ("sheet", "each byte value", &[("accepted", 0), ("refused 8", 98)]),
     ("sheet", "pair fields", &[("accepted", 10), ("refused 3", 7), ("refused 7", 9), ("refused 8", 65)]),
@@ -45,22 +51,24 @@ const MIX: &[(&str, &str, &[(&str, u64)])] = &[
     ("sheet", "refusals", &[("refused 3", 20), ("refused 7", 20), ("refused 8", 45)]),
     ("sheet", "line lengths", &[("refused 6", 10), ("refused 7", 50), ("refused 8", 30)]),
     ("sheet", "borders of reads", &[("accepted", 45), ("refused 7", 15), ("refused 8", 30), ("lost", 1_000)]),
-    ("sheet", "many pairs", &[("accepted", 100), ("unexplained", 1_000), ("not judged", 1_000), ("Requester", 1_000)]),
-    ("sheet", "drawn", &[("accepted", 100), ("explained", 3_000), ("unexplained", 50), ("not judged", 300), ("lost", 90)]),
+    ("sheet", "many pairs", &[("accepted", 100), ("unexplained", 1_000), ("not judged", 1_000), ("Requester", 1_000),
+        ("discarded", 1_000)]),
+    ("sheet", "drawn", &[("accepted", 100), ("explained", 3_000), ("unexplained", 50), ("not judged", 300), ("lost", 90),
+        ("discarded", 50)]),
     ("sheet", "drawn, damaged", &[("accepted", 2), ("refused 3", 1), ("refused 6", 8), ("refused 7", 4), ("refused 8", 60)]),
     ("sheet", "anything", &[("accepted", 5), ("refused 6", 20), ("refused 8", 20)]),
-    ("capture", "refusals", &[("refused 3", 20), ("refused 4", 40), ("refused 5", 20), ("explained", 1_000)]),
+    ("capture", "refusals", &[("refused 3", 20), ("refused 4", 35), ("refused 5", 40), ("explained", 1_000)]),
     ("capture", "cut records", &[("cut", 90), ("explained", 1_000)]),
-    ("capture", "drawn", &[("accepted", 100), ("explained", 1_000)]),
+    ("capture", "drawn", &[("accepted", 100), ("explained", 1_000), ("discarded", 10)]),
     ("capture", "drawn, damaged", &[("refused 3", 10), ("refused 4", 10), ("refused 5", 5), ("explained", 1_000)]),
     ("capture", "drawn, cut", &[("cut", 70), ("explained", 1_000)]),
     ("answers", "every question", &[("accepted", 75), ("refused 9", 15), ("answers", 490), ("empty", 20)]),
     ("answers", "each byte value", &[("refused 4", 80), ("refused 5", 15), ("accepted", 0), ("refused 9", 0)]),
     ("answers", "several outside", &[("refused 4", 95), ("refused 5", 1), ("accepted", 0), ("refused 9", 0)]),
     ("answers", "each length of room", &[("accepted", 60), ("refused 9", 29), ("empty", 25)]),
-    ("answers", "drawn", &[("accepted", 70), ("refused 9", 20), ("answers", 400)]),
+    ("answers", "drawn", &[("accepted", 70), ("refused 9", 20), ("answers", 340)]),
     ("answers", "drawn, damaged", &[("refused 4", 70), ("refused 5", 20)]),
-    ("answers", "anything", &[("accepted", 50), ("refused 4", 30), ("refused 5", 3), ("refused 9", 3)]),
+    ("answers", "anything", &[("accepted", 50), ("refused 4", 30), ("refused 5", 3), ("refused 9", 2)]),
 ];
 
 /// The cases of a call with fewer random ones than are usual, where these are many.
@@ -91,6 +99,97 @@ fn mix() {
     }
 }
 
+/// The requests that are judged since Q-4.
+const REQUESTS: [u8; 10] = [1, 2, 4, 7, 9, 10, 18, 20, 21, 22];
+
+/// The requests and duties of the explained events of a trace, a sheet or a capture.
+fn requests_and_duties(definition: &Definition, call: &str, input: &[u8]) -> Vec<(u8, u8)> {
+    let mut requests = Vec::new();
+    let told: Vec<(u8, u8)> = match call {
+        "trace" => {
+            let judged = judge(definition, &lent_in(input));
+            let events = 0..if judged.refusal == 0 { judged.place } else { 0 };
+            requests.extend(events.clone().map(|n| event_of(definition, &judged.lent, n)[byte::REQUEST]));
+            events.map(|n| (judged.lent.verdicts[n], judged.lent.duties[n])).collect()
+        }
+        "sheet" => {
+            each_event(definition, &lines(input), |_, event| requests.push(event[byte::REQUEST]));
+            definition::sheet::answer(definition, input).told
+        }
+        _ => {
+            let record = definition::capture::record_bytes(definition);
+            requests.extend(input.chunks_exact(record).map(|record| record[2 + byte::REQUEST]));
+            definition::capture::answer(definition, input).told
+        }
+    };
+    let explained = requests.into_iter().zip(told).filter(|(_, (verdict, _))| *verdict == EXPLAINED);
+    explained.map(|(request, (_, duty))| (request, duty)).collect()
+}
+
+/// Traces, sheets and captures mix all requests, and every duty that a request can have comes up for it.
+#[test]
+fn all_requests_come_up() {
+    let home = REQUESTS.iter().filter(|request| **request != 10).map(|request| (*request, 1));
+    let none_and_lost = REQUESTS.iter().flat_map(|request| [(*request, 0), (*request, 3)]);
+    let expected: BTreeSet<(u8, u8)> = none_and_lost.chain(home).chain([(18, 2), (20, 2), (22, 2), (10, 4)]).collect();
+    for (name, kind) in [
+        ("trace", "up to 64 events"),
+        ("trace", "up to 4 events"),
+        ("sheet", "many pairs"),
+        ("sheet", "drawn"),
+        ("capture", "whole parts"),
+        ("capture", "long"),
+    ] {
+        let cases = few(call(name).unwrap(), 1);
+        let came = cases.of_kind(kind).take(3_000).flat_map(|case| requests_and_duties(&cases.definition, name, &case.input));
+        assert_eq!(came.collect::<BTreeSet<(u8, u8)>>(), expected, "{name}, {kind}");
+    }
+    let (events, questions) = (few(&event::CALL, 1), few(&answers::CALL, 1));
+    for kind in ["combinations", "tags and TagOps", "single-byte sweeps", "mutated", "lengths 0 to 40", "near a row"] {
+        let some = events.of_kind(kind).step_by(if kind == "combinations" { 97 } else { 1 });
+        let stepped = some.filter(|case| has_a_step(&events.definition, handed_over(&case.input)));
+        let came: BTreeSet<u8> = stepped.map(|case| case.input[1]).filter(|request| REQUESTS.contains(request)).collect();
+        assert_eq!(came, REQUESTS.into(), "{kind}");
+    }
+    for kind in ["every question", "each length of room", "drawn"] {
+        let came: BTreeSet<u8> = questions.of_kind(kind).map(|case| case.input[0]).collect();
+        assert_eq!(came, REQUESTS.into(), "{kind}");
+    }
+}
+
+/// Requests just outside the ten come up as refusals of single events, traces, captures and questions.
+#[test]
+fn requests_outside_come_up() {
+    let outside = [0, 3, 5, 6, 8, 11, 17, 19, 23, 39, 41, 42];
+    for (name, kinds) in [
+        ("event", &["single-byte sweeps", "other requests"][..]),
+        ("trace", &["each byte value", "bad requests"]),
+        ("capture", &["refusals"]),
+        ("answers", &["each byte value", "drawn, damaged"]),
+    ] {
+        let cases = few(call(name).unwrap(), 1);
+        let definition = &cases.definition;
+        let refused = |case: Case| match name {
+            "event" => (alone(definition, handed_over(&case.input)).refusal == 5).then(|| case.input[1]),
+            "answers" => (list(definition, question_in(&case.input).0, &[]).refusal == 5).then(|| case.input[0]),
+            "trace" => {
+                let lent = lent_in(&case.input);
+                let (refusal, place) = definition::trace::refused(definition, &lent);
+                (refusal == 5).then(|| event_of(definition, &lent, place)[byte::REQUEST])
+            }
+            _ => match definition::capture::answer(definition, &case.input).stop {
+                Some((5, event)) => Some(case.input[event * definition::capture::record_bytes(definition) + 2]),
+                _ => None,
+            },
+        };
+        for kind in kinds {
+            let came: BTreeSet<u8> = cases.of_kind(kind).filter_map(refused).collect();
+            let missing: Vec<&u8> = outside.iter().filter(|request| !came.contains(request)).collect();
+            assert!(missing.is_empty() && REQUESTS.iter().all(|request| !came.contains(request)), "{name}, {kind}: {missing:?}");
+        }
+    }
+}
+
 /// A case asked for twice is the same, and another seed draws others.
 #[test]
 fn cases_are_repeatable() {
@@ -110,21 +209,21 @@ fn cases_are_repeatable() {
 fn sweeps_are_whole() {
     let (events, traces) = (few(&event::CALL, 1), few(&trace::CALL, 1));
     let combinations: BTreeSet<Vec<u8>> = events.of_kind("combinations").step_by(10).map(|case| case.input).collect();
-    assert_eq!((events.kinds[0].count, combinations.len()), (3_153_920, 315_392));
+    assert_eq!((events.kinds[0].count, combinations.len()), (4_505_600, 450_560));
     let values: BTreeSet<(usize, u8)> =
         events.of_kind("single-byte sweeps").take(3_584).enumerate().map(|(n, case)| (n / 256, case.input[1 + n / 256])).collect();
     assert_eq!(values.len(), 14 * 256);
     let lengths: BTreeSet<u8> = events.of_kind("lengths 0 to 40").take(41).map(|case| case.input[0]).collect();
     assert_eq!(lengths, (0..=40).collect());
     let rooms = trace_rooms(&traces.definition);
-    for case in (0..traces.first(5)).map(|number| traces.case(number)) {
+    for case in (0..traces.first(6)).map(|number| traces.case(number)) {
         let lent = lent_in(&case.input);
         let fits = |(n, part): (usize, &Vec<u8>)| part.len() <= rooms[n] * Lent::PARTS[n].1;
         assert!(lent.parts().into_iter().enumerate().all(fits));
     }
     let questions = few(&answers::CALL, 1);
     let asked: BTreeSet<Vec<u8>> = questions.of_kind("every question").map(|case| case.input[..6].to_vec()).collect();
-    assert_eq!((questions.kinds[0].count, asked.len()), (8 * 1_176, 1_176));
+    assert_eq!((questions.kinds[0].count, asked.len()), (8 * 1_680, 1_680));
     let values: BTreeSet<(usize, u8)> =
         questions.of_kind("each byte value").enumerate().map(|(n, case)| (n / 256 % 6, case.input[n / 256 % 6])).collect();
     assert_eq!(values.len(), 6 * 256);

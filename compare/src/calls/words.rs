@@ -12,7 +12,7 @@ pub const REFUSALS: [&str; 10] = [
 ];
 
 /// The columns of verdicts and duties.
-pub const EVENTS: &[&str] = &["explained", "unexplained", "not judged", "none", "Home", "Requester", "lost"];
+pub const EVENTS: &[&str] = &["explained", "unexplained", "not judged", "none", "Home", "Requester", "lost", "discarded"];
 
 /// The counts of verdicts and duties.
 pub fn counts_of(told: impl Iterator<Item = (u8, u8)>) -> Vec<(&'static str, u64)> {

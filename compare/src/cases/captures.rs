@@ -1,19 +1,21 @@
 //! Captures that go through lengths, pair numbers, parts, refusals and cuts, and captures drawn with and without damage.
 
-use crate::cases::damage::{cut, damage, Damage};
+use crate::cases::damage::{cut, damage, requests_just_outside, Damage};
 use crate::cases::draw::Draw;
 use crate::cases::kinds::{share, Cases, Gathered, Kind, Made};
 use crate::cases::traces::{any_events, some_pairs, trace_from, Shape};
 use crate::definition::capture::{of_sheet, record_bytes, records};
-use crate::definition::codes::ALL_STATES;
+use crate::definition::codes::{byte, ALL_STATES};
 use crate::definition::trace::Lent;
 use crate::definition::values::Definition;
 
 /// The sheets of the samples, by name.
-const SAMPLES: [(&str, &[u8]); 7] = [
+const SAMPLES: [(&str, &[u8]); 9] = [
     ("example.csv", include_bytes!("../../../samples/example.csv")),
     ("morning.csv", include_bytes!("../../../samples/morning.csv")),
     ("lost_year.csv", include_bytes!("../../../samples/lost_year.csv")),
+    ("discarded.csv", include_bytes!("../../../samples/discarded.csv")),
+    ("lost.csv", include_bytes!("../../../samples/lost.csv")),
     ("refused-3.csv", include_bytes!("../../../samples/refused-3.csv")),
     ("refused-6.csv", include_bytes!("../../../samples/refused-6.csv")),
     ("refused-7.csv", include_bytes!("../../../samples/refused-7.csv")),
@@ -133,7 +135,7 @@ impl Sweeping {
         self.round_borders().into_iter().for_each(|events| self.add(events, &[], None));
     }
 
-    /// Adds captures in which one event is refused, or two are, or each byte of one is.
+    /// Adds captures in which one event is refused, or two are, or each byte of one is, or its request is just outside.
     fn refusals(&mut self) {
         let part = self.definition.most_events;
         let events = [&[0, 1, 17, part - 2][..], &self.round_borders()].concat();
@@ -150,11 +152,17 @@ impl Sweeping {
             }
         }
         let record = record_bytes(&self.definition);
+        let whole = records(&self.definition, &self.whole);
+        let with = |n: usize, value: u8| {
+            let mut capture = whole[..5 * record].to_vec();
+            capture[3 * record + 2 + n] = value;
+            capture
+        };
         for (n, limit) in self.definition.limits.iter().enumerate().skip(1) {
-            let mut capture = records(&self.definition, &self.whole);
-            capture.truncate(5 * record);
-            capture[3 * record + 2 + n] = limit + 1;
-            self.captures.add(format!("byte {n} of event 3 is past its limit"), capture);
+            self.captures.add(format!("byte {n} of event 3 is past its limit"), with(n, limit + 1));
+        }
+        for request in requests_just_outside(&self.definition) {
+            self.captures.add(format!("request {request} in event 3"), with(byte::REQUEST, request));
         }
     }
 

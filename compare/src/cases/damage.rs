@@ -63,13 +63,20 @@ pub fn request_outside(definition: &Definition, draw: &mut Draw) -> u8 {
             0 => near - 1,
             1 => near + 1,
             2 => near + 32 * (1 + draw.below(7) as u8),
-            3 => draw.one_of(&[0, 3, 7, 9, 10, 23, 255]),
+            3 => draw.one_of(&[0, 3, 7, 8, 9, 10, 11, 23, 255]),
             _ => draw.byte(),
         };
         if !is_request(definition, request) {
             return request;
         }
     }
+}
+
+/// The requests that are not judged, but are one less or one more than one that is, or 32 more.
+pub fn requests_just_outside(definition: &Definition) -> Vec<u8> {
+    let near = |request: u8| [request.checked_add(1), request.checked_sub(1), request.checked_sub(32)];
+    let is_near = |request: u8| near(request).into_iter().flatten().any(|other| is_request(definition, other));
+    (0..=255).filter(|request| !is_request(definition, *request) && is_near(*request)).collect()
 }
 
 /// A pair number that is not below a table's length.
@@ -169,4 +176,22 @@ pub fn cut(draw: &mut Draw, bytes: &mut Vec<u8>, record: usize) -> usize {
     let cut = 1 + draw.place(record - 1);
     bytes.truncate(bytes.len() - cut);
     cut
+}
+
+#[cfg(test)]
+mod tests {
+    use super::*;
+    use std::collections::BTreeSet;
+
+    /// The requests just outside are those by hand, and they come where one is drawn.
+    #[test]
+    fn requests_outside() {
+        let definition = Definition::at_stage(4).unwrap();
+        let by_hand = [0, 3, 5, 6, 8, 11, 17, 19, 23, 33, 34, 36, 39, 41, 42, 50, 52, 53, 54];
+        assert_eq!(requests_just_outside(&definition), by_hand);
+        let mut draw = Draw::new(1, 1);
+        let drawn: BTreeSet<u8> = (0..3_000).map(|_| request_outside(&definition, &mut draw)).collect();
+        assert!(by_hand.iter().all(|request| drawn.contains(request)), "{drawn:?}");
+        assert!([1, 2, 4, 7, 9, 10, 18, 20, 21, 22].iter().all(|request| !drawn.contains(request)), "{drawn:?}");
+    }
 }

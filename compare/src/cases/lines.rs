@@ -12,12 +12,12 @@ pub const OTHER_ENDS: [&[u8]; 20] = [
     b"\r\n\r\n", b"\r\n\r\n\r\n", b"\r \n", b" \r\n", b"\0\r\n", b"\r\0\n", b"\x1a\r\n", b"\x0b", b"\xc2\x85",
 ];
 
-/// Snoops that CHI has or might have, and that document 01 does not judge.
+/// Snoops that CHI has or might have, and that document 01 does not judge; Q-4 judges three of them.
 #[rustfmt::skip]
-pub const OTHER_REQUESTS: [&str; 16] = [
+pub const OTHER_REQUESTS: [&str; 19] = [
     "SnpUnique", "SnpUniqueFwd", "SnpOnce", "SnpOnceFwd", "SnpSharedFwd", "SnpCleanShared", "SnpCleanInvalid",
     "SnpMakeInvalid", "SnpQuery", "SnpDVMOp", "SnpStashUnique", "SnpStashShared", "SnpUniqueStash",
-    "SnpMakeInvalidStash", "SnpLCrdReturn", "SnpNotShared",
+    "SnpMakeInvalidStash", "SnpLCrdReturn", "SnpNotShared", "SnpInvalid", "SnpMakeUnique", "SnpCleanInvalidFwd",
 ];
 
 /// Fields that are tried for a pair; a blank parts them.

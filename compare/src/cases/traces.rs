@@ -2,10 +2,11 @@
 
 use crate::cases::damage::{damage, resize_part, Damage};
 use crate::cases::draw::Draw;
-use crate::cases::drawn::{any_in_range, explained_event, lively_pair, stray_event};
+use crate::cases::drawn::{any_in_range, event_by_row, explained_event, lively_pair, stray_event};
 use crate::cases::kinds::{share, Cases, Kind, Made};
 use crate::cases::wire::{trace_case, trace_rooms};
-use crate::definition::codes::ALL_STATES;
+use crate::definition::codes::{byte, ALL_STATES, RESP_ERRS};
+use crate::definition::rows::NDERR_ROW;
 use crate::definition::steps::step;
 use crate::definition::trace::Lent;
 use crate::definition::values::Definition;
@@ -26,6 +27,7 @@ pub fn traces(definition: &Definition, seed: u64, random: u64) -> Cases {
         })
         .alike(256),
         sweep("each set value", 2, 3..4, 3, all, |_, lent, _, place, value| lent.table[place] = value as u8).alike(256),
+        Kind::new("every set", (definition.requests.len() * RESP_ERRS.len() * SETS) as u64, every_set),
         sweep("many pair numbers", 2, 0..10, 2, PAIRS_TRIED.to_vec(), |_, lent, _, place, value| lent.set_pair(place, value)),
         Kind::new("many lengths", lengths.len() as u64, move |d, draw, n| length_case(d, draw, n, &lengths[n as usize])),
         Kind::new("at the limits", limits.len() as u64, move |d, draw, n| limit_case(d, draw, &limits[n as usize])),
@@ -41,6 +43,9 @@ pub fn traces(definition: &Definition, seed: u64, random: u64) -> Cases {
     ];
     Cases { definition: definition.clone(), seed, kinds }
 }
+
+/// How many sets of states there are.
+const SETS: usize = ALL_STATES as usize + 1;
 
 /// The pair numbers that are tried, some of which have a low byte that is a good number.
 #[rustfmt::skip]
@@ -64,6 +69,18 @@ fn sweep(name: &'static str, events: usize, tables: Range<usize>, places: usize,
         (String::new(), trace_case(&lent))
     };
     Kind::new(name, count as u64, make)
+}
+
+/// A trace in which a pair of any set gives the answer of NDERR to any request twice, with any RespErr.
+fn every_set(definition: &Definition, draw: &mut Draw, n: u64) -> Made {
+    let (rest, set) = (n as usize / SETS, n as usize % SETS);
+    let row = definition.rows.iter().find(|row| row.table == NDERR_ROW).expect("NDERR has a row");
+    let mut event = event_by_row(definition, draw, row, false);
+    event[byte::REQUEST] = definition.requests[rest / RESP_ERRS.len()].1;
+    event[byte::RESP_ERR] = (rest % RESP_ERRS.len()) as u8;
+    let mut lent = Lent { table: vec![set as u8], ..Lent::default() };
+    (0..2).for_each(|_| lent.push(0, &event, [draw.byte(), draw.byte(), draw.byte()]));
+    (String::new(), trace_case(&lent))
 }
 
 /// A kind whose traces are drawn.

@@ -66,6 +66,8 @@ fn tell(answered: &mut Answered, judged: &Lent) {
             (_, 1) => "Home holds the duty",
             (_, 2) => "the Requester holds the duty",
             (_, 3) => "the duty is lost",
+            // Q-4 names no words for a capture; these are those of the examples.
+            (_, 4) => "the line is discarded",
             _ => "",
         };
         if !what.is_empty() {

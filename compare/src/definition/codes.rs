@@ -89,8 +89,8 @@ pub const UNEXPLAINED: u8 = 1;
 /// The pair is already lost.
 pub const NOT_JUDGED: u8 = 2;
 
-/// Who holds the duty to write back, each at its byte.
-pub const DUTIES: [&str; 4] = ["none", "Home", "Requester", "lost"];
+/// Who holds the duty to write back, or what became of it, each at its byte; Q-4 adds the last.
+pub const DUTIES: [&str; 5] = ["none", "Home", "Requester", "lost", "discarded"];
 
 /// The set of all seven states, above which no byte is a set.
 pub const ALL_STATES: u8 = 127;

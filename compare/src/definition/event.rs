@@ -1,6 +1,6 @@
 //! One event judged alone.
 
-use crate::definition::codes::{byte, holds_dirty, FWD_STATES_WITH_PD, NDERR, RESPS_WITH_PD};
+use crate::definition::codes::{byte, holds_dirty, FWD_STATES_WITH_PD, NDERR, OK, RESPS_WITH_PD};
 use crate::definition::steps::{agreeing, set_after};
 use crate::definition::values::Definition;
 
@@ -35,13 +35,15 @@ pub fn is_request(definition: &Definition, request: u8) -> bool {
 }
 
 /// The duty byte of an explained event from a set of states before.
-pub fn duty(event: &[u8], before: u8) -> u8 {
+pub fn duty(definition: &Definition, event: &[u8], before: u8) -> u8 {
     if RESPS_WITH_PD.contains(&event[byte::RESP]) {
         1
     } else if FWD_STATES_WITH_PD.contains(&event[byte::FWD_STATE]) {
         2
     } else if event[byte::RESP_ERR] == NDERR && holds_dirty(before) {
         3
+    } else if event[byte::RESP_ERR] == OK && holds_dirty(before) && definition.discarding.contains(&event[byte::REQUEST]) {
+        4
     } else {
         0
     }
@@ -74,7 +76,7 @@ pub fn alone(definition: &Definition, bytes: &[u8]) -> Alone {
             let set = set_after(definition, &rows, bytes, before);
             answer.sets[usize::from(before)] = set;
             if set != 0 {
-                answer.duties[usize::from(before)] = duty(bytes, 1 << before);
+                answer.duties[usize::from(before)] = duty(definition, bytes, 1 << before);
             }
         }
     }

@@ -68,7 +68,7 @@ pub fn enumerate(definition: &Definition, lent: &Lent) -> (Judged, u64) {
             (told.verdicts[event], told.duties[event]) = match (reached, passed) {
                 (0, _) => (NOT_JUDGED, 0),
                 (_, 0) => (UNEXPLAINED, 0),
-                _ => (EXPLAINED, duty(events[so_far], reached)),
+                _ => (EXPLAINED, duty(definition, events[so_far], reached)),
             };
             told.after_sets[event] = passed;
         }

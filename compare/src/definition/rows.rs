@@ -25,6 +25,12 @@ pub struct Row {
 pub const B4_46: &str = "B4.46";
 /// Table B4.60, for SnpPreferUniqueFwd outside an exclusive sequence.
 pub const B4_60: &str = "B4.60";
+/// SnpUnique's table in Q-4.
+pub const SNP_UNIQUE: &str = "SnpUnique";
+/// SnpCleanInvalid's table in Q-4.
+pub const SNP_CLEAN_INVALID: &str = "SnpCleanInvalid";
+/// SnpMakeInvalid's table in Q-4.
+pub const SNP_MAKE_INVALID: &str = "SnpMakeInvalid";
 /// The row of the error rule, which stands in no table of the source.
 pub const NDERR_ROW: &str = "NDERR";
 
@@ -76,6 +82,22 @@ pub const PRINTED: &str = "
     NDERR | I UC UCE UD UDP SC SD | X | - | SnpResp_I               | I
 ";
 
+/// The rows of Q-4 in the same columns, each snoop's in a table of its name.
+pub const PRINTED_BY_Q4: &str = "
+    SnpUnique       | I UCE | X | - | SnpResp_I           | I
+    SnpUnique       | UC    | X | - | SnpResp_I           | I
+    SnpUnique       | UC    | X | - | SnpRespData_I       | I
+    SnpUnique       | UD SD | X | - | SnpRespData_I_PD    | I
+    SnpUnique       | UDP   | X | - | SnpRespDataPtl_I_PD | I
+    SnpUnique       | SC    | 0 | - | SnpResp_I           | I
+    SnpUnique       | SC    | 1 | - | SnpRespData_I       | I
+    SnpCleanInvalid | I UCE | X | - | SnpResp_I           | I
+    SnpCleanInvalid | UD SD | X | - | SnpRespData_I_PD    | I
+    SnpCleanInvalid | UDP   | X | - | SnpRespDataPtl_I_PD | I
+    SnpCleanInvalid | UC SC | X | - | SnpResp_I           | I
+    SnpMakeInvalid  | I UC UCE UD UDP SC SD | X | - | SnpResp_I | I
+";
+
 /// The rows that a text prints, a line each.
 pub fn rows(printed: &'static str) -> Vec<Row> {
     let lines = printed.lines().filter(|line| !line.trim().is_empty());
@@ -115,15 +137,16 @@ mod tests {
     /// The tables have the number of rows that the source prints, each state before being a row of its own.
     #[test]
     fn numbers_of_rows() {
-        let of_table = |table: &str| rows(PRINTED).into_iter().filter(move |row| row.table == table).collect::<Vec<Row>>();
-        let count = |table: &str| of_table(table).iter().map(|row| row.before.len()).sum::<usize>();
-        assert_eq!([B4_46, "B4.57", "B4.59", B4_60, NDERR_ROW].map(count), [17, 27, 13, 9, 7]);
+        let of_table = |rows: Vec<Row>, table: &str| rows.into_iter().filter(|row| row.table == table).collect::<Vec<Row>>();
+        let count = |printed: &'static str, table: &str| of_table(rows(printed), table).iter().map(|row| row.before.len()).sum::<usize>();
+        assert_eq!([B4_46, "B4.57", "B4.59", B4_60, NDERR_ROW].map(|table| count(PRINTED, table)), [17, 27, 13, 9, 7]);
+        assert_eq!([SNP_UNIQUE, SNP_CLEAN_INVALID, SNP_MAKE_INVALID].map(|table| count(PRINTED_BY_Q4, table)), [9, 7, 7]);
     }
 
     /// A row's response names the state of the data that the row forwards.
     #[test]
     fn responses_name_the_forward() {
-        for row in rows(PRINTED) {
+        for row in rows(PRINTED).into_iter().chain(rows(PRINTED_BY_Q4)) {
             assert_eq!(row.response.fwd_state, row.forward.resp);
         }
     }

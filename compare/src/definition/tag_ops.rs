@@ -10,7 +10,7 @@ pub enum TagColumn {
     UpToUpdate,
     /// What document 01 says of B4.57, B4.59 and B4.60.
     Forwarding,
-    /// What Q-2 says of B4.46: the house rule until the printed table is at hand.
+    /// What Q-2 says of B4.46, and Q-4 of its snoops: the house rule until the printed table is at hand.
     Plain,
 }
 

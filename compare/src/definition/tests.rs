@@ -2,13 +2,14 @@
 
 use crate::definition::answers::{all_questions, answers, list, list_in_words, question_in_words, Listed, BEFORE};
 use crate::definition::codes::*;
-use crate::definition::event::{alone, Alone};
+use crate::definition::columns::columns;
+use crate::definition::event::{alone, duty, has_a_step, Alone};
 use crate::definition::histories::enumerate;
 use crate::definition::rows::B4_46;
 use crate::definition::sheet::{lines, Reader};
 use crate::definition::steps::{permitted, step};
 use crate::definition::tag_ops::TagColumn;
-use crate::definition::trace::{judge, Judged, Lent};
+use crate::definition::trace::{judge, judge_event, Judged, Lent};
 use crate::definition::values::Definition;
 use crate::definition::{capture, sheet};
 use std::collections::{BTreeMap, BTreeSet};
@@ -22,7 +23,7 @@ fn from(definition: &Definition, before: &str, line: &str) -> (String, &'static 
     (states_of(answer.sets[before]).join(" "), DUTIES[usize::from(answer.duties[before])])
 }
 
-/// The entries of the notebook, and two of the wrong readings, which stay true with Q-2.
+/// The entries of the notebook, and two of the wrong readings, which stay true with Q-2 and Q-4.
 #[test]
 #[rustfmt::skip]
 fn notebook() {
@@ -44,7 +45,7 @@ fn notebook() {
         ("data", "UD", "0,SnpCleanFwd,1,0,0,?,SnpRespData_SC_Fwded_SD_PD,Invalid,OK,CompData_SD_PD,?", "I SC", "Requester"),
         ("both", "SC", "0,SnpPreferUniqueFwd,0,0,1,?,SnpResp_SC_Fwded_SC,Invalid,OK,CompData_SC,?", "SC", "none"),
     ] {
-        for stage in 0..=2 {
+        for stage in 0..=4 {
             let definition = Definition::at_stage(stage).unwrap();
             assert_eq!(from(&definition, before, line), (states.to_string(), duty), "entry {entry} at stage {stage}");
         }
@@ -74,6 +75,12 @@ fn facts() {
 #[test]
 fn facts_with_q2() {
     facts_at(&Definition::at_stage(2).unwrap());
+}
+
+/// The facts about the rows stay with Q-4, whose rows go from no other sets to no other sets.
+#[test]
+fn facts_with_q4() {
+    facts_at(&Definition::at_stage(4).unwrap());
 }
 
 /// Asserts the facts about the rows.
@@ -120,31 +127,38 @@ fn facts_at(definition: &Definition) {
     assert_eq!(seen.len(), 15);
 }
 
-/// One event alone is refused for its length, then for a byte outside its range, then for its request.
+/// One event alone is refused for its length, then for a byte outside its range, then for its request, which Q-4 may have added.
 #[test]
 fn events_refused() {
-    let definition = Definition::base();
+    events_refused_but(&Definition::base(), &[1, 2, 4, 18, 20, 21, 22]);
+    events_refused_but(&Definition::at_stage(3).unwrap(), &[1, 2, 4, 18, 20, 21, 22]);
+    events_refused_but(&Definition::at_stage(4).unwrap(), &[1, 2, 4, 7, 9, 10, 18, 20, 21, 22]);
+}
+
+/// Asserts what one event alone is refused for where these requests are judged.
+fn events_refused_but(definition: &Definition, requests: &[u8]) {
     let good = [2, 0, 0, 0, 0, 0, 1, 1, 0, 0, 0, 0, 0, 7];
     let refused = |bytes: &[u8], refusal: u8| {
         let expected = Alone { refusal, ..Alone::default() };
-        assert_eq!(alone(&definition, bytes), expected, "{bytes:?}");
+        assert_eq!(alone(definition, bytes), expected, "{bytes:?}");
     };
     [&[][..], &good[..13], &[good, good].concat(), &[255; 13]].iter().for_each(|bytes| refused(bytes, 1));
     for (n, limit) in [255, 1, 1, 1, 3, 1, 31, 7, 7, 3, 3, 1, 7, 7].into_iter().enumerate().skip(1) {
         let mut bytes = good;
         bytes[n] = limit;
-        assert_eq!(alone(&definition, &bytes).refusal, 0);
+        assert_eq!(alone(definition, &bytes).refusal, 0);
         bytes[n] = limit + 1;
-        refused(&bytes, 4);
-        bytes[0] = 0;
-        refused(&bytes, 4);
+        for request in [2, 0, 7, 8, 9, 10] {
+            bytes[0] = request;
+            refused(&bytes, 4);
+        }
     }
     for request in 0..=255 {
         let mut bytes = good;
         bytes[0] = request;
-        match request {
-            1 | 2 | 4 | 18 | 20 | 21 | 22 => assert_eq!(alone(&definition, &bytes).place, 1),
-            _ => refused(&bytes, 5),
+        match requests.contains(&request) {
+            true => assert_eq!((alone(definition, &bytes).refusal, alone(definition, &bytes).place), (0, 1)),
+            false => refused(&bytes, 5),
         }
     }
 }
@@ -158,7 +172,7 @@ fn listed(definition: &Definition, question: &str, answers: &str) {
     assert!(text.ends_with('\n'));
 }
 
-/// Lists worked out by hand, which Q-2 leaves as they are.
+/// Lists worked out by hand, which Q-2 and Q-4 leave as they are.
 #[test]
 fn lists() {
     for (question, answers) in [
@@ -188,16 +202,15 @@ fn lists() {
              SnpRespData_SC_PD_Fwded_SC,Update,OK,CompData_SC,SC SnpRespData_SC_PD_Fwded_SC,Update,DERR,CompData_SC,SC",
         ),
     ] {
-        for stage in [1, 2] {
+        for stage in 1..=4 {
             listed(&Definition::at_stage(stage).unwrap(), question, answers);
         }
     }
 }
 
-/// Lists worked out by hand that are shorter with Q-2.
+/// Lists worked out by hand that are shorter with Q-2, and stay so with Q-4.
 #[test]
 fn lists_with_q2() {
-    let definition = Definition::at_stage(2).unwrap();
     for (question, answers) in [
         (
             "SnpShared 0 0 0 Dirty SD",
@@ -224,20 +237,20 @@ fn lists_with_q2() {
              SnpRespData_SC,Transfer,DERR,-,SC",
         ),
     ] {
-        listed(&definition, question, answers);
+        [2, 3, 4].iter().for_each(|stage| listed(&Definition::at_stage(*stage).unwrap(), question, answers));
     }
 }
 
 /// Every list has what the judgment of one event permits among all events of names, each answer once and in ascending order.
 #[test]
 fn lists_by_judgment() {
-    for stage in [1, 2] {
-        lists_by_judgment_of(&Definition::at_stage(stage).unwrap());
+    for (stage, questions) in [(1, 1_176), (2, 1_176), (4, 1_680)] {
+        lists_by_judgment_of(&Definition::at_stage(stage).unwrap(), questions);
     }
 }
 
-/// Asserts that every list has what the judgment of one event permits, and that the longest has 29 answers.
-fn lists_by_judgment_of(definition: &Definition) {
+/// Asserts that every list has what the judgment of one event permits, that there are so many, and that the longest has 29 answers.
+fn lists_by_judgment_of(definition: &Definition, questions: usize) {
     let mut lists: BTreeMap<Vec<u8>, BTreeSet<Vec<u8>>> = BTreeMap::new();
     for event in events_of_rows(definition).iter().filter(|event| event[byte::TAG] != TAG_NOT_SEEN) {
         for (before, set) in (0..).zip(alone(definition, event).sets) {
@@ -247,7 +260,7 @@ fn lists_by_judgment_of(definition: &Definition) {
         }
     }
     assert_eq!(all_questions(definition), lists.keys().cloned().collect::<Vec<_>>());
-    assert_eq!((lists.len(), lists.values().map(BTreeSet::len).max()), (1_176, Some(29)));
+    assert_eq!((lists.len(), lists.values().map(BTreeSet::len).max()), (questions, Some(29)));
     for (question, list) in lists {
         assert_eq!(answers(definition, &question), list.into_iter().collect::<Vec<_>>(), "{question:?}");
     }
@@ -399,6 +412,321 @@ fn dirty_tags_that_leave_with_invalid() {
     }
 }
 
+/// Q-4's answers by hand, for each state before: to SnpUnique with RetToSrc 0 and with 1, to SnpCleanInvalid and to SnpMakeInvalid.
+#[rustfmt::skip]
+const INVALIDATED: [(&str, [&str; 4]); 7] = [
+    ("I",   ["none fail",       "none fail",       "none fail",    "none fail"]),
+    ("UC",  ["none clean fail", "none clean fail", "none fail",    "none fail"]),
+    ("UCE", ["none fail",       "none fail",       "none fail",    "none fail"]),
+    ("UD",  ["dirty fail",      "dirty fail",      "dirty fail",   "none fail"]),
+    ("UDP", ["partial fail",    "partial fail",    "partial fail", "none fail"]),
+    ("SC",  ["none fail",       "clean fail",      "none fail",    "none fail"]),
+    ("SD",  ["dirty fail",      "dirty fail",      "dirty fail",   "none fail"]),
+];
+
+/// The answers of that table: the response, its RespErrs, its TagOps with Invalid or Clean tags and those with Dirty ones; then its
+/// duty from a clean state and from a Dirty one.
+#[rustfmt::skip]
+const GIVEN: [(&str, [&str; 4], [u8; 2]); 5] = [
+    ("none",    ["SnpResp_I",           "OK",      "Invalid",          "Invalid"], [0, 4]),
+    ("clean",   ["SnpRespData_I",       "OK DERR", "Invalid Transfer", ""],        [0, 0]),
+    ("dirty",   ["SnpRespData_I_PD",    "OK DERR", "Invalid Transfer", "Update"],  [1, 1]),
+    ("partial", ["SnpRespDataPtl_I_PD", "OK DERR", "Invalid",          ""],        [1, 1]),
+    ("fail",    ["SnpResp_I",           "NDERR",   "Invalid",          "Invalid"], [0, 3]),
+];
+
+/// The duty with which these tables permit an answer from a state before under a tag state, if they do, by the words of a sheet.
+fn duty_by_hand(before: &str, column: usize, tag: &str, [response, tag_op, resp_err]: [&str; 3]) -> Option<u8> {
+    let has = |list: &str, word: &str| list.split(' ').any(|one| one == word);
+    let (_, cells) = INVALIDATED.iter().find(|(state, _)| *state == before)?;
+    let taken = GIVEN.iter().find(|(word, [name, resp_errs, others, with_dirty], _)| {
+        let tag_ops = match (tag, before) {
+            ("Dirty", "UD" | "SD") => with_dirty,
+            ("Dirty", _) => "",
+            _ => others,
+        };
+        has(cells[column], word) && *name == response && has(resp_errs, resp_err) && has(tag_ops, tag_op)
+    });
+    taken.map(|(_, _, duties)| duties[usize::from(["UD", "UDP", "SD"].contains(&before))])
+}
+
+/// An event with another value at a place.
+fn changed(event: &[u8], place: usize, value: u8) -> Vec<u8> {
+    [&event[..place], &[value], &event[place + 1..]].concat()
+}
+
+/// Whether a request is one of Q-4's.
+fn is_of_q4(request: u8) -> bool {
+    [7, 9, 10].contains(&request)
+}
+
+/// Every event of Q-4's snoops and of codes that rows name is judged as the tables by hand say, whatever DoNotGoToSD and excl are.
+#[test]
+fn invalidating_snoops_by_hand() {
+    let definition = Definition::at_stage(4).unwrap();
+    let columns = columns(&definition);
+    for event in events_of_rows(&definition).into_iter().filter(|event| is_of_q4(event[byte::REQUEST])) {
+        let names: Vec<&str> = columns.iter().map(|column| column.name_in(&event).unwrap()).collect();
+        let [request, ret_to_src, _, _, tag, response, tag_op, resp_err, forward, _] = names[..] else { panic!("other columns") };
+        let column = match (request, ret_to_src) {
+            ("SnpUnique", "0") => 0,
+            ("SnpUnique", _) => 1,
+            ("SnpCleanInvalid", _) => 2,
+            _ => 3,
+        };
+        let duty = |before: &str| {
+            let tags = TAGS.iter().filter(|one| tag == "?" || tag == **one);
+            let mut duties = tags.filter_map(|tag| duty_by_hand(before, column, tag, [response, tag_op, resp_err]));
+            duties.next().filter(|_| forward == "-")
+        };
+        let by_hand = STATES.map(duty);
+        for after in 0..=STATE_NOT_SEEN {
+            let seen = by_hand.map(|duty| duty.filter(|_| after == I || after == STATE_NOT_SEEN));
+            let (sets, duties) = (seen.map(|duty| u8::from(duty.is_some())), seen.map(|duty| duty.unwrap_or(0)));
+            let expected = Alone { refusal: 0, place: 1, sets, duties };
+            assert_eq!(alone(&definition, &changed(&event, byte::AFTER, after)), expected, "{names:?} to {after}");
+        }
+    }
+}
+
+/// Over the whole sweep an event with an old request is judged as before Q-4, and one with a new request no longer refused.
+#[test]
+fn q4_only_adds() {
+    let [three, four] = [3, 4].map(|stage| Definition::at_stage(stage).unwrap());
+    let mut with_a_step = BTreeMap::new();
+    let mut other = 0;
+    for event in events_of_rows(&four) {
+        for after in 0..=STATE_NOT_SEEN {
+            let event = changed(&event, byte::AFTER, after);
+            let (old, new) = (alone(&three, &event), alone(&four, &event));
+            if is_of_q4(event[byte::REQUEST]) {
+                assert_eq!((old, new.refusal, new.place), (Alone { refusal: 5, ..Alone::default() }, 0, 1), "{event:?}");
+                *with_a_step.entry(event[byte::REQUEST]).or_insert(0) += i32::from(new.sets != [0; 7]);
+                other += 1;
+            } else {
+                assert_eq!(old, new, "{event:?}");
+            }
+        }
+    }
+    // For 3 snoops: flags, tag states, responses, TagOps, RespErrs, forwards and states after.
+    assert_eq!(other, 3 * 8 * 4 * 22 * 4 * 4 * 5 * 8);
+    // For 8 flags and 2 states after: SnpResp_I with OK and with NDERR by the tag states; each data by the tag states and their
+    // TagOps, with 2 RespErrs.
+    let (no_data, fails, clean, dirty, partial) = (3, 4, 3 * 2 * 2, (2 + 2 + 1 + 3) * 2, 3 * 2);
+    let unique = no_data + fails + clean + dirty + partial;
+    let clean_invalid = no_data + fails + dirty + partial;
+    // Only SnpMakeInvalid has an OK answer without data under Dirty tags.
+    let make_invalid = no_data + 1 + fails;
+    let expected = [(7, unique), (9, clean_invalid), (10, make_invalid)].map(|(request, tagged)| (request, 8 * 2 * tagged));
+    assert_eq!(with_a_step, BTreeMap::from(expected));
+}
+
+/// From every set an event with an old request is judged as before Q-4.
+#[test]
+fn q4_keeps_verdicts_from_sets() {
+    let [three, four] = [3, 4].map(|stage| Definition::at_stage(stage).unwrap());
+    for event in events_of_rows(&three).iter().filter(|event| has_a_step(&three, event)) {
+        for set in 0..=ALL_STATES {
+            assert_eq!(judge_event(&three, event, set), judge_event(&four, event, set), "{event:?} from {set}");
+        }
+    }
+}
+
+/// With Q-4 a trace and a question are refused with 5 for none of the ten requests, and for all others as before.
+#[test]
+fn requests_refused_with_q4() {
+    let [three, four] = [3, 4].map(|stage| Definition::at_stage(stage).unwrap());
+    for request in 0..=255 {
+        let mut lent = lent(&EXAMPLE, &[0, 1, 0, 4], &[127; 5]);
+        lent.events[2 * 14] = request;
+        let expected = match request {
+            1 | 2 | 4 | 18 | 20 | 21 | 22 => [0, 0],
+            7 | 9 | 10 => [5, 0],
+            _ => [5, 5],
+        };
+        for (definition, refusal) in [&three, &four].into_iter().zip(expected) {
+            let judged = judge(definition, &lent);
+            assert_eq!((judged.refusal, judged.place), (refusal, if refusal == 0 { 4 } else { 2 }), "request {request}");
+            assert!(refusal == 0 || judged.lent == lent, "request {request}");
+            let told = list(definition, &[request, 0, 0, 0, 0, 0], &[7; 300]);
+            assert_eq!((told.refusal, told.count > 0), (refusal, refusal == 0), "request {request}");
+            assert_eq!(list(definition, &[request, 0, 0, 0, 3, 0], &[7; 300]).refusal, 4, "request {request}");
+        }
+    }
+}
+
+/// Lists of Q-4's snoops, worked out by hand.
+#[test]
+fn lists_with_q4() {
+    let definition = Definition::at_stage(4).unwrap();
+    for (question, answers) in [
+        ("SnpUnique 0 0 0 Invalid I", "SnpResp_I,Invalid,OK,-,I SnpResp_I,Invalid,NDERR,-,I"),
+        (
+            "SnpUnique 0 1 1 Clean UC",
+            "SnpResp_I,Invalid,OK,-,I SnpResp_I,Invalid,NDERR,-,I SnpRespData_I,Invalid,OK,-,I SnpRespData_I,Invalid,DERR,-,I \
+             SnpRespData_I,Transfer,OK,-,I SnpRespData_I,Transfer,DERR,-,I",
+        ),
+        ("SnpUnique 0 0 0 Invalid SC", "SnpResp_I,Invalid,OK,-,I SnpResp_I,Invalid,NDERR,-,I"),
+        (
+            "SnpUnique 1 0 0 Invalid SC",
+            "SnpResp_I,Invalid,NDERR,-,I SnpRespData_I,Invalid,OK,-,I SnpRespData_I,Invalid,DERR,-,I \
+             SnpRespData_I,Transfer,OK,-,I SnpRespData_I,Transfer,DERR,-,I",
+        ),
+        ("SnpUnique 1 0 1 Dirty SD", "SnpResp_I,Invalid,NDERR,-,I SnpRespData_I_PD,Update,OK,-,I SnpRespData_I_PD,Update,DERR,-,I"),
+        ("SnpUnique 0 0 0 Dirty UDP", ""),
+        ("SnpCleanInvalid 1 0 0 Invalid UC", "SnpResp_I,Invalid,OK,-,I SnpResp_I,Invalid,NDERR,-,I"),
+        ("SnpCleanInvalid 1 1 0 Clean SC", "SnpResp_I,Invalid,OK,-,I SnpResp_I,Invalid,NDERR,-,I"),
+        (
+            "SnpCleanInvalid 0 0 0 Clean UD",
+            "SnpResp_I,Invalid,NDERR,-,I SnpRespData_I_PD,Invalid,OK,-,I SnpRespData_I_PD,Invalid,DERR,-,I \
+             SnpRespData_I_PD,Transfer,OK,-,I SnpRespData_I_PD,Transfer,DERR,-,I",
+        ),
+        (
+            "SnpCleanInvalid 0 0 1 Invalid UDP",
+            "SnpResp_I,Invalid,NDERR,-,I SnpRespDataPtl_I_PD,Invalid,OK,-,I SnpRespDataPtl_I_PD,Invalid,DERR,-,I",
+        ),
+        ("SnpCleanInvalid 0 0 0 Dirty SC", ""),
+        ("SnpMakeInvalid 0 0 0 Invalid UC", "SnpResp_I,Invalid,OK,-,I SnpResp_I,Invalid,NDERR,-,I"),
+        ("SnpMakeInvalid 1 1 1 Dirty UD", "SnpResp_I,Invalid,OK,-,I SnpResp_I,Invalid,NDERR,-,I"),
+        ("SnpMakeInvalid 1 0 0 Clean UDP", "SnpResp_I,Invalid,OK,-,I SnpResp_I,Invalid,NDERR,-,I"),
+        ("SnpMakeInvalid 1 0 0 Dirty UDP", ""),
+        ("SnpMakeInvalid 0 0 0 Dirty I", ""),
+    ] {
+        listed(&definition, question, answers);
+    }
+}
+
+/// The lists of old requests stay with Q-4, and those of its snoops have so many answers together.
+#[test]
+fn q4_only_adds_lists() {
+    let [three, four] = [3, 4].map(|stage| Definition::at_stage(stage).unwrap());
+    let mut added = BTreeMap::new();
+    for question in all_questions(&four) {
+        let list = answers(&four, &question);
+        match is_of_q4(question[byte::REQUEST]) {
+            true => *added.entry(question[byte::REQUEST]).or_insert(0) += list.len(),
+            false => assert_eq!(list, answers(&three, &question), "{question:?}"),
+        }
+    }
+    // For 4 values of DoNotGoToSD and excl: from I, UC, UCE, UD, UDP, SC and SD with 2 tag states, and from UD and SD with Dirty tags.
+    let [unique_0, unique_1] = [2, 5].map(|shared| 2 * (2 + 6 + 2 + 5 + 3 + shared + 5) + 3 + 3);
+    let clean_invalid = 2 * (2 + 2 + 2 + 5 + 3 + 2 + 5) + 3 + 3;
+    let make_invalid = 2 * (7 * 2) + 2 + 2;
+    assert_eq!(added, BTreeMap::from([(7, 4 * (unique_0 + unique_1)), (9, 4 * 2 * clean_invalid), (10, 4 * 2 * make_invalid)]));
+}
+
+/// Every permitted step under tags that were seen: an event, the state before and the state after.
+fn permitted_steps(definition: &Definition) -> Vec<(Vec<u8>, u8, u8)> {
+    let mut steps = Vec::new();
+    for event in events_of_rows(definition).into_iter().filter(|event| event[byte::TAG] != TAG_NOT_SEEN && has_a_step(definition, event)) {
+        for (before, after) in (0..49).map(|n| (n / 7, n % 7)) {
+            if permitted(definition, &event, event[byte::TAG], before, after) {
+                steps.push((event.clone(), before, after));
+            }
+        }
+    }
+    steps
+}
+
+/// The duty clause of demand 2: where a Dirty line ends not Dirty, without NDERR and other than by SnpMakeInvalid, exactly one of
+/// Home and the Requester is told.
+#[test]
+fn duty_clause() {
+    let definition = Definition::at_stage(4).unwrap();
+    let mut passed_on = BTreeSet::new();
+    for (event, before, after) in permitted_steps(&definition) {
+        let (to_home, to_requester) = ([4, 5].contains(&event[byte::RESP]), [6, 7].contains(&event[byte::FWD_STATE]));
+        let ends = holds_dirty(1 << before) && !holds_dirty(1 << after);
+        if ends && event[byte::RESP_ERR] != NDERR && event[byte::REQUEST] != 10 {
+            assert!(to_home != to_requester, "{event:?} from {before} to {after}");
+            let told = duty(&definition, &event, 1 << before);
+            assert_eq!(told, if to_home { 1 } else { 2 }, "{event:?} from {before} to {after}");
+            passed_on.insert(event[byte::REQUEST]);
+        } else {
+            assert!(!to_home && !to_requester, "{event:?} from {before} to {after}");
+        }
+    }
+    assert_eq!(passed_on, BTreeSet::from([1, 2, 4, 7, 9, 18, 20, 21, 22]));
+}
+
+/// SnpMakeInvalid is answered with SnpResp_I alone: no permitted answer has PD, data or a forward.
+#[test]
+fn make_invalid_gives_nothing() {
+    let steps = permitted_steps(&Definition::at_stage(4).unwrap());
+    let own: Vec<_> = steps.into_iter().filter(|(event, _, _)| event[byte::REQUEST] == 10).collect();
+    // For 8 flags and 2 RespErrs: 7 states with Invalid and with Clean tags, 2 with Dirty ones.
+    assert_eq!(own.len(), 8 * 2 * (7 + 7 + 2));
+    for (event, _, after) in own {
+        assert_eq!(
+            (&event[byte::CHANNEL..=byte::TAG_OP], &event[byte::FORWARDED..=byte::FORWARDED_RESP]),
+            (&[0, 1, 0, 0, 0][..], &[0, 0][..])
+        );
+        assert_eq!(after, I);
+    }
+}
+
+/// The row law: a line is Dirty after a step as it was before, or it was and no longer is, and the step has one of the four duties.
+#[test]
+fn row_law() {
+    let definition = Definition::at_stage(4).unwrap();
+    let mut duties = BTreeSet::new();
+    for (event, before, after) in permitted_steps(&definition) {
+        let told = duty(&definition, &event, 1 << before);
+        let [was, is] = [before, after].map(|state| u8::from(holds_dirty(1 << state)));
+        assert_eq!(was, is + u8::from([1, 2, 3, 4].contains(&told)), "{event:?} from {before} to {after}");
+        assert!(told != 4 || event[byte::REQUEST] == 10 && event[byte::RESP_ERR] == OK, "{event:?}");
+        duties.insert(told);
+    }
+    assert_eq!(duties, BTreeSet::from([0, 1, 2, 3, 4]));
+}
+
+/// A sample, its answer in the samples' folder, and what is told of its lines by hand.
+type Sample = (&'static [u8], &'static [u8], &'static str);
+
+/// The samples of Q-4.
+const SAMPLES_OF_Q4: [Sample; 2] = [
+    (
+        include_bytes!("../../../samples/discarded.csv"),
+        include_bytes!("../../../samples/answers/discarded.csv"),
+        "0,explained,none,SD\r\n1,explained,discarded,I\r\n2,explained,none,I\r\n3,explained,Home,I\r\n\
+         4,explained,Home,I\r\n5,explained,none,SC\r\n6,explained,none,I\r\n7,explained,none,SD\r\n\
+         8,unexplained,none,\r\n9,not judged,none,\r\n10,explained,discarded,I\r\n",
+    ),
+    (
+        include_bytes!("../../../samples/lost.csv"),
+        include_bytes!("../../../samples/answers/lost.csv"),
+        "0,explained,none,SD\r\n1,explained,lost,I\r\n2,explained,none,I\r\n3,explained,none,SD\r\n\
+         4,explained,lost,I\r\n5,explained,none,SC\r\n6,explained,none,I\r\n7,explained,Home,I\r\n\
+         8,explained,none,SD\r\n9,unexplained,none,\r\n10,explained,lost,I\r\n",
+    ),
+];
+
+/// The samples of Q-4 are answered as they are by hand, and before it refused at the first of its names.
+#[test]
+fn samples_of_q4() {
+    for (sample, answer, told) in SAMPLES_OF_Q4 {
+        answered(&Definition::at_stage(4).unwrap(), sample, told);
+        answered(&Definition::at_stage(3).unwrap(), sample, "0,explained,none,SD\r\nrefused,8,3\r\n");
+        assert_eq!(String::from_utf8_lossy(answer), format!("event,verdict,duty,states\r\n{told}"));
+    }
+}
+
+/// A sheet knows Q-4's three names with it and not before, and none that is only near them.
+#[test]
+fn names_with_q4() {
+    let [three, four] = [3, 4].map(|stage| Definition::at_stage(stage).unwrap());
+    let refused = |definition: &Definition, name: &str| {
+        let sheet = format!("{HEAD}{}", GOOD.replace("SnpShared", name));
+        sheet::answer(definition, sheet.as_bytes()).refusal
+    };
+    for name in ["SnpUnique", "SnpCleanInvalid", "SnpMakeInvalid"] {
+        assert_eq!((refused(&three, name), refused(&four, name)), (Some((8, 2)), None), "{name}");
+    }
+    for name in "SnpUniqueFwd Snpunique SnpUniqu SnpUniquee SnpCleanShared SnpCleanInvalidFwd SnpMakeInvalidStash SnpInvalid 7".split(' ') {
+        assert_eq!((refused(&three, name), refused(&four, name)), (Some((8, 2)), Some((8, 2))), "{name}");
+    }
+}
+
 /// The four events of the definition's example.
 const EXAMPLE: [[u8; 14]; 4] = [
     [1, 0, 0, 0, 0, 1, 1, 5, 0, 0, 0, 0, 0, 7],
@@ -420,11 +748,28 @@ fn lent(events: &[[u8; 14]], pairs: &[u16], table: &[u8]) -> Lent {
     lent
 }
 
-/// Traces worked out by hand: events, pairs, table, then verdicts, duties, after-sets and the table.
+/// A trace by hand: events, pairs and table, then verdicts, duties, after-sets and the table.
+type ByHand<'a> = (&'a [[u8; 14]], &'a [u16], &'a [u8], [&'a [u8]; 4]);
+
+/// Asserts that traces are judged as they are by hand, and that their histories say the same.
+fn judged_by_hand(definition: &Definition, traces: &[ByHand]) {
+    for (events, pairs, table, [verdicts, duties, after_sets, table_after]) in traces {
+        let lent = lent(events, pairs, table);
+        let mut after = lent.clone();
+        [&mut after.verdicts, &mut after.duties, &mut after.after_sets, &mut after.table]
+            .into_iter()
+            .zip([verdicts, duties, after_sets, table_after])
+            .for_each(|(part, bytes)| *part = bytes.to_vec());
+        let expected = Judged { refusal: 0, place: events.len(), lent: after };
+        assert_eq!(judge(definition, &lent), expected);
+        assert_eq!(enumerate(definition, &lent).0, expected);
+    }
+}
+
+/// Traces worked out by hand, which requests up to Q-4 leave as they are.
 #[test]
 fn traces() {
-    #[allow(clippy::type_complexity)]
-    let traces: [(&[[u8; 14]], &[u16], &[u8], [&[u8]; 4]); 9] = [
+    let traces: [ByHand; 9] = [
         (&EXAMPLE, &[0; 4], &[127], [&[0, 0, 1, 2], &[1, 0, 0, 0], &[33, 33, 0, 0], &[0]]),
         (&EXAMPLE, &[3, 1, 3, 1], &[127, 127, 9, 8, 0], [&[0, 0, 1, 0], &[1, 0, 0, 0], &[33, 33, 0, 1], &[127, 1, 9, 0, 0]]),
         (&[EXAMPLE[0]; 2], &[1, 0], &[1, 8], [&[0, 1], &[1, 0], &[33, 0], &[0, 33]]),
@@ -435,18 +780,59 @@ fn traces() {
         (&[], &[], &[0, 5, 127], [&[], &[], &[], &[0, 5, 127]]),
         (&[], &[], &[], [&[]; 4]),
     ];
-    let definition = Definition::base();
-    for (events, pairs, table, [verdicts, duties, after_sets, table_after]) in traces {
-        let lent = lent(events, pairs, table);
-        let mut after = lent.clone();
-        [&mut after.verdicts, &mut after.duties, &mut after.after_sets, &mut after.table]
-            .into_iter()
-            .zip([verdicts, duties, after_sets, table_after])
-            .for_each(|(part, bytes)| *part = bytes.to_vec());
-        let expected = Judged { refusal: 0, place: events.len(), lent: after };
-        assert_eq!(judge(&definition, &lent), expected);
-        assert_eq!(enumerate(&definition, &lent).0, expected);
-    }
+    [0, 1, 2, 3, 4].iter().for_each(|stage| judged_by_hand(&Definition::at_stage(*stage).unwrap(), &traces));
+}
+
+/// SnpMakeInvalid answered with SnpResp_I, tags and state after not seen.
+const MAKE_INVALID: [u8; 14] = [10, 0, 0, 0, 3, 0, 1, 0, 0, 0, 0, 0, 0, 7];
+/// The same with NDERR.
+const MAKE_INVALID_WITH_NDERR: [u8; 14] = [10, 0, 0, 0, 3, 0, 1, 0, 0, 0, 3, 0, 0, 7];
+/// The same without an error, with Dirty tags, all flags and I seen after.
+const MAKE_INVALID_WITH_TAGS: [u8; 14] = [10, 1, 1, 1, 2, 0, 1, 0, 0, 0, 0, 0, 0, 0];
+/// SnpUnique answered with SnpResp_I, tags and state after not seen.
+const UNIQUE: [u8; 14] = [7, 0, 0, 0, 3, 0, 1, 0, 0, 0, 0, 0, 0, 7];
+/// SnpCleanInvalid answered with SnpRespData_I_PD, Update and DERR, with all flags, tags and state after not seen.
+const CLEAN_INVALID: [u8; 14] = [9, 1, 1, 1, 3, 1, 1, 4, 0, 2, 2, 0, 0, 7];
+
+/// Traces with Q-4's snoops, worked out by hand; the sets are UD, UDP, SD, all, I UC UCE SC, I and none where there are seven.
+#[test]
+fn traces_with_q4() {
+    let [seven, sets, to_i]: [&[u8]; 3] = [&[0, 0, 0, 0, 0, 0, 2], &[8, 16, 64, 127, 39, 1, 0], &[1, 1, 1, 1, 1, 1, 0]];
+    let pairs: &[u16] = &[0, 1, 2, 3, 4, 5, 6];
+    let traces: [ByHand; 8] = [
+        (&[MAKE_INVALID; 7], pairs, sets, [seven, &[4, 4, 4, 4, 0, 0, 0], to_i, to_i]),
+        (&[MAKE_INVALID_WITH_NDERR; 7], pairs, sets, [seven, &[3, 3, 3, 3, 0, 0, 0], to_i, to_i]),
+        // UDP has no Dirty tags, and I UC UCE SC has none either.
+        (
+            &[MAKE_INVALID_WITH_TAGS; 7],
+            pairs,
+            sets,
+            [&[0, 1, 0, 0, 1, 1, 2], &[4, 0, 4, 4, 0, 0, 0], &[1, 0, 1, 1, 0, 0, 0], &[1, 0, 1, 1, 0, 0, 0]],
+        ),
+        // SnpUnique throws nothing away, though its set before holds a Dirty state.
+        (&[UNIQUE; 7], pairs, sets, [&[1, 1, 1, 0, 0, 0, 2], &[0; 7], &[0, 0, 0, 1, 1, 1, 0], &[0, 0, 0, 1, 1, 1, 0]]),
+        (
+            &[CLEAN_INVALID; 7],
+            pairs,
+            sets,
+            [&[0, 1, 0, 0, 1, 1, 2], &[1, 0, 1, 1, 0, 0, 0], &[1, 0, 1, 1, 0, 0, 0], &[1, 0, 1, 1, 0, 0, 0]],
+        ),
+        // The duty goes by the set just before the event.
+        (&[MAKE_INVALID; 3], &[0; 3], &[127], [&[0; 3], &[4, 0, 0], &[1; 3], &[1]]),
+        (
+            &[EXAMPLE[2], MAKE_INVALID, MAKE_INVALID_WITH_NDERR, UNIQUE],
+            &[1; 4],
+            &[0, 127],
+            [&[0; 4], &[0, 4, 0, 0], &[64, 1, 1, 1], &[0, 1]],
+        ),
+        (
+            &[EXAMPLE[2], MAKE_INVALID_WITH_NDERR, MAKE_INVALID, EXAMPLE[2]],
+            &[1; 4],
+            &[0, 127],
+            [&[0, 0, 0, 1], &[0, 3, 0, 0], &[64, 1, 1, 0], &[0, 0]],
+        ),
+    ];
+    judged_by_hand(&Definition::at_stage(4).unwrap(), &traces);
 }
 
 /// Refused traces: what is changed in the example over five pairs, and the refusal with its place; nothing lent changes.
@@ -624,7 +1010,10 @@ fn fields() {
     assert_eq!(refused(10, &" ".repeat(103)), Some((8, 2)));
 }
 
-/// Captures worked out by hand: records, the output and what stops the run.
+/// A capture by hand: records, the output and what stops the run.
+type CaptureByHand = (Vec<u8>, &'static str, Option<(u8, usize)>);
+
+/// Captures worked out by hand.
 #[test]
 #[rustfmt::skip]
 fn captures() {
@@ -638,7 +1027,7 @@ fn captures() {
         record[place] = value;
         record
     };
-    let captures: [(Vec<u8>, &str, Option<(u8, usize)>); 13] = [
+    let captures: [CaptureByHand; 13] = [
         (vec![], "0 events: 0 explained, 0 unexplained, 0 not judged\n", None),
         (example.clone(), "event 0, pair 0: Home holds the duty\nevent 2, pair 0: unexplained\n\
              4 events: 2 explained, 1 unexplained, 1 not judged\n", None),
@@ -668,4 +1057,29 @@ fn captures() {
     let whole = format!("{HEAD}{GOOD}\r\n258,{}\r\nx", &GOOD[2..]);
     let expected = ([record(0, &EXAMPLE[0]), record(258, &EXAMPLE[0])].concat(), Some((8, 4)));
     assert_eq!(capture::of_sheet(&definition, whole.as_bytes()), expected);
+}
+
+/// Captures with Q-4's snoops, worked out by hand, and what they were answered before.
+#[test]
+#[rustfmt::skip]
+fn captures_with_q4() {
+    let [three, four] = [3, 4].map(|stage| Definition::at_stage(stage).unwrap());
+    let record = |pair: u16, event: &[u8]| [&pair.to_le_bytes()[..], event].concat();
+    let to_sd = record(9, &EXAMPLE[2]);
+    let captures: [CaptureByHand; 4] = [
+        ([&to_sd[..], &record(9, &MAKE_INVALID), &record(9, &MAKE_INVALID)].concat(),
+             "event 1, pair 9: the line is discarded\n3 events: 3 explained, 0 unexplained, 0 not judged\n", None),
+        ([&to_sd[..], &record(9, &MAKE_INVALID_WITH_NDERR)].concat(),
+             "event 1, pair 9: the duty is lost\n2 events: 2 explained, 0 unexplained, 0 not judged\n", None),
+        ([&to_sd[..], &record(8, &CLEAN_INVALID), &record(8, &UNIQUE), &record(9, &UNIQUE)].concat(),
+             "event 1, pair 8: Home holds the duty\nevent 3, pair 9: unexplained\n\
+             4 events: 3 explained, 1 unexplained, 0 not judged\n", None),
+        ([&to_sd[..], &record(9, &changed(&MAKE_INVALID, byte::REQUEST, 8))].concat(), "", Some((5, 1))),
+    ];
+    for (n, (records, output, stop)) in captures.into_iter().enumerate() {
+        let own = capture::answer(&four, &records);
+        assert_eq!((String::from_utf8_lossy(&own.output), own.stop), (output.into(), stop), "capture {n}");
+        let before = capture::answer(&three, &records);
+        assert_eq!((before.output, before.stop), (vec![], Some((5, 1))), "capture {n}");
+    }
 }

@@ -98,7 +98,7 @@ pub fn judge_event(definition: &Definition, event: &[u8], before: u8) -> [u8; 3]
     } else if after == 0 {
         [UNEXPLAINED, 0, 0]
     } else {
-        [EXPLAINED, duty(event, before), after]
+        [EXPLAINED, duty(definition, event, before), after]
     }
 }
 

@@ -1,13 +1,13 @@
 //! The values that the documents fix, and what each follow-up request changes in them.
 
 use crate::definition::codes::{Forward, Response};
-use crate::definition::rows::{rows, Row, B4_46, B4_60, PRINTED, TABLES};
+use crate::definition::rows::{rows, Row, B4_46, B4_60, PRINTED, PRINTED_BY_Q4, SNP_CLEAN_INVALID, SNP_MAKE_INVALID, SNP_UNIQUE, TABLES};
 use crate::definition::tag_ops::TagColumn;
 
 /// What the documents fix. A request that is in force changes some of these values.
 #[derive(Clone, Debug)]
 pub struct Definition {
-    /// The requests that are judged, with their codes.
+    /// The requests that are judged, with their codes, in ascending order.
     pub requests: Vec<(&'static str, u8)>,
     /// The highest value in the range of each byte of an event; the request has none but its codes.
     pub limits: Vec<u8>,
@@ -17,6 +17,8 @@ pub struct Definition {
     pub rows: Vec<Row>,
     /// The tables with data, each with the tag column that it follows.
     pub tag_columns: Vec<(&'static str, TagColumn)>,
+    /// The requests whose OK answer throws a Dirty line away on purpose.
+    pub discarding: Vec<u8>,
     /// The most events that a trace can have.
     pub most_events: usize,
     /// The most pairs that a table of sets can have, and how many a sheet has.
@@ -32,17 +34,29 @@ pub struct Definition {
 }
 
 /// The last follow-up request that is in force, or 0 where none is.
-pub const IN_FORCE: usize = 2;
+pub const IN_FORCE: usize = 4;
 
 /// Changes a definition as a follow-up request asks.
 type Change = fn(&mut Definition);
 
 /// What follow-up requests change, each by its number.
-const CHANGES: &[(usize, Change)] = &[(2, tags_of_plain_snoops)];
+const CHANGES: &[(usize, Change)] = &[(2, tags_of_plain_snoops), (4, invalidating_snoops)];
 
 /// plain data no longer carries any TagOp up to Update.
 fn tags_of_plain_snoops(definition: &mut Definition) {
     definition.set_tag_column(B4_46, TagColumn::Plain);
+}
+
+/// three more snoops, each with a table of its own; the data of two follows Q-2, and the third throws Dirty lines away.
+fn invalidating_snoops(definition: &mut Definition) {
+    let snoops = [(SNP_UNIQUE, 7), (SNP_CLEAN_INVALID, 9), (SNP_MAKE_INVALID, 10)];
+    definition.requests.extend(snoops);
+    definition.requests.sort_by_key(|(_, code)| *code);
+    definition.tables.extend(snoops.map(|(name, code)| (name, vec![code])));
+    definition.rows.extend(rows(PRINTED_BY_Q4));
+    definition.set_tag_column(SNP_UNIQUE, TagColumn::Plain);
+    definition.set_tag_column(SNP_CLEAN_INVALID, TagColumn::Plain);
+    definition.discarding.push(10);
 }
 
 impl Definition {
@@ -67,6 +81,7 @@ impl Definition {
                 ("B4.59", TagColumn::Forwarding),
                 (B4_60, TagColumn::Forwarding),
             ],
+            discarding: vec![],
             most_events: 4_096,
             most_pairs: 4_096,
             header: "pair,request,RetToSrc,DoNotGoToSD,excl,tag,response,TagOp,RespErr,forward,final",
@@ -142,9 +157,10 @@ mod tests {
     /// The rows name as many responses and forwards as the definition counts.
     #[test]
     fn names_are_counted() {
-        let base = Definition::base();
-        assert_eq!(base.responses().len(), 22);
-        assert_eq!(base.forwards().len(), 1 + 4);
+        for definition in [Definition::base(), Definition::now()] {
+            assert_eq!(definition.responses().len(), 22);
+            assert_eq!(definition.forwards().len(), 1 + 4);
+        }
     }
 
     /// Every stage up to the last can be asked, and no later one.
@@ -153,5 +169,26 @@ mod tests {
         assert!((0..=IN_FORCE).all(|request| Definition::at_stage(request).is_some()));
         assert!(Definition::at_stage(IN_FORCE + 1).is_none());
         assert!(CHANGES.iter().all(|(number, _)| (1..=IN_FORCE).contains(number)));
+    }
+
+    /// change no value, so that stage 1 is document 01 and stage 3 is stage 2.
+    #[test]
+    fn stages_without_a_change() {
+        let [zero, one, two, three, four] = [0, 1, 2, 3, 4].map(|request| format!("{:?}", Definition::at_stage(request).unwrap()));
+        assert_eq!((&zero, &two), (&one, &three));
+        assert!(one != two && three != four);
+    }
+
+    /// Q-4 keeps all requests, tables, rows, tag columns and limits that there were, and adds three snoops with their rows.
+    #[test]
+    fn q4_keeps_what_was() {
+        let [three, four] = [3, 4].map(|request| Definition::at_stage(request).unwrap());
+        let codes: Vec<u8> = four.requests.iter().map(|(_, code)| *code).collect();
+        assert_eq!(codes, [1, 2, 4, 7, 9, 10, 18, 20, 21, 22]);
+        assert!(three.requests.iter().all(|request| four.requests.contains(request)));
+        assert_eq!(four.tables[..three.tables.len()], three.tables);
+        assert_eq!(four.tag_columns[..three.tag_columns.len()], three.tag_columns);
+        assert_eq!(format!("{:?}", &four.rows[..three.rows.len()]), format!("{:?}", three.rows));
+        assert_eq!((four.rows.len() - three.rows.len(), &four.limits), (12, &three.limits));
     }
 }

@@ -6,7 +6,7 @@ use crate::definition::answers::{answer_bytes, answers, list, BEFORE, QUESTION_B
 use crate::definition::capture::{self, record_bytes};
 use crate::definition::codes::*;
 use crate::definition::event::{alone, is_request, refusal};
-use crate::definition::rows::{Row, B4_46, B4_60, NDERR_ROW};
+use crate::definition::rows::{rows as printed, Row, B4_46, B4_60, NDERR_ROW, SNP_CLEAN_INVALID, SNP_MAKE_INVALID, SNP_UNIQUE};
 use crate::definition::sheet::{lines, CRLF, OUTPUT_HEADER};
 use crate::definition::tag_ops::TagColumn;
 use crate::definition::trace::{event_of, judge_event, refused, whole_events, Lent};
@@ -16,6 +16,9 @@ use crate::running::call::Answer;
 use crate::wrong::noticing::{Flaw, Wrong};
 use std::ops::RangeInclusive;
 use Flaw::{Gets, Given, Tells, Value};
+
+/// The requests of Q-4.
+const OF_Q4: [u8; 3] = [7, 9, 10];
 
 /// All the wrong judges, by the call that each answers.
 #[rustfmt::skip]
@@ -100,6 +103,90 @@ pub const WRONG: &[Wrong] = &[
     wrong("event", "of too many bytes the first are read", Given(|d, record| record[0] = record[0].min(d.event_bytes() as u8))),
     wrong("event", "one byte too few is read as an event", Given(|d, record| {
         record[0] += u8::from(usize::from(record[0]) + 1 == d.event_bytes());
+    })),
+    // One event of Q-4's snoops.
+    wrong("event", "SC answers SnpUnique with data at RetToSrc 0 too", Value(|d| add(d, "SnpUnique | SC | 0 | - | SnpRespData_I | I"))),
+    wrong("event", "SC answers SnpUnique without data at RetToSrc 1 too", Value(|d| add(d, "SnpUnique | SC | 1 | - | SnpResp_I | I"))),
+    wrong("event", "SC answers SnpUnique only at RetToSrc 0", Value(|d| {
+        d.rows.retain(|row| row.table != SNP_UNIQUE || row.ret_to_src != Some(1));
+    })),
+    wrong("event", "UC answers SnpUnique only with data", Value(|d| {
+        without(d, SNP_UNIQUE, 1);
+        add(d, "SnpUnique | UC | X | - | SnpRespData_I | I");
+    })),
+    wrong("event", "UCE answers SnpUnique with data too", Value(|d| add(d, "SnpUnique | UCE | X | - | SnpRespData_I | I"))),
+    wrong("event", "UD answers SnpUnique with clean data too", Value(|d| add(d, "SnpUnique | UD | X | - | SnpRespData_I | I"))),
+    wrong("event", "UDP answers SnpUnique with a whole line too", Value(|d| add(d, "SnpUnique | UDP | X | - | SnpRespData_I_PD | I"))),
+    wrong("event", "SnpUnique leaves a clean line in SC or I", Value(|d| row(d, SNP_UNIQUE, "SnpRespData_I").after.push(5))),
+    wrong("event", "UC answers SnpCleanInvalid with data too", Value(|d| add(d, "SnpCleanInvalid | UC | X | - | SnpRespData_I | I"))),
+    wrong("event", "SC answers SnpCleanInvalid only at RetToSrc 0", Value(shared_at_0)),
+    wrong("event", "UD answers SnpCleanInvalid without data too", Value(|d| add(d, "SnpCleanInvalid | UD | X | - | SnpResp_I | I"))),
+    wrong("event", "UDP does not answer SnpCleanInvalid", Value(|d| without(d, SNP_CLEAN_INVALID, UDP))),
+    wrong("event", "UD does not answer SnpMakeInvalid", Value(|d| without(d, SNP_MAKE_INVALID, UD))),
+    wrong("event", "I does not answer SnpMakeInvalid", Value(|d| without(d, SNP_MAKE_INVALID, I))),
+    wrong("event", "Dirty lines answer SnpMakeInvalid with data too", Value(dirty_data)),
+    wrong("event", "UC answers SnpMakeInvalid with data too", Value(|d| {
+        add(d, "SnpMakeInvalid | UC | X | - | SnpRespData_I | I");
+        d.set_tag_column(SNP_MAKE_INVALID, TagColumn::Plain);
+    })),
+    wrong("event", "SnpMakeInvalid asks for RetToSrc 0", Value(|d| row(d, SNP_MAKE_INVALID, "SnpResp_I").ret_to_src = Some(0))),
+    wrong("event", "SnpMakeInvalid's answer may have DERR", Given(|_, record| {
+        if asks(record, 10) {
+            instead(record, byte::RESP_ERR, DERR, OK);
+        }
+    })),
+    wrong("event", "SnpMakeInvalid's answer has Update under Dirty tags too", Given(|_, record| {
+        if asks(record, 10) && record[1 + byte::TAG] == TAG_DIRTY {
+            instead(record, byte::TAG_OP, UPDATE, TAG_OP_INVALID);
+        }
+    })),
+    wrong("event", "UDP answers SnpMakeInvalid under Dirty tags", Tells(|_, record, answer| {
+        if asks(record, 10) && record[1 + byte::TAG] == TAG_DIRTY {
+            [2, 9].iter().for_each(|first| answer.output[first + usize::from(UDP)] = answer.output[first + usize::from(UD)]);
+        }
+    })),
+    wrong("event", "nothing answers SnpMakeInvalid under Dirty tags", Tells(|_, record, answer| {
+        no_step(answer, asks(record, 10) && record[1 + byte::TAG] == TAG_DIRTY);
+    })),
+    wrong("event", "data under SnpUnique carries any TagOp up to Update", Value(|d| d.set_tag_column(SNP_UNIQUE, TagColumn::UpToUpdate))),
+    wrong("event", "data under SnpCleanInvalid carries any TagOp up to Update", Value(|d| {
+        d.set_tag_column(SNP_CLEAN_INVALID, TagColumn::UpToUpdate);
+    })),
+    wrong("event", "NDERR has no row for Q-4's snoops", Tells(|_, record, answer| {
+        no_step(answer, asks_of_q4(record) && record[1 + byte::RESP_ERR] == NDERR);
+    })),
+    wrong("event", "excl forbids SnpUnique", Tells(|_, record, answer| no_step(answer, asks(record, 7) && record[1 + byte::EXCL] == 1))),
+    wrong("event", "DoNotGoToSD forbids SnpCleanInvalid", Tells(|_, record, answer| {
+        no_step(answer, asks(record, 9) && record[1 + byte::DO_NOT_GO_TO_SD] == 1);
+    })),
+    wrong("event", "SnpUnique follows B4.46", Value(|d| follow_b4_46(d, SNP_UNIQUE, 7))),
+    wrong("event", "SnpCleanInvalid follows B4.46", Value(|d| follow_b4_46(d, SNP_CLEAN_INVALID, 9))),
+    wrong("event", "SnpMakeInvalid follows B4.46", Value(|d| follow_b4_46(d, SNP_MAKE_INVALID, 10))),
+    wrong("event", "SnpUnique follows B4.46 too", Value(|d| d.tables[0].1.push(7))),
+    wrong("event", "SnpCleanInvalid is taken for SnpUnique", Given(|_, record| instead(record, byte::REQUEST, 9, 7))),
+    wrong("event", "SnpUnique is taken for SnpCleanInvalid", Given(|_, record| instead(record, byte::REQUEST, 7, 9))),
+    wrong("event", "SnpMakeInvalid is taken for SnpCleanInvalid", Given(|_, record| instead(record, byte::REQUEST, 10, 9))),
+    wrong("event", "SnpUnique is refused", Value(|d| refuse_request(d, 7))),
+    wrong("event", "SnpCleanInvalid is refused", Value(|d| refuse_request(d, 9))),
+    wrong("event", "SnpMakeInvalid is refused", Value(|d| refuse_request(d, 10))),
+    wrong("event", "request 8 is judged", Value(|d| d.requests.push(("SnpCleanShared", 8)))),
+    wrong("event", "request 8 is taken for SnpCleanInvalid", Given(|_, record| instead(record, byte::REQUEST, 8, 9))),
+    wrong("event", "request 42 is taken for SnpMakeInvalid", Given(|_, record| instead(record, byte::REQUEST, 42, 10))),
+    wrong("event", "SnpMakeInvalid has duty 4 with NDERR too", Tells(|_, record, answer| duties(record, answer, 10, 3, 4))),
+    wrong("event", "SnpMakeInvalid has duty 3 without an error too", Tells(|_, record, answer| duties(record, answer, 10, 4, 3))),
+    wrong("event", "SnpMakeInvalid has no duty without an error", Value(|d| d.discarding.clear())),
+    wrong("event", "SnpMakeInvalid has duty 1", Tells(|_, record, answer| duties(record, answer, 10, 4, 1))),
+    wrong("event", "SnpUnique has duty 4", Tells(|_, record, answer| duties(record, answer, 7, 1, 4))),
+    wrong("event", "SnpMakeInvalid has duty 4 from clean states too", Tells(|_, record, answer| {
+        if asks(record, 10) && record[1 + byte::RESP_ERR] == OK {
+            let (sets, duties) = answer.output[2..].split_at_mut(7);
+            sets.iter().zip(duties).filter(|(set, _)| **set != 0).for_each(|(_, duty)| *duty = 4);
+        }
+    })),
+    wrong("event", "UDP is not Dirty to SnpMakeInvalid", Tells(|_, record, answer| {
+        if asks(record, 10) && answer.output[9 + usize::from(UDP)] == 4 {
+            answer.output[9 + usize::from(UDP)] = 0;
+        }
     })),
     // A whole trace. Its answer has refusal, place in 32 bits, table, verdicts, duties and after-sets.
     wrong("trace", "a refusal clears the verdicts", Tells(|_, case, answer| {
@@ -225,6 +312,66 @@ pub const WRONG: &[Wrong] = &[
             refuse(answer, 0, 0);
         }
     })),
+    // A whole trace with Q-4's snoops.
+    wrong("trace", "SnpMakeInvalid has duty 4 with NDERR too", Tells(|d, case, answer| {
+        retell_asked(d, case, answer, 10, |_, _, _, told| if told[1] == 3 { [0, 4, told[2]] } else { told });
+    })),
+    wrong("trace", "SnpMakeInvalid has duty 3 without an error too", Tells(|d, case, answer| {
+        retell_asked(d, case, answer, 10, |_, _, _, told| if told[1] == 4 { [0, 3, told[2]] } else { told });
+    })),
+    wrong("trace", "SnpMakeInvalid has no duty without an error", Value(|d| d.discarding.clear())),
+    wrong("trace", "SnpUnique has duty 4", Value(|d| d.discarding.push(7))),
+    wrong("trace", "SnpCleanInvalid has duty 4", Value(|d| d.discarding.push(9))),
+    wrong("trace", "SnpShared has duty 4", Value(|d| d.discarding.push(1))),
+    wrong("trace", "SnpMakeInvalid has duty 4 whatever the set before", Tells(|d, case, answer| {
+        retell_asked(d, case, answer, 10, |_, event, _, told| match (told[0], event[byte::RESP_ERR]) {
+            (EXPLAINED, OK) => [0, 4, told[2]],
+            _ => told,
+        });
+    })),
+    wrong("trace", "SnpMakeInvalid has duty 4 only where all states before are Dirty", Tells(|d, case, answer| {
+        retell_asked(d, case, answer, 10, |_, _, before, told| match (told[1], before & !(1 << UD | 1 << UDP | 1 << SD)) {
+            (4, clean) if clean != 0 => [0, 0, told[2]],
+            _ => told,
+        });
+    })),
+    wrong("trace", "UDP is not Dirty to SnpMakeInvalid", Tells(|d, case, answer| {
+        retell_asked(d, case, answer, 10, |_, _, before, told| match (told[1], before & (1 << UD | 1 << SD)) {
+            (4, 0) => [0, 0, told[2]],
+            _ => told,
+        });
+    })),
+    wrong("trace", "duty 4 goes by the set that the trace starts from", Tells(|d, case, answer| {
+        let lent = lent_in(case);
+        let started_dirty = |n: usize| lent.pair(n).is_some_and(|pair| holds_dirty(lent.table[pair]));
+        retell_asked(d, case, answer, 10, |n, event, _, told| match (told[0], event[byte::RESP_ERR]) {
+            (EXPLAINED, OK) => [0, 4 * u8::from(started_dirty(n)), told[2]],
+            _ => told,
+        });
+    })),
+    wrong("trace", "duty 4 is told of an unexplained event too", Tells(|d, case, answer| {
+        retell_asked(d, case, answer, 10, |_, _, before, told| match (told[0], holds_dirty(before)) {
+            (UNEXPLAINED, true) => [UNEXPLAINED, 4, 0],
+            _ => told,
+        });
+    })),
+    wrong("trace", "duty 4 is told of a lost pair too", Tells(|d, case, answer| {
+        retell_asked(d, case, answer, 10, |_, _, before, told| if before == 0 { [told[0], 4, told[2]] } else { told });
+    })),
+    wrong("trace", "SnpMakeInvalid leaves the set", Tells(|d, case, answer| {
+        retell_asked(d, case, answer, 10, |_, _, before, told| if told[0] == EXPLAINED { [0, told[1], before] } else { told });
+    })),
+    wrong("trace", "SnpMakeInvalid leaves the pair lost", Tells(|d, case, answer| {
+        retell_asked(d, case, answer, 10, |_, _, _, told| [told[0], told[1], 0]);
+    })),
+    wrong("trace", "SC answers SnpUnique with data at RetToSrc 0 too", Value(|d| add(d, "SnpUnique | SC | 0 | - | SnpRespData_I | I"))),
+    wrong("trace", "SC answers SnpCleanInvalid only at RetToSrc 0", Value(shared_at_0)),
+    wrong("trace", "UD does not answer SnpMakeInvalid", Value(|d| without(d, SNP_MAKE_INVALID, UD))),
+    wrong("trace", "SnpUnique follows B4.46 too", Value(|d| d.tables[0].1.push(7))),
+    wrong("trace", "SnpUnique is refused", Value(|d| refuse_request(d, 7))),
+    wrong("trace", "SnpCleanInvalid is refused", Value(|d| refuse_request(d, 9))),
+    wrong("trace", "SnpMakeInvalid is refused", Value(|d| refuse_request(d, 10))),
+    wrong("trace", "request 8 is judged", Value(|d| d.requests.push(("SnpCleanShared", 8)))),
     // A bench sheet.
     wrong("sheet", "LF alone ends a line", Given(|_, sheet| *sheet = replaced(&replaced(sheet, CRLF, b"\n"), b"\n", CRLF))),
     wrong("sheet", "a CR before the CRLF is dropped", Given(|_, sheet| *sheet = replaced(sheet, b"\r\r\n", CRLF))),
@@ -297,6 +444,37 @@ pub const WRONG: &[Wrong] = &[
         if arrival == Arrival::File { lose(sheet, 1 << 20, 13..=13) } else { sheet.to_vec() }
     })),
     wrong("sheet", "one read is taken for all", Gets(first_piece)),
+    // A bench sheet with Q-4's snoops.
+    wrong("sheet", "discarded is spelled lost", Tells(|_, _, answer| {
+        answer.output = replaced(&answer.output, b",discarded,", b",lost,");
+    })),
+    wrong("sheet", "discarded is spelled with a capital", Tells(|_, _, answer| {
+        answer.output = replaced(&answer.output, b",discarded,", b",Discarded,");
+    })),
+    wrong("sheet", "discarded is spelled thrown away", Tells(|_, _, answer| {
+        answer.output = replaced(&answer.output, b",discarded,", b",thrown away,");
+    })),
+    wrong("sheet", "NDERR under SnpMakeInvalid is discarded", Tells(|_, sheet, answer| {
+        let given = lines(sheet);
+        let asked = |n: usize| given.get(n).is_some_and(|line| line.windows(15).any(|word| word == b",SnpMakeInvalid"));
+        let told = lines(&answer.output).into_iter().enumerate().map(|(n, line)| match asked(n) {
+            true => replaced(line, b",lost,", b",discarded,"),
+            false => line.to_vec(),
+        });
+        answer.output = told.flat_map(|line| [&line, CRLF].concat()).collect();
+    })),
+    wrong("sheet", "SnpMakeInvalid has no duty without an error", Value(|d| d.discarding.clear())),
+    wrong("sheet", "SnpUnique has duty 4", Value(|d| d.discarding.push(7))),
+    wrong("sheet", "SnpUnique is not known", Value(|d| refuse_request(d, 7))),
+    wrong("sheet", "SnpCleanInvalid is not known", Value(|d| refuse_request(d, 9))),
+    wrong("sheet", "SnpMakeInvalid is not known", Value(|d| refuse_request(d, 10))),
+    wrong("sheet", "SnpCleanShared is known", Value(|d| d.requests.push(("SnpCleanShared", 8)))),
+    wrong("sheet", "SnpCleanInvalid and SnpMakeInvalid are exchanged", Value(|d| {
+        d.requests.iter_mut().for_each(|(_, code)| *code = [*code, 10, 9][usize::from(*code == 9) + 2 * usize::from(*code == 10)]);
+    })),
+    wrong("sheet", "SC answers SnpUnique without data at RetToSrc 1 too", Value(|d| add(d, "SnpUnique | SC | 1 | - | SnpResp_I | I"))),
+    wrong("sheet", "Dirty lines answer SnpMakeInvalid with data too", Value(dirty_data)),
+    wrong("sheet", "data under SnpUnique carries any TagOp up to Update", Value(|d| d.set_tag_column(SNP_UNIQUE, TagColumn::UpToUpdate))),
     // A capture.
     wrong("capture", "one read is taken for all", Gets(first_piece)),
     wrong("capture", "standard input is read though a file is named", Gets(|arrival, capture| match arrival {
@@ -346,6 +524,18 @@ pub const WRONG: &[Wrong] = &[
         let lines = answer.output.split_inclusive(|byte| *byte == b'\n');
         answer.output = lines.filter(|line| !line.ends_with(b"lost\n")).collect::<Vec<&[u8]>>().concat();
     })),
+    // A capture with Q-4's snoops.
+    wrong("capture", "a discarded duty is not told", Tells(|_, _, answer| {
+        let lines = answer.output.split_inclusive(|byte| *byte == b'\n');
+        answer.output = lines.filter(|line| !line.ends_with(b"discarded\n")).collect::<Vec<&[u8]>>().concat();
+    })),
+    wrong("capture", "a discarded duty is told as lost", Tells(|_, _, answer| {
+        answer.output = replaced(&answer.output, b"discarded\n", b"lost\n");
+    })),
+    wrong("capture", "SnpUnique has duty 4", Value(|d| d.discarding.push(7))),
+    wrong("capture", "SnpMakeInvalid is refused", Value(|d| refuse_request(d, 10))),
+    wrong("capture", "request 8 is judged", Value(|d| d.requests.push(("SnpCleanShared", 8)))),
+    wrong("capture", "request 41 is judged", Value(|d| d.requests.push(("SnpCleanInvalid in another place", 41)))),
     // The list of answers. Its answer has refusal, place in three bytes, count in four, and the lent bytes with those past them.
     wrong("answers", "an answer is listed twice", Tells(|d, record, answer| relist(d, record, answer, |list| {
         list.extend_from_within(list.len().saturating_sub(1)..);
@@ -481,6 +671,57 @@ pub const WRONG: &[Wrong] = &[
     })),
     wrong("answers", "9 is told before 5", Tells(|_, record, answer| no_room_first(record, answer, 5))),
     wrong("answers", "9 is told before 4", Tells(|_, record, answer| no_room_first(record, answer, 4))),
+    // The list of answers to Q-4's snoops.
+    wrong("answers", "SC answers SnpUnique with data at RetToSrc 0 too", Value(|d| add(d, "SnpUnique | SC | 0 | - | SnpRespData_I | I"))),
+    wrong("answers", "SC answers SnpUnique without data at RetToSrc 1 too", Value(|d| add(d, "SnpUnique | SC | 1 | - | SnpResp_I | I"))),
+    wrong("answers", "UC answers SnpUnique only with data", Value(|d| {
+        without(d, SNP_UNIQUE, 1);
+        add(d, "SnpUnique | UC | X | - | SnpRespData_I | I");
+    })),
+    wrong("answers", "UC answers SnpCleanInvalid with data too", Value(|d| add(d, "SnpCleanInvalid | UC | X | - | SnpRespData_I | I"))),
+    wrong("answers", "SC answers SnpCleanInvalid only at RetToSrc 0", Value(shared_at_0)),
+    wrong("answers", "UD does not answer SnpMakeInvalid", Value(|d| without(d, SNP_MAKE_INVALID, UD))),
+    wrong("answers", "Dirty lines answer SnpMakeInvalid with data too", Value(dirty_data)),
+    wrong("answers", "UDP answers SnpMakeInvalid under Dirty tags", Given(|_, record| {
+        if [record[byte::REQUEST], record[byte::TAG], record[BEFORE]] == [10, TAG_DIRTY, UDP] {
+            record[BEFORE] = UD;
+        }
+    })),
+    wrong("answers", "SnpMakeInvalid's answer has Update under Dirty tags too", Tells(|d, record, answer| {
+        if [record[byte::REQUEST], record[byte::TAG]] == [10, TAG_DIRTY] {
+            relist(d, record, answer, |list| list_too(list, |_| true, byte::TAG_OP, UPDATE));
+        }
+    })),
+    wrong("answers", "the NDERR answer to Q-4's snoops is left out", Tells(|d, record, answer| {
+        if OF_Q4.contains(&record[byte::REQUEST]) {
+            relist(d, record, answer, |list| list.retain(|answer| answer[byte::RESP_ERR - byte::CHANNEL] != NDERR));
+        }
+    })),
+    wrong("answers", "excl forbids SnpUnique", Tells(|d, record, answer| {
+        if [record[byte::REQUEST], record[byte::EXCL]] == [7, 1] {
+            relist(d, record, answer, |list| list.clear());
+        }
+    })),
+    wrong("answers", "DoNotGoToSD forbids SnpCleanInvalid", Tells(|d, record, answer| {
+        if [record[byte::REQUEST], record[byte::DO_NOT_GO_TO_SD]] == [9, 1] {
+            relist(d, record, answer, |list| list.clear());
+        }
+    })),
+    wrong("answers", "SnpUnique follows B4.46", Value(|d| follow_b4_46(d, SNP_UNIQUE, 7))),
+    wrong("answers", "SnpCleanInvalid follows B4.46", Value(|d| follow_b4_46(d, SNP_CLEAN_INVALID, 9))),
+    wrong("answers", "data under SnpUnique carries any TagOp up to Update", Value(|d| d.set_tag_column(SNP_UNIQUE, TagColumn::UpToUpdate))),
+    wrong("answers", "data under SnpCleanInvalid carries any TagOp up to Update", Value(|d| {
+        d.set_tag_column(SNP_CLEAN_INVALID, TagColumn::UpToUpdate);
+    })),
+    wrong("answers", "SnpUnique is refused", Value(|d| refuse_request(d, 7))),
+    wrong("answers", "SnpCleanInvalid is refused", Value(|d| refuse_request(d, 9))),
+    wrong("answers", "SnpMakeInvalid is refused", Value(|d| refuse_request(d, 10))),
+    wrong("answers", "request 8 is judged", Value(|d| d.requests.push(("SnpCleanShared", 8)))),
+    wrong("answers", "request 39 is taken for SnpUnique", Given(|_, record| {
+        if record[byte::REQUEST] == 39 {
+            record[byte::REQUEST] = 7;
+        }
+    })),
 ];
 
 /// A wrong judge by its columns.
@@ -497,6 +738,64 @@ fn row<'a>(definition: &'a mut Definition, table: &str, response: &str) -> &'a m
 /// Changes all the rows.
 fn rows(definition: &mut Definition, change: fn(&mut Row)) {
     definition.rows.iter_mut().for_each(change);
+}
+
+/// Adds rows that are printed as a table prints them.
+fn add(definition: &mut Definition, rows: &'static str) {
+    definition.rows.extend(printed(rows));
+}
+
+/// Takes a state before out of all rows of a table.
+fn without(definition: &mut Definition, table: &str, state: u8) {
+    let rows = definition.rows.iter_mut().filter(|row| row.table == table);
+    rows.for_each(|row| row.before.retain(|before| *before != state));
+}
+
+/// Lets SC answer SnpCleanInvalid at RetToSrc 0 alone.
+fn shared_at_0(definition: &mut Definition) {
+    without(definition, SNP_CLEAN_INVALID, 5);
+    add(definition, "SnpCleanInvalid | SC | 0 | - | SnpResp_I | I");
+}
+
+/// Lets UD and SD answer SnpMakeInvalid with their data too.
+fn dirty_data(definition: &mut Definition) {
+    add(definition, "SnpMakeInvalid | UD SD | X | - | SnpRespData_I_PD | I");
+    definition.set_tag_column(SNP_MAKE_INVALID, TagColumn::Plain);
+}
+
+/// Lets a snoop of Q-4 have the rows of B4.46, and not its own.
+fn follow_b4_46(definition: &mut Definition, table: &str, request: u8) {
+    definition.rows.retain(|row| row.table != table);
+    definition.tables[0].1.push(request);
+}
+
+/// Lets a request no longer be judged.
+fn refuse_request(definition: &mut Definition, request: u8) {
+    definition.requests.retain(|(_, code)| *code != request);
+}
+
+/// Whether a record's event has a request.
+fn asks(record: &[u8], request: u8) -> bool {
+    handed_over(record).len() > byte::RESP_ERR && record[1 + byte::REQUEST] == request
+}
+
+/// Whether a record's event has a request of Q-4.
+fn asks_of_q4(record: &[u8]) -> bool {
+    OF_Q4.iter().any(|request| asks(record, *request))
+}
+
+/// Lets an event have no step from any state, where that is asked for.
+fn no_step(answer: &mut Answer, asked: bool) {
+    if asked {
+        answer.output[2..].fill(0);
+    }
+}
+
+/// Puts a duty in the place of another for a request.
+fn duties(record: &[u8], answer: &mut Answer, request: u8, right: u8, wrong: u8) {
+    if asks(record, request) {
+        answer.output[9..].iter_mut().filter(|duty| **duty == right).for_each(|duty| *duty = wrong);
+    }
 }
 
 /// Lets data in answer to one plain snoop carry any TagOp up to Update.
@@ -559,6 +858,19 @@ where
     }
     answer.output.truncate(5);
     lent.parts()[2..].iter().for_each(|part| answer.output.extend(*part));
+}
+
+/// Tells the events of an accepted trace with a request anew, each by its number, its bytes, its pair's set before and what is
+/// right of it.
+fn retell_asked<T>(definition: &Definition, case: &[u8], answer: &mut Answer, request: u8, mut tell: T)
+where
+    T: FnMut(usize, &[u8], u8, [u8; 3]) -> [u8; 3],
+{
+    let lent = lent_in(case);
+    retell(definition, case, answer, false, |n, before, told| match event_of(definition, &lent, n) {
+        event if event[byte::REQUEST] == request => tell(n, event, before, told),
+        _ => told,
+    });
 }
 
 /// How many bytes an accepted question's list has by the count that is told.
