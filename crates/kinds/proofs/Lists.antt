@@ -47,6 +47,11 @@ and-right false b h = absurd (false≢true h)
 pub and-both : {a b : Bool} → a ≡ true → b ≡ true → a && b ≡ true
 and-both {a} {b} p q = ap (λ (x : Bool). x && b) p ∙ q
 
+-- "not, or": where the first holds, so does the second
+pub if-then : (a b : Bool) → a ≡ true → not a || b ≡ true → b ≡ true
+if-then true b p q = q
+if-then false b p q = absurd (false≢true p)
+
 pub or-and : (a b c : Bool) → (a && c) || (b && c) ≡ (a || b) && c
 or-and true true true = refl
 or-and true true false = refl

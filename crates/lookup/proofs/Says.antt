@@ -12,7 +12,7 @@ use lib.ListN.{getD}
 use Rattle.kinds.specs.Tests.{any, all, _∈?_}
 use Rattle.kinds.specs.Codes.{allStates, requests, tags, tagNotSeen, stateNotSeen}
 use Rattle.kinds.specs.Answers.{wire}
-use Rattle.kinds.proofs.Lists.{any-found, all-at, one-of, or-and, and-left, and-right, and-both}
+use Rattle.kinds.proofs.Lists.{any-found, all-at, one-of, if-then, or-and, and-left, and-right, and-both}
 use Rattle.sets.specs.Sets.{setOf, bit}
 use Rattle.sets.proofs.Laws.{bit-setOf, setOf-below}
 use Rattle.words.specs.Words.{half}
@@ -207,14 +207,10 @@ row-answer e r k h =
     let op-in = and-right (tagsAllow t s a) (tagOpOf e ∈? tagOps t T s a) g in
     let errors = rulesOf T .errors a in
     let each = all-at (λ u. not (tagsAllow u s a) || all (λ op. all (λ error. packedBy (wire a) op error ∈? keys) errors) (tagOps u T s a)) k (f .inside) in
-    let ops = given (tagsAllow t s a) (all (λ op. all (λ error. packedBy (wire a) op error ∈? keys) errors) (tagOps t T s a)) allowed each in
+    let ops = if-then (tagsAllow t s a) (all (λ op. all (λ error. packedBy (wire a) op error ∈? keys) errors) (tagOps t T s a)) allowed each in
     let at-op = one-of (λ op. all (λ error. packedBy (wire a) op error ∈? keys) errors) (tagOpOf e) (tagOps t T s a) op-in ops in
     ap (λ (w : List ℕ). packedBy w (tagOpOf e) (respErrOf e) ∈? keys) (says-so .shown)
     ∙ one-of (λ error. packedBy (wire a) (tagOpOf e) error ∈? keys) (respErrOf e) errors (says-so .error) at-op
-  where
-    given : (x y : Bool) → x ≡ true → not x || y ≡ true → y ≡ true
-    given true y p q = q
-    given false y p q = absurd (true≢false (sym p))
 
 -- where no row has the answer, no row is for the event
 no-rows : (e : List ℕ) → packed e ∈? keys ≡ false → rowsFor e ≡ []

@@ -2,7 +2,7 @@
 -- discarded.
 -- Assumes nothing.
 use mathlib.Core.Path.{_≡_, refl, sym, _∙_, ap, ap₂}
-use mathlib.Core.Bool.{Bool, true, false, not, _&&_, _||_, true≢false}
+use mathlib.Core.Bool.{Bool, true, not, _&&_, _||_}
 use mathlib.Core.List.{List}
 use Prim.Native.Nat.{ℕ, _+_}
 use borrow.Author.Tests.{eqb-true}
@@ -13,7 +13,7 @@ use Rattle.kinds.specs.declared.Answer.{Answer}
 use Rattle.kinds.specs.declared.Answer.the-variants.{SnpResp, SnpRespData, SnpRespDataPtl}
 use Rattle.kinds.specs.declared.Forward.the-variants.{NoForward, CompData}
 use Rattle.kinds.specs.Answers.{wire, answerResp, answerFwd, SnpResp-I}
-use Rattle.kinds.proofs.Lists.{one-of, same-equal, agree, agree-same}
+use Rattle.kinds.proofs.Lists.{one-of, if-then, same-equal, agree, agree-same}
 use Rattle.sets.specs.Sets.{one}
 use Rattle.rows.specs.Event.{byte, requestOf, answerOf, respOf, fwdStateOf, respErrOf, forwardedOf, forwardedRespOf}
 use Rattle.rows.specs.Rows.{Row, rows}
@@ -91,10 +91,6 @@ all-make : all makeAnswer rows ≡ true
 unfolding rows makeAnswer
 all-make = refl
 
-given : (x y : Bool) → x ≡ true → not x || y ≡ true → y ≡ true
-given true y p q = q
-given false y p q = absurd (true≢false (sym p))
-
 -- every permitted answer to SnpMakeInvalid is SnpResp_I
 pub make-answer : (e : List ℕ) (t s s′ : ℕ) → permitted e t s s′ ≡ true → requestOf e ≡ SnpMakeInvalid → answerOf e ≡ wire SnpResp-I
 unfolding makeAnswer
@@ -104,7 +100,7 @@ make-answer e t s s′ h q =
     let asks = asked-so e (r .table) (r .ret) (r .marked) (p .is-asked) .request in
     answered-so e (r .table) (r .answer) (p .is-answered) .shown
     ∙ same-equal (wire (r .answer)) (wire SnpResp-I)
-    (given (SnpMakeInvalid ∈? rulesOf (r .table) .asks) (same (wire (r .answer)) (wire SnpResp-I))
+    (if-then (SnpMakeInvalid ∈? rulesOf (r .table) .asks) (same (wire (r .answer)) (wire SnpResp-I))
     (ap (λ (n : ℕ). n ∈? rulesOf (r .table) .asks) (sym q) ∙ asks)
     (by-rows makeAnswer all-make p))
 
