@@ -49,7 +49,7 @@ enum { B4_46, B4_57, B4_59, B4_60, NDERR_ROW };
     each(CompData_UD_PD, 6) \
     each(CompData_SD_PD, 7)
 
-/* The answers to Home: name, channel (1 with data), opcode, Resp, FwdState, who takes the duty over. */
+/* The answers to Home: name, channel (1 with data), opcode, Resp, FwdState, who takes the duty over as far as its name tells. */
 #define RESPONSE_LIST(each) \
     each(SnpResp_I,                  0, 1, 0, 0, DUTY_NONE) \
     each(SnpResp_SC,                 0, 1, 1, 0, DUTY_NONE) \
@@ -227,20 +227,22 @@ static inline int has_data(unsigned response)
     return (0 RESPONSE_LIST(DATA_BIT)) >> response & 1;
 }
 
-/* Who takes the duty over with an answer, as far as its name tells; nobody with one that no row has. */
-static inline unsigned duty_of(unsigned response)
+/* The duty of an event that a row permits: lost with NDERR, else as the answer's name tells. */
+static inline unsigned duty_of(const struct event *event)
 {
 #define DUTY_CASE(name, channel, opcode, resp, fwd_state, duty) case name: return duty;
-    switch (response) {
+    if (event->resp_err == NDERR)
+        return DUTY_LOST;
+    switch (event->response) {
     RESPONSE_LIST(DUTY_CASE)
     default: return DUTY_NONE;
     }
 }
 
-/* The states from which an error field tells that the duty is lost. */
-static inline unsigned lost_from(unsigned resp_err)
+/* The states before from which a duty is told: the Dirty ones where nobody takes it over. */
+static inline unsigned duty_from(unsigned duty)
 {
-    return resp_err == NDERR ? DIRTY_STATES : 0;
+    return duty == DUTY_LOST ? DIRTY_STATES : ALL_STATES;
 }
 
 /* The states that what was seen of the state after allows. */
@@ -313,7 +315,8 @@ static inline unsigned left_by_rows(const struct event *event, unsigned set)
 /* What the rows say of an event on a set, where these states after are allowed. */
 static inline struct finding finding_by_rows(const struct event *event, unsigned set, unsigned allowed)
 {
-    return finding_of(set, left_by_rows(event, set) & allowed, duty_of(event->response), lost_from(event->resp_err));
+    unsigned duty = duty_of(event);
+    return finding_of(set, left_by_rows(event, set) & allowed, duty, duty_from(duty));
 }
 
 #endif
