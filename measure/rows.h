@@ -203,21 +203,19 @@ static inline unsigned kind_of(unsigned request, unsigned excl)
     }
 }
 
+/* The kinds of request that each table has rows for, a bit each. */
+static const unsigned char kinds_of[] = {
+    [B4_46] = 1 << PLAIN,
+    [B4_57] = 1 << FORWARDING,
+    [B4_59] = 1 << PREFERRING | 1 << PREFERRING_EXCL,
+    [B4_60] = 1 << PREFERRING,
+    [NDERR_ROW] = (1 << KINDS) - 1,
+};
+
 /* Whether a table has rows for a kind of request. */
 static inline int in_use(unsigned table, unsigned kind)
 {
-    switch (table) {
-    case B4_46:
-        return kind == PLAIN;
-    case B4_57:
-        return kind == FORWARDING;
-    case B4_59:
-        return kind == PREFERRING || kind == PREFERRING_EXCL;
-    case B4_60:
-        return kind == PREFERRING;
-    default:
-        return 1;
-    }
+    return kinds_of[table] >> kind & 1;
 }
 
 /* Whether an answer brings data to Home. */
