@@ -22,7 +22,7 @@ enum {
 enum { EXPLAINED, UNEXPLAINED, NOT_JUDGED, VERDICTS };
 
 /* Who is told of the duty to write the data back. */
-enum { DUTY_NONE, DUTY_HOME, DUTY_REQUESTER, DUTY_LOST, DUTIES };
+enum { DUTY_NONE, DUTY_HOME, DUTY_REQUESTER, DUTY_LOST, DUTY_DISCARDED, DUTIES };
 
 /* What a judge says of an event: the set of its pair after it, the verdict and the duty. */
 struct finding {
