@@ -11,7 +11,7 @@
 #define BLOCK 8u
 
 /* What the first six bytes of an event are multiplied by for the highest bits to tell what was asked; found by trial, like the next. */
-#define ASKED_FACTOR 0x1108020400800000u
+#define ASKED_FACTOR 0x0b50800020010000u
 
 /* How many of the highest bits that takes. */
 #define ASKED_BITS 9
@@ -22,8 +22,14 @@
 /* How many of the highest bits that takes. */
 #define REST_BITS 14
 
+/* What a request is multiplied by for some bits of the product to tell whether it is of the ten; found by trial too. */
+#define KNOWN_FACTOR 0x1d01
+
+/* Those bits, in which the ten have four values that no other request has. */
+#define KNOWN_BITS 0x48ec
+
 /* Room for what can be asked with the channel of the answer, and for the pairs of opcode and Resp. */
-enum { ASKED = 128, MESSAGES = 16 };
+enum { ASKED = KINDS * 32, MESSAGES = 16 };
 
 /* Room for the kinds of rest, for what can be seen of the state after, and for both together. */
 enum { RESTS = 32, SEEN = 4, ENDINGS = RESTS * SEEN };
@@ -76,14 +82,22 @@ static void put_tested_with(void)
     }
 }
 
-/* Which of eight requests are of the seven, 255 in both bytes for those. */
+/* Which of eight requests are of the ten, 255 in both bytes for those. */
 static inline __m128i known(__m128i requests)
 {
-    __m128i not_sixteen = _mm_and_si128(requests, _mm_set1_epi16(~16));
-    __m128i two_or_four = _mm_or_si128(_mm_cmpeq_epi16(not_sixteen, _mm_set1_epi16(2)),
-                                       _mm_cmpeq_epi16(not_sixteen, _mm_set1_epi16(4)));
-    __m128i unique = _mm_or_si128(_mm_cmpeq_epi16(requests, _mm_set1_epi16(21)), _mm_cmpeq_epi16(requests, _mm_set1_epi16(22)));
-    return _mm_or_si128(_mm_or_si128(two_or_four, unique), _mm_cmpeq_epi16(requests, _mm_set1_epi16(1)));
+    __m128i told = _mm_and_si128(_mm_mullo_epi16(requests, _mm_set1_epi16(KNOWN_FACTOR)), _mm_set1_epi16(KNOWN_BITS));
+    __m128i low = _mm_or_si128(_mm_cmpeq_epi16(told, _mm_set1_epi16(0x0008)), _mm_cmpeq_epi16(told, _mm_set1_epi16(0x0800)));
+    __m128i high = _mm_or_si128(_mm_cmpeq_epi16(told, _mm_set1_epi16(0x4004)), _mm_cmpeq_epi16(told, _mm_set1_epi16(0x4804)));
+    return _mm_or_si128(low, high);
+}
+
+/* Ends the program where a request of the ten is not known, or another one is. */
+static void check_known(void)
+{
+    for (unsigned code = 0; code < 256; code++) {
+        int told = _mm_movemask_epi8(known(_mm_set1_epi16((short)code))) != 0;
+        must(told == (request_of(code) != REQUESTS), "a request is not told apart");
+    }
 }
 
 /* Whether eight events are all good; the requests come to stand two bytes apart, since sixteen bytes are an event and two more. */
@@ -349,6 +363,7 @@ void judges_ready(void)
 {
     if (line_count > 0)
         return;
+    check_known();
     put_tested_with();
     put_asked();
     put_messages();

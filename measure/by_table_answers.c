@@ -19,7 +19,7 @@ enum { LISTS = 64 };
 
 struct candidate candidates[CANDIDATES];
 
-/* What excl and the request add to a context; 0 for a request that is not one of the seven. */
+/* What excl and the request add to a context; 0 for a request that is not one of the ten. */
 static uint16_t kind_part[2][256];
 
 /* The list of each context. */
@@ -67,7 +67,7 @@ static void put_candidates(void)
     qsort(candidates, CANDIDATES, sizeof candidates[0], order);
 }
 
-/* Fills in what excl and each of the seven requests add to a context. */
+/* Fills in what excl and each of the ten requests add to a context. */
 static void put_kind_parts(void)
 {
     for (unsigned n = 0; n < 2 * REQUESTS; n++)

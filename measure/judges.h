@@ -22,7 +22,7 @@ enum {
 enum { EXPLAINED, UNEXPLAINED, NOT_JUDGED, VERDICTS };
 
 /* Who is told of the duty to write the data back. */
-enum { DUTY_NONE, DUTY_HOME, DUTY_REQUESTER, DUTY_LOST, DUTIES };
+enum { DUTY_NONE, DUTY_HOME, DUTY_REQUESTER, DUTY_LOST, DUTY_DISCARDED, DUTIES };
 
 /* What a judge says of an event: the set of its pair after it, the verdict and the duty. */
 struct finding {
@@ -31,12 +31,12 @@ struct finding {
     unsigned duty;
 };
 
-/* The finding where an event leaves these states of a set, from some of which the duty is lost. */
-static inline struct finding finding_of(unsigned before, unsigned after, unsigned duty, unsigned lost_from)
+/* The finding where an event leaves these states of a set, and tells this duty from these states before. */
+static inline struct finding finding_of(unsigned before, unsigned after, unsigned duty, unsigned duty_from)
 {
     if (after == 0)
         return (struct finding){0, before ? UNEXPLAINED : NOT_JUDGED, DUTY_NONE};
-    return (struct finding){after, EXPLAINED, before & lost_from ? DUTY_LOST : duty};
+    return (struct finding){after, EXPLAINED, before & duty_from ? duty : DUTY_NONE};
 }
 
 /* What a judge of whole traces is lent. */

@@ -17,7 +17,7 @@
 #define PREFIX_BYTES (sizeof RESPONSE_PREFIX - 1)
 
 /* The lowest bit of each field in a key, above RetToSrc and DoNotGoToSD, and how many bits a key has. */
-enum { KIND_BIT = 2, TAG_BIT = 4, TAG_OP_BIT = 6, RESP_ERR_BIT = 8, RESPONSE_BIT = 10, KEY_BITS = 15 };
+enum { KIND_BIT = 2, TAG_BIT = 5, TAG_OP_BIT = 7, RESP_ERR_BIT = 9, RESPONSE_BIT = 11, KEY_BITS = 16 };
 
 /* A name of up to eight bytes, what it adds to a key, and the states that a state after allows. */
 struct short_name {
@@ -47,7 +47,7 @@ struct line {
     unsigned allowed;
 };
 
-/* The requests by their fourth letter, without Fwd and with it. */
+/* The requests by their fourth and ninth bytes, and whether Fwd follows a longer name. */
 static struct long_name requests[64];
 
 /* The answers by their length and the byte that tells those of a length apart. */
@@ -73,10 +73,10 @@ static struct short_name resp_errs[8];
 /* The states after by their letters and what follows. */
 static struct short_name states_after[32];
 
-/* The hash of a request: its fourth letter, and the F of Fwd where no good line has another F. */
+/* The hash of a request: its fourth and ninth bytes, and the F of Fwd after longer names, where no good line has another F. */
 static inline unsigned request_hash(const unsigned char *at)
 {
-    return 2u * (at[3] & 31) + ((at[8] == 'F') | (at[15] == 'F') | (at[17] == 'F'));
+    return 2u * ((unsigned)(at[3] - at[8]) & 31) + ((at[15] == 'F') | (at[17] == 'F'));
 }
 
 /* The hash of an answer: its length and the byte that tells it apart. */
@@ -254,7 +254,7 @@ static inline const unsigned char *read_line(const unsigned char *at, struct lin
 static inline struct event event_of(unsigned key, unsigned forward)
 {
     return (struct event){
-        .kind = key >> KIND_BIT & 3,
+        .kind = key >> KIND_BIT & 7,
         .ret_to_src = key & 1,
         .do_not_go_to_sd = key >> 1 & 1,
         .tag = key >> TAG_BIT & 3,
@@ -299,6 +299,7 @@ static inline void put_long_names(void)
     for (unsigned n = 0; n < REQUESTS; n++) {
         unsigned char text[32] = {0};
         memcpy(text, request_names[n], strlen(request_names[n]));
+        text[strlen(request_names[n])] = ',';
         struct long_name *name = &requests[request_hash(text)];
         put_long(name, request_names[n], kind_of(n, 0) << KIND_BIT);
         name->flags_used = kind_of(n, 0) != kind_of(n, 1) ? 7 : 3;

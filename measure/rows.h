@@ -27,16 +27,19 @@ enum { OP_INVALID, OP_TRANSFER, OP_UPDATE, OP_MATCH, TAG_OPS };
 enum { OK, EXOK, DERR, NDERR, RESP_ERRS };
 
 /* What a request is to the tables; an exclusive sequence matters to SnpPreferUniqueFwd alone. */
-enum { PLAIN, FORWARDING, PREFERRING, PREFERRING_EXCL, KINDS };
+enum { PLAIN, FORWARDING, PREFERRING, PREFERRING_EXCL, UNIQUE, CLEAN_INVALID, MAKE_INVALID, KINDS };
 
-/* The tables that rows stand in, and the one row of NDERR as a table of its own. */
-enum { B4_46, B4_57, B4_59, B4_60, NDERR_ROW };
+/* The tables that rows stand in: four printed ones, the bench copy's three, and the one row of NDERR as a table of its own. */
+enum { B4_46, B4_57, B4_59, B4_60, BENCH_UNIQUE, BENCH_CLEAN_INVALID, BENCH_MAKE_INVALID, NDERR_ROW };
 
 /* The requests: name, code, kind. */
 #define REQUEST_LIST(each) \
     each(SnpShared,            1,  PLAIN) \
     each(SnpClean,             2,  PLAIN) \
     each(SnpNotSharedDirty,    4,  PLAIN) \
+    each(SnpUnique,            7,  UNIQUE) \
+    each(SnpCleanInvalid,      9,  CLEAN_INVALID) \
+    each(SnpMakeInvalid,       10, MAKE_INVALID) \
     each(SnpCleanFwd,          18, FORWARDING) \
     each(SnpNotSharedDirtyFwd, 20, FORWARDING) \
     each(SnpPreferUnique,      21, PLAIN) \
@@ -49,7 +52,7 @@ enum { B4_46, B4_57, B4_59, B4_60, NDERR_ROW };
     each(CompData_UD_PD, 6) \
     each(CompData_SD_PD, 7)
 
-/* The answers to Home: name, channel (1 with data), opcode, Resp, FwdState, who takes the duty over. */
+/* The answers to Home: name, channel (1 with data), opcode, Resp, FwdState, who takes the duty over as far as its name tells. */
 #define RESPONSE_LIST(each) \
     each(SnpResp_I,                  0, 1, 0, 0, DUTY_NONE) \
     each(SnpResp_SC,                 0, 1, 1, 0, DUTY_NONE) \
@@ -97,7 +100,7 @@ struct row {
 /* The states after of a row that lets the cache keep SC or drop it. */
 #define SC_or_I (ONLY(SC) | ONLY(I))
 
-/* All the rows: 17 of B4.46, 27 of B4.57, 13 of B4.59, 9 of B4.60, and NDERR's own for each state. */
+/* All the rows: 17 of B4.46, 27 of B4.57, 13 of B4.59, 9 of B4.60, 23 of the bench copy, and NDERR's own for each state. */
 static const struct row rows[] = {
     {B4_46, I,   X, NO_FORWARD,     SnpResp_I,                  ONLY(I),  0},
     {B4_46, UC,  X, NO_FORWARD,     SnpResp_SC,                 SC_or_I,  0},
@@ -169,6 +172,35 @@ static const struct row rows[] = {
     {B4_60, SD,  X, CompData_UD_PD, SnpResp_I_Fwded_UD_PD,      ONLY(I),  0},
     {B4_60, SD,  X, NO_FORWARD,     SnpRespData_I_PD,           ONLY(I),  0},
 
+    /* Bench copy: SnpUnique. */
+    {BENCH_UNIQUE, I,   X, NO_FORWARD, SnpResp_I,           ONLY(I), 0},
+    {BENCH_UNIQUE, UC,  X, NO_FORWARD, SnpResp_I,           ONLY(I), 0},
+    {BENCH_UNIQUE, UC,  X, NO_FORWARD, SnpRespData_I,       ONLY(I), 0},
+    {BENCH_UNIQUE, UCE, X, NO_FORWARD, SnpResp_I,           ONLY(I), 0},
+    {BENCH_UNIQUE, UD,  X, NO_FORWARD, SnpRespData_I_PD,    ONLY(I), 0},
+    {BENCH_UNIQUE, UDP, X, NO_FORWARD, SnpRespDataPtl_I_PD, ONLY(I), 0},
+    {BENCH_UNIQUE, SC,  0, NO_FORWARD, SnpResp_I,           ONLY(I), 0},
+    {BENCH_UNIQUE, SC,  1, NO_FORWARD, SnpRespData_I,       ONLY(I), 0},
+    {BENCH_UNIQUE, SD,  X, NO_FORWARD, SnpRespData_I_PD,    ONLY(I), 0},
+
+    /* Bench copy: SnpCleanInvalid. */
+    {BENCH_CLEAN_INVALID, I,   X, NO_FORWARD, SnpResp_I,           ONLY(I), 0},
+    {BENCH_CLEAN_INVALID, UC,  X, NO_FORWARD, SnpResp_I,           ONLY(I), 0},
+    {BENCH_CLEAN_INVALID, UCE, X, NO_FORWARD, SnpResp_I,           ONLY(I), 0},
+    {BENCH_CLEAN_INVALID, UD,  X, NO_FORWARD, SnpRespData_I_PD,    ONLY(I), 0},
+    {BENCH_CLEAN_INVALID, UDP, X, NO_FORWARD, SnpRespDataPtl_I_PD, ONLY(I), 0},
+    {BENCH_CLEAN_INVALID, SC,  X, NO_FORWARD, SnpResp_I,           ONLY(I), 0},
+    {BENCH_CLEAN_INVALID, SD,  X, NO_FORWARD, SnpRespData_I_PD,    ONLY(I), 0},
+
+    /* Bench copy: SnpMakeInvalid. */
+    {BENCH_MAKE_INVALID, I,   X, NO_FORWARD, SnpResp_I, ONLY(I), 0},
+    {BENCH_MAKE_INVALID, UC,  X, NO_FORWARD, SnpResp_I, ONLY(I), 0},
+    {BENCH_MAKE_INVALID, UCE, X, NO_FORWARD, SnpResp_I, ONLY(I), 0},
+    {BENCH_MAKE_INVALID, UD,  X, NO_FORWARD, SnpResp_I, ONLY(I), 0},
+    {BENCH_MAKE_INVALID, UDP, X, NO_FORWARD, SnpResp_I, ONLY(I), 0},
+    {BENCH_MAKE_INVALID, SC,  X, NO_FORWARD, SnpResp_I, ONLY(I), 0},
+    {BENCH_MAKE_INVALID, SD,  X, NO_FORWARD, SnpResp_I, ONLY(I), 0},
+
     {NDERR_ROW, I,   X, NO_FORWARD, SnpResp_I,                  ONLY(I),  0},
     {NDERR_ROW, UC,  X, NO_FORWARD, SnpResp_I,                  ONLY(I),  0},
     {NDERR_ROW, UCE, X, NO_FORWARD, SnpResp_I,                  ONLY(I),  0},
@@ -203,21 +235,22 @@ static inline unsigned kind_of(unsigned request, unsigned excl)
     }
 }
 
+/* The kinds of request that each table has rows for, a bit each. */
+static const unsigned char kinds_of[] = {
+    [B4_46] = 1 << PLAIN,
+    [B4_57] = 1 << FORWARDING,
+    [B4_59] = 1 << PREFERRING | 1 << PREFERRING_EXCL,
+    [B4_60] = 1 << PREFERRING,
+    [BENCH_UNIQUE] = 1 << UNIQUE,
+    [BENCH_CLEAN_INVALID] = 1 << CLEAN_INVALID,
+    [BENCH_MAKE_INVALID] = 1 << MAKE_INVALID,
+    [NDERR_ROW] = (1 << KINDS) - 1,
+};
+
 /* Whether a table has rows for a kind of request. */
 static inline int in_use(unsigned table, unsigned kind)
 {
-    switch (table) {
-    case B4_46:
-        return kind == PLAIN;
-    case B4_57:
-        return kind == FORWARDING;
-    case B4_59:
-        return kind == PREFERRING || kind == PREFERRING_EXCL;
-    case B4_60:
-        return kind == PREFERRING;
-    default:
-        return 1;
-    }
+    return kinds_of[table] >> kind & 1;
 }
 
 /* Whether an answer brings data to Home. */
@@ -227,20 +260,24 @@ static inline int has_data(unsigned response)
     return (0 RESPONSE_LIST(DATA_BIT)) >> response & 1;
 }
 
-/* Who takes the duty over with an answer, as far as its name tells; nobody with one that no row has. */
-static inline unsigned duty_of(unsigned response)
+/* The duty of an event that a row permits: lost with NDERR, else discarded by SnpMakeInvalid, else as the answer's name tells. */
+static inline unsigned duty_of(const struct event *event)
 {
 #define DUTY_CASE(name, channel, opcode, resp, fwd_state, duty) case name: return duty;
-    switch (response) {
+    if (event->resp_err == NDERR)
+        return DUTY_LOST;
+    if (event->kind == MAKE_INVALID)
+        return DUTY_DISCARDED;
+    switch (event->response) {
     RESPONSE_LIST(DUTY_CASE)
     default: return DUTY_NONE;
     }
 }
 
-/* The states from which an error field tells that the duty is lost. */
-static inline unsigned lost_from(unsigned resp_err)
+/* The states before from which a duty is told: the Dirty ones where nobody takes it over. */
+static inline unsigned duty_from(unsigned duty)
 {
-    return resp_err == NDERR ? DIRTY_STATES : 0;
+    return duty == DUTY_LOST || duty == DUTY_DISCARDED ? DIRTY_STATES : ALL_STATES;
 }
 
 /* The states that what was seen of the state after allows. */
@@ -257,7 +294,7 @@ static inline int takes_resp_err(const struct row *row, unsigned resp_err)
     return resp_err == OK || (resp_err == DERR && has_data(row->response));
 }
 
-/* Whether a row takes a tag operation under a tag state that is one of the three; for B4.46 that is the house rule. */
+/* Whether a row takes a tag operation under a tag state that is one of the three; for B4.46 and the bench copy that is the house rule. */
 static inline int takes_tag_op(const struct row *row, unsigned tag, unsigned tag_op)
 {
     if (tag == TAG_DIRTY) {
@@ -313,7 +350,8 @@ static inline unsigned left_by_rows(const struct event *event, unsigned set)
 /* What the rows say of an event on a set, where these states after are allowed. */
 static inline struct finding finding_by_rows(const struct event *event, unsigned set, unsigned allowed)
 {
-    return finding_of(set, left_by_rows(event, set) & allowed, duty_of(event->response), lost_from(event->resp_err));
+    unsigned duty = duty_of(event);
+    return finding_of(set, left_by_rows(event, set) & allowed, duty, duty_from(duty));
 }
 
 #endif

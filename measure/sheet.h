@@ -39,6 +39,6 @@ static const char *const forward_names[FORWARDS] = {"-", FORWARD_LIST(TEXT)};
 static const char *const verdict_names[VERDICTS] = {"explained", "unexplained", "not judged"};
 
 /* The names of the duties. */
-static const char *const duty_names[DUTIES] = {"none", "Home", "Requester", "lost"};
+static const char *const duty_names[DUTIES] = {"none", "Home", "Requester", "lost", "discarded"};
 
 #endif

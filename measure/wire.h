@@ -31,7 +31,7 @@ static const uint8_t response_codes[RESPONSES][4] = {RESPONSE_LIST(RESPONSE_CODE
 #define FORWARD_CODE(name, resp) resp,
 static const uint8_t forward_codes[FORWARDS] = {0, FORWARD_LIST(FORWARD_CODE)};
 
-/* The request of a code, or REQUESTS where it is none of the seven. */
+/* The request of a code, or REQUESTS where it is none of the ten. */
 static inline unsigned request_of(unsigned code)
 {
 #define REQUEST_CASE(name, code, kind) case code: return name;
