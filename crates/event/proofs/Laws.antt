@@ -3,7 +3,7 @@
 use mathlib.Core.Path.{_≡_, refl, sym, _∙_, ap, ap₂}
 use mathlib.Core.Bool.{Bool, true, false, cond, _&&_, and-assoc}
 use mathlib.Core.List.{List, [], _∷_, _++_, map}
-use Prim.Native.Nat.{ℕ, suc, _+_, _<_}
+use Prim.Native.Nat.{ℕ, suc, _+_, _^_, _<_}
 use native.Mathlib.Nat.{add-zero}
 use native.Mathlib.Omega.{arith}
 use borrow.Author.Tests.{eq-eqb, ne-eqb, lt-ltb}
@@ -69,9 +69,9 @@ fault-by issue e b fine known q r hf hb hk hq hr =
     hr ∙ ap₂ (λ (x : Bool) (n : ℕ). cond x n 4) hf (hq ∙ ap (λ (x : Bool). cond x 0 5) (hk ∙ ap (λ (n : ℕ). n ∈? issue .requests) hb))
 
 -- the duty from one state, with its set taken from the list of seven
-pub duty-at : (e sets : List ℕ) (s m x : ℕ) → sets ≡ setsAfter e → getD (setsAfter e) s 0 ≡ setAfter e s
-    → x ≡ cond (eqb (getD sets s 0) 0) noDuty (duty e m) → x ≡ cond (eqb (setAfter e s) 0) noDuty (duty e m)
-duty-at e sets s m x h k p = p ∙ ap (λ (n : ℕ). cond (eqb n 0) noDuty (duty e m)) (ap (λ (l : List ℕ). getD l s 0) h ∙ k)
+pub duty-at : (e sets : List ℕ) (s d x : ℕ) → sets ≡ setsAfter e → getD (setsAfter e) s 0 ≡ setAfter e s → d ≡ duty e (2 ^ s)
+    → x ≡ cond (eqb (getD sets s 0) 0) noDuty d → x ≡ dutyAlone e s
+duty-at e sets s d x h k q p = p ∙ ap₂ (λ (n m : ℕ). cond (eqb n 0) noDuty m) (ap (λ (l : List ℕ). getD l s 0) h ∙ k) q
 
 pub refused : (issue : Issue) (e : List ℕ) (r : Refusal) → r .0 ≡ refusalAlone issue e → (r .0 ≡ 0 → ⊥)
     → _≡_ {A = Judgment} (record { refusal = r; place = 0; sets = sevenZeros; duties = sevenZeros }) (judgedAlone issue e)

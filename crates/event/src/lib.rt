@@ -1,6 +1,7 @@
 // One event judged alone, whatever bytes are handed in (definition 3.1, 3.2).
 use kinds::Duty;
 use kinds::EVENT_BYTES;
+use kinds::LineState;
 use kinds::Refusal;
 use kinds::Request;
 use kinds::place;
@@ -8,7 +9,7 @@ ghost use mathlib.Core.Path.{_≡_};
 ghost use mathlib.Core.Bool.{cond};
 ghost use mathlib.Core.List.{map};
 ghost use lib.Dec.{eqb};
-ghost use Rattle.steps.specs.Steps.{duty, noDuty, setsAfter, dutyAlone};
+ghost use Rattle.steps.specs.Steps.{noDuty, setsAfter, dutyAlone};
 ghost use Rattle.kinds.specs.Codes.{states};
 ghost use Rattle.event.specs.Refusals.{issueE, below, fault, refusalAlone};
 ghost use Rattle.event.specs.Alone.{judgedAlone};
@@ -55,27 +56,30 @@ fn refusal_alone(event: &[u8]) -> Refusal
     Refusal(kinds::choose_byte(whole, refusal.0, Refusal::LENGTHS.0))
 }
 
-// The duty from one state, given as a set: 0 if the set of states after is empty.
-fn duty_from(event: &[u8], before: u8, after: u8) -> u8
-    ensures { λ r. ⌜ r ≡ cond (eqb after 0) noDuty (duty (now (event .entry)) before) ⌝ }
+// The duty from one state, given its set of states after: 0 if that is empty.
+fn duty_from(duty: u8, after: u8) -> u8
+    ensures { λ r. ⌜ r ≡ cond (eqb after 0) noDuty duty ⌝ }
 {
-    let duty = steps::duty(event, before);
-    kinds::choose_byte(after == 0, Duty::NONE.0, duty.0)
+    kinds::choose_byte(after == 0, Duty::NONE.0, duty)
 }
 
-// The seven duties, each judged from its own state (definition 6.5).
+// The seven duties, each judged from its own state (definition 6.5). Of the state only Dirty or not matters: UD and I stand for all.
 fn duties_alone(event: &[u8], sets: [u8; 7]) -> [u8; 7]
     requires { ⌜ sets ≡ setsAfter (now event) ⌝ }
     ensures { λ r. ⌜ r ≡ map (dutyAlone (now (event .entry))) states ⌝ }
 {
+    let from_ud = steps::duty(event, 1 << LineState::UD.0);
+    let from_i = steps::duty(event, 1 << LineState::I.0);
+    let dirty = from_ud.0;
+    let clean = from_i.0;
     [
-        duty_from(event, 1, sets[0]),
-        duty_from(event, 2, sets[1]),
-        duty_from(event, 4, sets[2]),
-        duty_from(event, 8, sets[3]),
-        duty_from(event, 16, sets[4]),
-        duty_from(event, 32, sets[5]),
-        duty_from(event, 64, sets[6]),
+        duty_from(clean, sets[0]),
+        duty_from(clean, sets[1]),
+        duty_from(clean, sets[2]),
+        duty_from(dirty, sets[3]),
+        duty_from(dirty, sets[4]),
+        duty_from(clean, sets[5]),
+        duty_from(dirty, sets[6]),
     ]
 }
 

@@ -48,10 +48,10 @@ starts =
     192 ∷ 192 ∷ 32 ∷ 192 ∷ 32 ∷ 0 ∷ 64 ∷ 192 ∷ 192 ∷ 192 ∷ 192 ∷ 192 ∷ 192 ∷ 192 ∷ 192 ∷ 192 ∷
     []
 
--- by the kind of an answer, two bits for each context: which of the three sets of states before holds; 0 for none
+-- by the kind of an answer, two bits for each context: which of the three sets of states before holds
 abbrev pub choices : List ℕ
 choices =
-    0 ∷ 0x6666ffff66666666 ∷ 0x6666000066666666 ∷ 0x5555aaaa55555555 ∷
+    0 ∷ 0x6666000066666666 ∷ 0x6666000066666666 ∷ 0x5555aaaa55555555 ∷
     0x6666000066666666 ∷ 0x6666000066666666 ∷ 0x0505000005050505 ∷ 0x0505050505050505 ∷
     0x55aa000055aa55aa ∷ 0x55aa55aa00000000 ∷ 0x5555000055555555 ∷ 0x5555000055555555 ∷
     0x5555555500000000 ∷ 0x4444000044444444 ∷ 0x1111000011111111 ∷ 0x4444000044444444 ∷
@@ -61,7 +61,7 @@ choices =
     0x4444000044444444 ∷ 0x1111000011111111 ∷ 0 ∷ 0 ∷
     []
 
--- by request and kind of answer, a byte each from byte 1 on: three sets of states before, the set of states after, the duty
+-- by request and kind of answer, a byte each: three sets of states before, nothing, the set of states after, the duty
 abbrev pub entries : List ℕ
 entries =
     0 ∷ 0x000100270700 ∷ 0x000100022200 ∷ 0x030100487f00 ∷ 0x002100220200 ∷ 0x002100022200 ∷ 0x004000004800 ∷ 0x004000004800 ∷
@@ -84,7 +84,7 @@ entries =
     0x010100484800 ∷ 0x010100484800 ∷ 0x010100001000 ∷ 0 ∷ 0 ∷ 0 ∷ 0 ∷ 0 ∷
     0 ∷ 0 ∷ 0 ∷ 0 ∷ 0 ∷ 0 ∷ 0 ∷ 0 ∷
     0 ∷ 0 ∷ 0 ∷ 0 ∷ 0 ∷ 0 ∷ 0 ∷ 0 ∷
-    0 ∷ 0x0401487f7f00 ∷ 0 ∷ 0x030100487f00 ∷ 0 ∷ 0 ∷ 0 ∷ 0 ∷
+    0 ∷ 0x0401007f7f48 ∷ 0 ∷ 0x030100487f00 ∷ 0 ∷ 0 ∷ 0 ∷ 0 ∷
     0 ∷ 0 ∷ 0 ∷ 0 ∷ 0 ∷ 0 ∷ 0 ∷ 0 ∷
     0 ∷ 0 ∷ 0 ∷ 0 ∷ 0 ∷ 0 ∷ 0 ∷ 0 ∷
     0 ∷ 0 ∷ 0 ∷ 0 ∷ 0 ∷ 0 ∷ 0 ∷ 0 ∷

@@ -63,7 +63,7 @@ fn entry_of(request: u8, kind: u64) -> u64
     table::entry((table::start((request % 32) as u64) + kind) % 256)
 }
 
-// Which of the entry's three sets of states before holds; 0 for none.
+// Which of the entry's three sets of states before holds.
 fn choice_of(kind: u64, flags: u64) -> u64
     ensures { λ r. ⌜ r ≡ choiceOf kind flags ⌝ }
 {

@@ -277,14 +277,14 @@ fn past_choice(n: u64) -> u64
     0
 }
 
-// By the kind of an answer, two bits for each context: which of the three sets of states before holds; 0 for none.
+// By the kind of an answer, two bits for each context: which of the three sets of states before holds.
 pub fn choice(n: u64) -> u64
     ensures { λ r. ⌜ r ≡ getD choices n 0 ⌝ }
 {
     match n {
         0 => 0,
         // SnpResp_I, Invalid, OK
-        1 => 0x6666ffff66666666,
+        1 => 0x6666000066666666,
         // SnpRespData_I, Invalid, OK
         2 => 0x6666000066666666,
         // SnpResp_I, Invalid, NDERR
@@ -355,7 +355,7 @@ fn past_entry(n: u64) -> u64
     0
 }
 
-// By request and kind of answer, a byte each from byte 1 on: three sets of states before, the set of states after, the duty.
+// By request and kind of answer, a byte each: three sets of states before, nothing, the set of states after, the duty.
 pub fn entry(n: u64) -> u64
     ensures { λ r. ⌜ r ≡ getD entries n 0 ⌝ }
 {
@@ -577,7 +577,7 @@ pub fn entry(n: u64) -> u64
         159 => 0,
         160 => 0,
         // SnpResp_I, Invalid, OK
-        161 => 0x0401487f7f00,
+        161 => 0x0401007f7f48,
         162 => 0,
         // SnpResp_I, Invalid, NDERR
         163 => 0x030100487f00,

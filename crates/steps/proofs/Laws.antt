@@ -22,7 +22,7 @@ use Rattle.rows.specs.declared.Table.{Table}
 use Rattle.rows.specs.declared.Table.the-variants.{NdErr}
 use Rattle.sets.specs.Sets.{setOf, holdsDirty}
 use Rattle.rows.specs.Event.{byte, requestOf, channelOf, opcodeOf, respOf, fwdStateOf, respErrOf, seen}
-use Rattle.steps.specs.Steps.{duty, noDuty, Home, Requester, lost, discarded}
+use Rattle.steps.specs.Steps.{duty, discards, noDuty, Home, Requester, lost, discarded}
 use Rattle.steps.specs.Code.{bytesFrom, eventBytes, mark, at-before, at-ret, at-table, at-resp, at-fwd, at-message, columnAt}
 use Rattle.steps.specs.Code.{tableAt, answerAt, rowAt, rowFits, rowAdds, tablesOf, messageOf, rowKey, wireKey, eventKey}
 use Rattle.steps.specs.declared.Row as code
@@ -155,6 +155,15 @@ duty-by e before r f q x home requester held d₀ d₁ d₂ d hr hh hf hp hq hx 
     (h₁
     ∙ ap₂ (λ (b : Bool) (n : ℕ). cond b lost n) (ap₂ (λ (n : ℕ) (b : Bool). eqb n NDERR && b) hx hs)
     (h₀ ∙ ap₂ (λ (b c : Bool). cond (b && c) discarded noDuty) (ap₂ (λ (n m : ℕ). eqb n SnpMakeInvalid && eqb m OK) hq hx) hs)))
+
+-- the duty depends on the set before only by whether it holds a Dirty state
+pub duty-like : (e : List ℕ) (m n : ℕ) → holdsDirty m ≡ holdsDirty n → duty e m ≡ duty e n
+unfolding duty
+duty-like e m n h =
+    ap
+    (λ (b : Bool).
+    cond (respPD (respOf e)) Home (cond (fwdPD (fwdStateOf e)) Requester (cond (eqb (respErrOf e) NDERR && b) lost (cond (discards e && b) discarded noDuty))))
+    h
 
 -- the key of the event, from its table part and its message part
 pub key-by : (e : List ℕ) (tables message key : ℕ) → tables ≡ tablesOf (requestOf e) (respErrOf e) → message ≡ messageOf (channelOf e) (opcodeOf e)
