@@ -3,13 +3,13 @@
 use mathlib.Core.Path.{_≡_, refl, sym, _∙_, ap, ap₂}
 use mathlib.Core.Bool.{Bool, true, false, _&&_, _||_, not, false≢true, or-false, or-assoc}
 use mathlib.Core.List.{List, [], _∷_, _++_, map}
-use Prim.Native.Nat.{ℕ, zero, suc, _/_, _%_, _^_, _<_, _≤_}
+use Prim.Native.Nat.{ℕ, zero, suc, _+_, _/_, _%_, _^_, _<_, _≤_}
 use native.Mathlib.Nat.{mod-eq-of-lt}
 use native.Mathlib.Omega.{arith}
 use borrow.Author.Tests.{eqb-true, eqb-false, ltb-true}
 use lib.Dec.{eqb, ltb}
 use lib.ListN.{getD}
-use Rattle.kinds.specs.Tests.{any, all, same, _∈?_, beyond}
+use Rattle.kinds.specs.Tests.{any, all, same, _∈?_, beyond, beside}
 use Rattle.kinds.specs.Codes.{I, UC, UCE, UD, UDP, SC, SD, states}
 
 -- the element is in the list
@@ -188,3 +188,8 @@ same-equal (x ∷ xs) (y ∷ ys) h =
 pub beyond-le : (n number : ℕ) → beyond number n → n ≤ number
 beyond-le zero number h = omega arith
 beyond-le (suc n) number h = omega (arith, beyond-le n number (h .0), h .1)
+
+-- a number that is none of n from `first` on, and not below `first`, is past them
+pub beside-le : (first n number : ℕ) → beside number first n → first ≤ number → first + n ≤ number
+beside-le first zero number h k = omega arith
+beside-le first (suc n) number h k = omega (arith, beside-le first n number (h .0) k, h .1)

@@ -1,15 +1,17 @@
 -- Laws about what the functions compute, over plain variables.
 -- Assumes nothing.
 use mathlib.Core.Path.{_≡_, refl, sym, _∙_, ap, ap₂}
-use mathlib.Core.Bool.{Bool, true, cond}
-use mathlib.Core.List.{List, [], _∷_, map}
-use Prim.Native.Nat.{ℕ, _+_, _*_, _/_, _%_, _^_, _<_, _≤_}
-use borrow.Author.Tests.{eq-eqb, ne-eqb, leb-true}
+use mathlib.Core.Bool.{Bool, true, false, cond}
+use mathlib.Core.List.{List, [], _∷_, _++_, map}
+use Prim.Native.Nat.{ℕ, zero, suc, _+_, _*_, _/_, _%_, _^_, _<_, _≤_}
+use native.Mathlib.Omega.{arith}
+use borrow.Author.Tests.{eq-eqb, ne-eqb, leb-true, leb-false}
 use lib.Bits.{bitAnd}
 use lib.Dec.{eqb, leb}
-use lib.ListN.{getD}
+use lib.ListN.{getD, drop, replicate, List·getD-eq-default}
+use Rattle.kinds.specs.Tests.{beside}
 use Rattle.kinds.specs.Codes.{states, stateNotSeen}
-use Rattle.kinds.proofs.Lists.{seven}
+use Rattle.kinds.proofs.Lists.{seven, beside-le}
 use Rattle.sets.specs.Sets.{setOf, bit}
 use Rattle.words.specs.Words.{half}
 use Rattle.rows.specs.Event.{requestOf, stateAfterOf, seen}
@@ -28,13 +30,13 @@ unfolding kindOf
 kind-none answer slot h k =
     sym (ap (λ (b : Bool). cond b (slot / 2 ^ 32) 0) (ne-eqb (slot % 2 ^ 32) answer k)) ∙ ap (λ (n : ℕ). kindIn n answer) h
 
--- where the entries of a request start, 192 at most
-pub start-most : (n : ℕ) → getD starts n 0 ≤ 192
-start-most n = leb-true (getD starts n 0) 192 (all-getD (λ m. leb m 192) starts n refl refl)
+-- where the entries of a request start, 448 at most
+pub start-most : (n : ℕ) → getD starts n 0 ≤ 448
+start-most n = leb-true (getD starts n 0) 448 (all-getD (λ m. leb m 448) starts n refl refl)
 
 -- the entry of a request and a kind, from where the request's entries start
-pub entry-by : (request kind start n : ℕ) → start ≡ getD starts (request % 32) 0 → n ≡ getD entries ((start + kind) % 256) 0 → n ≡ entryOf request kind
-entry-by request kind start n h k = k ∙ ap (λ (m : ℕ). getD entries ((m + kind) % 256) 0) h
+pub entry-by : (request kind start n : ℕ) → start ≡ getD starts (request % 32) 0 → n ≡ getD entries ((start + kind) % 512) 0 → n ≡ entryOf request kind
+entry-by request kind start n h k = k ∙ ap (λ (m : ℕ). getD entries ((m + kind) % 512) 0) h
 
 -- two bits of the choices of a kind
 pub choice-by : (kind flags context c : ℕ) → context ≡ contextOf flags → c ≡ getD choices kind 0 → c / 2 ^ (context * 2) % 4 ≡ choiceOf kind flags
@@ -72,3 +74,17 @@ pub sets-parts : (e : List ℕ) (request flags answer n among : ℕ) (sets : Lis
     → n ≡ lookedUp request flags answer → among ≡ seenAfter e → sets ≡ spread n among → sets ≡ lookedSets e
 unfolding lookedSets
 sets-parts e request flags answer n among sets h k l p q t = t ∙ ap₂ spread (effect-parts e request flags answer n h k l p) q
+
+-- the first of a list that starts with so many zeros
+first-zero : (k : ℕ) (l : List ℕ) (n : ℕ) → n < k → getD (replicate k 0 ++ l) n 0 ≡ 0
+first-zero zero l n h = absurd (omega arith)
+first-zero (suc k) l zero h = refl
+first-zero (suc k) l (suc n) h = first-zero k l n (omega arith)
+
+-- a number that the table of entries does not have
+pub no-entry : (n : ℕ) → beside n 256 256 → 0 ≡ getD entries n 0
+no-entry n h = go (leb 256 n) refl
+  where
+    go : (b : Bool) → leb 256 n ≡ b → 0 ≡ getD entries n 0
+    go true k = sym (List·getD-eq-default entries 0 (beside-le 256 256 n h (leb-true 256 n k)))
+    go false k = sym (first-zero 256 (drop 256 entries) n (omega (arith, leb-false 256 n k)))

@@ -39,7 +39,7 @@ effectIn entry choice = entry / 2 ^ (choice * 8) % 256 + entry / 2 ^ 32 * 256
 
 -- the entry for a request and a kind of answer
 abbrev pub entryOf : ℕ → ℕ → ℕ
-entryOf request kind = getD entries ((getD starts (request % 32) 0 + kind) % 256) 0
+entryOf request kind = getD entries ((getD starts (request % 32) 0 + kind) % 512) 0
 
 -- which of the three sets of states before holds for a kind of answer, by the flags of the snoop
 abbrev pub choiceOf : ℕ → ℕ → ℕ

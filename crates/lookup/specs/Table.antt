@@ -41,11 +41,11 @@ slots =
     0x0f21214601 ∷ 0x1ae7200601 ∷ 0 ∷ 0 ∷ 0 ∷ 0 ∷ 0x0d21204601 ∷ 0 ∷
     []
 
--- where the entries of a request start, by the request: requests with the same rows share them, and 192 is for none of the ten
+-- where the entries of a request start, by the request: requests with the same rows share them, and 448 is for none of the ten
 abbrev pub starts : List ℕ
 starts =
-    192 ∷ 0 ∷ 0 ∷ 192 ∷ 0 ∷ 192 ∷ 192 ∷ 96 ∷ 192 ∷ 128 ∷ 160 ∷ 192 ∷ 192 ∷ 192 ∷ 192 ∷ 192 ∷
-    192 ∷ 192 ∷ 32 ∷ 192 ∷ 32 ∷ 0 ∷ 64 ∷ 192 ∷ 192 ∷ 192 ∷ 192 ∷ 192 ∷ 192 ∷ 192 ∷ 192 ∷ 192 ∷
+    448 ∷ 256 ∷ 256 ∷ 448 ∷ 256 ∷ 448 ∷ 448 ∷ 352 ∷ 448 ∷ 384 ∷ 416 ∷ 448 ∷ 448 ∷ 448 ∷ 448 ∷ 448 ∷
+    448 ∷ 448 ∷ 288 ∷ 448 ∷ 288 ∷ 256 ∷ 320 ∷ 448 ∷ 448 ∷ 448 ∷ 448 ∷ 448 ∷ 448 ∷ 448 ∷ 448 ∷ 448 ∷
     []
 
 -- by the kind of an answer, two bits for each context: which of the three sets of states before holds
@@ -61,9 +61,41 @@ choices =
     0x4444000044444444 ∷ 0x1111000011111111 ∷ 0 ∷ 0 ∷
     []
 
--- by request and kind of answer, a byte each: three sets of states before, nothing, the set of states after, the duty
+-- by request and kind of answer, from number 256 on, a byte each: three sets of states before, nothing, the set of states after, the duty
 abbrev pub entries : List ℕ
 entries =
+    0 ∷ 0 ∷ 0 ∷ 0 ∷ 0 ∷ 0 ∷ 0 ∷ 0 ∷
+    0 ∷ 0 ∷ 0 ∷ 0 ∷ 0 ∷ 0 ∷ 0 ∷ 0 ∷
+    0 ∷ 0 ∷ 0 ∷ 0 ∷ 0 ∷ 0 ∷ 0 ∷ 0 ∷
+    0 ∷ 0 ∷ 0 ∷ 0 ∷ 0 ∷ 0 ∷ 0 ∷ 0 ∷
+    0 ∷ 0 ∷ 0 ∷ 0 ∷ 0 ∷ 0 ∷ 0 ∷ 0 ∷
+    0 ∷ 0 ∷ 0 ∷ 0 ∷ 0 ∷ 0 ∷ 0 ∷ 0 ∷
+    0 ∷ 0 ∷ 0 ∷ 0 ∷ 0 ∷ 0 ∷ 0 ∷ 0 ∷
+    0 ∷ 0 ∷ 0 ∷ 0 ∷ 0 ∷ 0 ∷ 0 ∷ 0 ∷
+    0 ∷ 0 ∷ 0 ∷ 0 ∷ 0 ∷ 0 ∷ 0 ∷ 0 ∷
+    0 ∷ 0 ∷ 0 ∷ 0 ∷ 0 ∷ 0 ∷ 0 ∷ 0 ∷
+    0 ∷ 0 ∷ 0 ∷ 0 ∷ 0 ∷ 0 ∷ 0 ∷ 0 ∷
+    0 ∷ 0 ∷ 0 ∷ 0 ∷ 0 ∷ 0 ∷ 0 ∷ 0 ∷
+    0 ∷ 0 ∷ 0 ∷ 0 ∷ 0 ∷ 0 ∷ 0 ∷ 0 ∷
+    0 ∷ 0 ∷ 0 ∷ 0 ∷ 0 ∷ 0 ∷ 0 ∷ 0 ∷
+    0 ∷ 0 ∷ 0 ∷ 0 ∷ 0 ∷ 0 ∷ 0 ∷ 0 ∷
+    0 ∷ 0 ∷ 0 ∷ 0 ∷ 0 ∷ 0 ∷ 0 ∷ 0 ∷
+    0 ∷ 0 ∷ 0 ∷ 0 ∷ 0 ∷ 0 ∷ 0 ∷ 0 ∷
+    0 ∷ 0 ∷ 0 ∷ 0 ∷ 0 ∷ 0 ∷ 0 ∷ 0 ∷
+    0 ∷ 0 ∷ 0 ∷ 0 ∷ 0 ∷ 0 ∷ 0 ∷ 0 ∷
+    0 ∷ 0 ∷ 0 ∷ 0 ∷ 0 ∷ 0 ∷ 0 ∷ 0 ∷
+    0 ∷ 0 ∷ 0 ∷ 0 ∷ 0 ∷ 0 ∷ 0 ∷ 0 ∷
+    0 ∷ 0 ∷ 0 ∷ 0 ∷ 0 ∷ 0 ∷ 0 ∷ 0 ∷
+    0 ∷ 0 ∷ 0 ∷ 0 ∷ 0 ∷ 0 ∷ 0 ∷ 0 ∷
+    0 ∷ 0 ∷ 0 ∷ 0 ∷ 0 ∷ 0 ∷ 0 ∷ 0 ∷
+    0 ∷ 0 ∷ 0 ∷ 0 ∷ 0 ∷ 0 ∷ 0 ∷ 0 ∷
+    0 ∷ 0 ∷ 0 ∷ 0 ∷ 0 ∷ 0 ∷ 0 ∷ 0 ∷
+    0 ∷ 0 ∷ 0 ∷ 0 ∷ 0 ∷ 0 ∷ 0 ∷ 0 ∷
+    0 ∷ 0 ∷ 0 ∷ 0 ∷ 0 ∷ 0 ∷ 0 ∷ 0 ∷
+    0 ∷ 0 ∷ 0 ∷ 0 ∷ 0 ∷ 0 ∷ 0 ∷ 0 ∷
+    0 ∷ 0 ∷ 0 ∷ 0 ∷ 0 ∷ 0 ∷ 0 ∷ 0 ∷
+    0 ∷ 0 ∷ 0 ∷ 0 ∷ 0 ∷ 0 ∷ 0 ∷ 0 ∷
+    0 ∷ 0 ∷ 0 ∷ 0 ∷ 0 ∷ 0 ∷ 0 ∷ 0 ∷
     0 ∷ 0x000100270700 ∷ 0x000100022200 ∷ 0x030100487f00 ∷ 0x002100220200 ∷ 0x002100022200 ∷ 0x004000004800 ∷ 0x004000004800 ∷
     0x010100484800 ∷ 0x010100484800 ∷ 0x010100001000 ∷ 0x012100004800 ∷ 0x012100004800 ∷ 0 ∷ 0 ∷ 0 ∷
     0 ∷ 0 ∷ 0 ∷ 0 ∷ 0 ∷ 0 ∷ 0 ∷ 0 ∷

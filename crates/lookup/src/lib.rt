@@ -60,7 +60,7 @@ fn entry_of(request: u8, kind: u64) -> u64
     requires { ⌜ kind < 32 ⌝ }
     ensures { λ r. ⌜ r ≡ entryOf request kind ⌝ }
 {
-    table::entry((table::start((request % 32) as u64) + kind) % 256)
+    table::entry((table::start((request % 32) as u64) + kind) % 512)
 }
 
 // Which of the entry's three sets of states before holds.
