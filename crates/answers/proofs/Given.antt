@@ -15,7 +15,7 @@ use Rattle.answers.specs.declared.Question.{Question}
 use Rattle.answers.specs.Answers.{questionBytes, answersTo}
 use Rattle.answers.specs.Listed.{answerLength, mostAnswers, asking, faultOf, ListLeft, acceptedList, refusedList, listed}
 use Rattle.answers.specs.Given.{Good, Given, bad-byte, bad-request, short-room, accepted}
-use Rattle.answers.specs.Table.{lists, spans}
+use Rattle.answers.specs.Table.{spans}
 use Rattle.answers.specs.Code.{spanOf}
 use Rattle.answers.proofs.Lists.{questions, questionAt, every-question}
 use Rattle.answers.proofs.Whole.{list-length, left-fault, left-short, left-accepted}
@@ -80,7 +80,7 @@ short : Question → Bool
 short q = leb (spanOf q % 64) mostAnswers
 
 all-short : all (λ b. short (questionAt b)) questions ≡ true
-unfolding short questions spanOf lists spans
+unfolding short questions spanOf spans
 all-short = refl
 
 pub most : (q : Question) → Good issueE q → length (answersTo issueE q) ≤ mostAnswers

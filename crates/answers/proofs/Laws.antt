@@ -19,8 +19,8 @@ use Rattle.answers.specs.declared.Question.{Question}
 use Rattle.answers.specs.declared.Listed.{Listed}
 use Rattle.answers.specs.Answers.{questionBytes}
 use Rattle.answers.specs.Listed.{answerLength, asking, joined}
-use Rattle.answers.specs.Table.{lists, spans, numbers, answers, contextCount, listCount, numberCount, firstOnDat}
-use Rattle.answers.specs.Code.{tablesOf, contextOf, spanOf, nineOf, answerAt, answersAt}
+use Rattle.answers.specs.Table.{spans, numbers, answers, listCount, numberCount, firstOnDat}
+use Rattle.answers.specs.Code.{tablesOf, contextOf, listAt, spanOf, nineOf, answerAt, answersAt}
 
 -- the choices of `tables`, each from the one before
 pub tables-by : (request excl plain both printed make clean r : ℕ)
@@ -39,15 +39,11 @@ pub range-by : (q : Question) (fine : Bool)
 range-by q fine h = h ∙ and-5 (ltb (q .«ret_to_src») 2) (ltb (q .«do_not_go_to_sd») 2) (ltb (q .excl) 2) (ltb (q .tag .0) 3) (ltb (q .before .0) 7)
 
 -- the span of a question, from one lookup after another
-pub span-by : (q : Question) (context list span : ℕ) → context ≡ contextOf q → list ≡ getD lists context 0 → span ≡ getD spans list 0 → span ≡ spanOf q
+pub span-by : (q : Question) (context list span : ℕ) → context ≡ contextOf q → list ≡ listAt context → span ≡ getD spans list 0 → span ≡ spanOf q
 unfolding spanOf
-span-by q context list span hc hl hs = hs ∙ ap (λ (n : ℕ). getD spans n 0) (hl ∙ ap (λ (n : ℕ). getD lists n 0) hc)
+span-by q context list span hc hl hs = hs ∙ ap (λ (n : ℕ). getD spans n 0) (hl ∙ ap listAt hc)
 
 -- the lengths of the tables
-pub lists-length : length lists ≡ contextCount
-unfolding lists
-lists-length = refl
-
 pub spans-length : length spans ≡ listCount
 unfolding spans
 spans-length = refl

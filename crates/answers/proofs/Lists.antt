@@ -18,7 +18,7 @@ use Rattle.answers.specs.declared.Question.{Question}
 use Rattle.answers.specs.Answers.{question, questionBytes, answerLimits, permits, numbersFrom, choices, allBelow, answersTo}
 use Rattle.answers.specs.Ascending.{ascending}
 use Rattle.answers.specs.Listed.{answerLength, asking, faultOf}
-use Rattle.answers.specs.Table.{lists, spans, numbers, answers, firstOnDat}
+use Rattle.answers.specs.Table.{spans, numbers, answers, firstOnDat}
 use Rattle.answers.specs.Code.{spanOf, nineOf, answerAt, answersIn}
 use Rattle.answers.proofs.Ascending.{all-member, same-members}
 use Rattle.answers.proofs.Choices.{chosen, choices-members, chosen-below, allBelow-members, allBelow-ascending, keep-members, keep-ascending}
@@ -56,7 +56,7 @@ rightList q = ascending (answersIn (spanOf q)) && alike (answersIn (spanOf q)) (
 
 -- THE COMPUTED FACT
 all-right : all (λ b. rightList (questionAt b)) questions ≡ true
-unfolding rightList questions rows asked rowChoices rowAsked answersOf order insert sorted alike lists spans numbers spanOf answerAt answersIn
+unfolding rightList questions rows asked rowChoices rowAsked answersOf order insert sorted alike spans numbers spanOf answerAt answersIn
 all-right = refl
 
 -- every answer of the table is in range, on either channel

@@ -15,7 +15,7 @@ use Rattle.answers.specs.declared.Question.{Question}
 use Rattle.answers.specs.declared.Listed.{Listed}
 use Rattle.answers.specs.Answers.{answersTo}
 use Rattle.answers.specs.Listed.{answerLength, faultOf, joined, ListLeft, listLeft, result, acceptedList, refusedList, listedIn, listed}
-use Rattle.answers.specs.Table.{lists, spans, numbers, numberCount}
+use Rattle.answers.specs.Table.{spans, numbers, numberCount}
 use Rattle.answers.specs.Code.{spanOf, answersAt, answersIn}
 use Rattle.answers.proofs.Lists.{questions, questionAt, every-question, table-right}
 use Rattle.answers.proofs.Laws.{numbers-length, answers-length}
@@ -25,7 +25,7 @@ spanFits : Question → Bool
 spanFits q = leb (spanOf q / 64 + spanOf q % 64) numberCount
 
 all-fit : all (λ b. spanFits (questionAt b)) questions ≡ true
-unfolding spanFits questions spanOf lists spans
+unfolding spanFits questions spanOf spans
 all-fit = refl
 
 pub span-fits : (q : Question) → faultOf issueE q ≡ 0 → spanOf q / 64 + spanOf q % 64 ≤ length numbers

@@ -24,11 +24,15 @@ tablesOf request excl =
 -- the context of a question: tables, RetToSrc, DoNotGoToSD, Dirty tags and state before
 abbrev pub contextOf : Question → ℕ
 contextOf q =
-    (((tablesOf (q .request .0) (q .excl) * 2 + q .«ret_to_src») * 2 + q .«do_not_go_to_sd») * 2 + cond (eqb (q .tag .0) tagDirty) 1 0) * 7 + q .before .0
+    (((tablesOf (q .request .0) (q .excl) * 2 + q .«ret_to_src») * 2 + q .«do_not_go_to_sd») * 2 + cond (eqb (q .tag .0) tagDirty) 1 0) * 8 + q .before .0
+
+-- the list of a context: a byte of a word, by the state before
+abbrev pub listAt : ℕ → ℕ
+listAt context = getD lists (context / 8) 0 / 2 ^ (context % 8 * 8) % 256
 
 -- where the list of a question starts, times 64, plus how many answers it has
 unfoldable pub spanOf : Question → ℕ
-spanOf q = getD spans (getD lists (contextOf q) 0) 0
+spanOf q = getD spans (listAt (contextOf q)) 0
 
 -- nine bytes: a channel, and eight bytes from one number, the lowest first
 abbrev pub nineOf : ℕ → ℕ → List ℕ

@@ -10,8 +10,8 @@ ghost use mathlib.Core.List.{_++_};
 ghost use lib.ListN.{length, getD, take, drop};
 ghost use Rattle.event.specs.Refusals.{issueE};
 ghost use Rattle.answers.specs.Listed.{answerLength, mostAnswers, joined, faultOf, listLeft, listed};
-ghost use Rattle.answers.specs.Table.{lists, spans, numbers};
-ghost use Rattle.answers.specs.Code.{tablesOf, contextOf, spanOf, nineOf, answersAt};
+ghost use Rattle.answers.specs.Table.{spans, numbers};
+ghost use Rattle.answers.specs.Code.{tablesOf, contextOf, listAt, spanOf, nineOf, answersAt};
 
 mod table;
 
@@ -73,26 +73,21 @@ fn tables(request: Request, excl: u8) -> u8
 }
 
 // What the list of a question depends on, in one number: tables, RetToSrc, DoNotGoToSD, Dirty tags and state before.
-fn context(q: Question) -> usize
+fn context(q: Question) -> u64
     ensures { λ r. ⌜ r ≡ contextOf q ⌝ }
 {
-    let tables = tables(q.request, q.excl) as usize;
-    let dirty = kinds::choose_byte(q.tag.0 == TagState::DIRTY.0, 1, 0) as usize;
-    let ret = q.ret_to_src as usize;
-    let no_sd = q.do_not_go_to_sd as usize;
-    (((tables * 2 + ret) * 2 + no_sd) * 2 + dirty) * 7 + q.before.0 as usize
+    let tables = tables(q.request, q.excl) as u64;
+    let dirty = kinds::choose_byte(q.tag.0 == TagState::DIRTY.0, 1, 0) as u64;
+    let ret = q.ret_to_src as u64;
+    let no_sd = q.do_not_go_to_sd as u64;
+    (((tables * 2 + ret) * 2 + no_sd) * 2 + dirty) * 8 + q.before.0 as u64
 }
 
-// The number of the list of a context; list 0 past the last context.
-fn list_of(context: usize) -> u8
-    ensures { λ r. ⌜ r ≡ getD lists context 0 ⌝ }
+// The number of the list of a context: a byte of a word, by the state before.
+fn list_of(context: u64) -> u8
+    ensures { λ r. ⌜ r ≡ listAt context ⌝ }
 {
-    let lists = table::LISTS;
-    if context < table::CONTEXTS {
-        lists[context]
-    } else {
-        0
-    }
+    ((table::lists(context / 8) >> (context % 8 * 8)) % 256) as u8
 }
 
 // The span of a list, which is where it starts, times 64, plus its number of answers; 0 past the last list.

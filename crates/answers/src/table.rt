@@ -2,10 +2,7 @@
 ghost use mathlib.Core.Path.{_≡_};
 ghost use lib.ListN.{getD};
 ghost use Rattle.kinds.specs.Tests.{beyond};
-ghost use Rattle.answers.specs.Table.{answers};
-
-// How many contexts there are.
-pub const CONTEXTS: usize = 392;
+ghost use Rattle.answers.specs.Table.{lists, answers};
 
 // How many lists there are.
 pub const LIST_COUNT: usize = 39;
@@ -16,36 +13,78 @@ pub const SPAN: usize = 64;
 // The number of the first answer on DAT; those before it are on RSP.
 pub const FIRST_ON_DAT: u8 = 13;
 
-// The list of each context, by tables, RetToSrc and DoNotGoToSD; a line has the seven states before, without and with Dirty tags.
-pub const LISTS: [u8; CONTEXTS] = *b"\
-\x00\x01\x00\x02\x03\x04\x02\x05\x05\x05\x06\x05\x05\x06\
-\x00\x01\x00\x07\x03\x04\x07\x05\x05\x05\x08\x05\x05\x08\
-\x00\x01\x00\x02\x03\x09\x02\x05\x05\x05\x06\x05\x05\x06\
-\x00\x01\x00\x07\x03\x09\x07\x05\x05\x05\x08\x05\x05\x08\
-\x00\x0a\x00\x0b\x03\x0a\x0b\x05\x05\x05\x0c\x05\x05\x0c\
-\x00\x0a\x00\x0d\x03\x0a\x0d\x05\x05\x05\x0e\x05\x05\x0e\
-\x00\x0f\x00\x10\x03\x0f\x10\x05\x05\x05\x11\x05\x05\x11\
-\x00\x0f\x00\x12\x03\x0f\x12\x05\x05\x05\x0e\x05\x05\x0e\
-\x00\x13\x00\x14\x03\x13\x14\x05\x05\x05\x15\x05\x05\x15\
-\x00\x13\x00\x16\x03\x13\x16\x05\x05\x05\x17\x05\x05\x17\
-\x00\x18\x00\x19\x03\x18\x19\x05\x05\x05\x1a\x05\x05\x1a\
-\x00\x18\x00\x16\x03\x18\x16\x05\x05\x05\x17\x05\x05\x17\
-\x00\x1b\x00\x1c\x03\x1b\x1c\x05\x05\x05\x1d\x05\x05\x1d\
-\x00\x1b\x00\x1e\x03\x1b\x1e\x05\x05\x05\x1f\x05\x05\x1f\
-\x00\x20\x00\x21\x03\x20\x21\x05\x05\x05\x22\x05\x05\x22\
-\x00\x20\x00\x1e\x03\x20\x1e\x05\x05\x05\x1f\x05\x05\x1f\
-\x00\x23\x00\x24\x03\x00\x24\x05\x05\x05\x25\x05\x05\x25\
-\x00\x23\x00\x24\x03\x00\x24\x05\x05\x05\x25\x05\x05\x25\
-\x00\x23\x00\x24\x03\x26\x24\x05\x05\x05\x25\x05\x05\x25\
-\x00\x23\x00\x24\x03\x26\x24\x05\x05\x05\x25\x05\x05\x25\
-\x00\x00\x00\x24\x03\x00\x24\x05\x05\x05\x25\x05\x05\x25\
-\x00\x00\x00\x24\x03\x00\x24\x05\x05\x05\x25\x05\x05\x25\
-\x00\x00\x00\x24\x03\x00\x24\x05\x05\x05\x25\x05\x05\x25\
-\x00\x00\x00\x24\x03\x00\x24\x05\x05\x05\x25\x05\x05\x25\
-\x00\x00\x00\x00\x00\x00\x00\x05\x05\x05\x00\x05\x05\x00\
-\x00\x00\x00\x00\x00\x00\x00\x05\x05\x05\x00\x05\x05\x00\
-\x00\x00\x00\x00\x00\x00\x00\x05\x05\x05\x00\x05\x05\x00\
-\x00\x00\x00\x00\x00\x00\x00\x05\x05\x05\x00\x05\x05\x00";
+// The lists past the last context: 0.
+fn past_lists(n: u64) -> u64
+    requires { ⌜ beyond n 56 ⌝ }
+    ensures { λ r. ⌜ r ≡ getD lists n 0 ⌝ }
+{
+    0
+}
+
+// The lists of the seven states before, a byte each, that of I lowest; by tables, RetToSrc, DoNotGoToSD and Dirty tags.
+pub fn lists(n: u64) -> u64
+    ensures { λ r. ⌜ r ≡ getD lists n 0 ⌝ }
+{
+    match n {
+        0 => 0x02040302000100,
+        1 => 0x06050506050505,
+        2 => 0x07040307000100,
+        3 => 0x08050508050505,
+        4 => 0x02090302000100,
+        5 => 0x06050506050505,
+        6 => 0x07090307000100,
+        7 => 0x08050508050505,
+        8 => 0x0b0a030b000a00,
+        9 => 0x0c05050c050505,
+        10 => 0x0d0a030d000a00,
+        11 => 0x0e05050e050505,
+        12 => 0x100f0310000f00,
+        13 => 0x11050511050505,
+        14 => 0x120f0312000f00,
+        15 => 0x0e05050e050505,
+        16 => 0x14130314001300,
+        17 => 0x15050515050505,
+        18 => 0x16130316001300,
+        19 => 0x17050517050505,
+        20 => 0x19180319001800,
+        21 => 0x1a05051a050505,
+        22 => 0x16180316001800,
+        23 => 0x17050517050505,
+        24 => 0x1c1b031c001b00,
+        25 => 0x1d05051d050505,
+        26 => 0x1e1b031e001b00,
+        27 => 0x1f05051f050505,
+        28 => 0x21200321002000,
+        29 => 0x22050522050505,
+        30 => 0x1e20031e002000,
+        31 => 0x1f05051f050505,
+        32 => 0x24000324002300,
+        33 => 0x25050525050505,
+        34 => 0x24000324002300,
+        35 => 0x25050525050505,
+        36 => 0x24260324002300,
+        37 => 0x25050525050505,
+        38 => 0x24260324002300,
+        39 => 0x25050525050505,
+        40 => 0x24000324000000,
+        41 => 0x25050525050505,
+        42 => 0x24000324000000,
+        43 => 0x25050525050505,
+        44 => 0x24000324000000,
+        45 => 0x25050525050505,
+        46 => 0x24000324000000,
+        47 => 0x25050525050505,
+        48 => 0x00000000000000,
+        49 => 0x00050500050505,
+        50 => 0x00000000000000,
+        51 => 0x00050500050505,
+        52 => 0x00000000000000,
+        53 => 0x00050500050505,
+        54 => 0x00000000000000,
+        55 => 0x00050500050505,
+        _ => past_lists(n),
+    }
+}
 
 // The span of each list: where it starts among the numbers, times 64, plus how many answers it has.
 pub const SPANS: [u16; LIST_COUNT] = [

@@ -25,7 +25,7 @@ use Rattle.theorems.specs.Alone.{setFrom}
 use Rattle.theorems.specs.Listing.{InRange, isListed, nderrAnswer, noSuchTags, longestQuestion}
 -- their proofs
 use Rattle.kinds.proofs.Lists.{and-left, and-right, and-both}
-use Rattle.answers.specs.Table.{lists, spans}
+use Rattle.answers.specs.Table.{spans}
 use Rattle.answers.specs.Code.{spanOf}
 use Rattle.answers.proofs.Ascending.{not-itself, ascending-at}
 use Rattle.answers.proofs.Lists.{answers-members, answers-ascend}
@@ -90,7 +90,7 @@ pub longest-good : Good issueE longestQuestion
 longest-good = record { in-range = refl; known = refl }
 
 pub longest : length (answersTo issueE longestQuestion) ≡ mostAnswers
-unfolding spanOf lists spans
+unfolding spanOf spans
 longest = list-length longestQuestion (good-fault longestQuestion longest-good)
 
 -- So 9 is never met with a room of 261 bytes.

@@ -20,7 +20,7 @@ use Rattle.answers.specs.declared.Question.{Question}
 use Rattle.answers.specs.Answers.{questionBytes, eventWith, answerLimits, answersTo}
 use Rattle.answers.specs.Listed.{answerLength, asking}
 use Rattle.answers.specs.Given.{Good}
-use Rattle.answers.specs.Table.{lists, spans, numbers}
+use Rattle.answers.specs.Table.{spans, numbers}
 use Rattle.answers.specs.Code.{spanOf, answerAt, answersIn}
 use Rattle.answers.proofs.Lists.{questions, questionAt, every-question, table-right}
 use Rattle.answers.proofs.Given.{good-fault}
@@ -131,7 +131,7 @@ withNderr : Question → Bool
 withNderr q = cond (noSuchTags q) (eqb (length (answersIn (spanOf q))) 0) (any (same nderrAnswer) (answersIn (spanOf q)))
 
 all-with-nderr : all (λ b. withNderr (questionAt b)) questions ≡ true
-unfolding withNderr questions lists spans numbers spanOf answerAt answersIn
+unfolding withNderr questions spans numbers spanOf answerAt answersIn
 all-with-nderr = refl
 
 pub nderr-test : (q : Question) → Good issueE q → cond (noSuchTags q) (eqb (length (answersTo issueE q)) 0) (any (same nderrAnswer) (answersTo issueE q)) ≡ true

@@ -1,23 +1,26 @@
--- `answers::list_of` meets its contract: the code's list of numbers is `lists`.
+-- `answers::list_of` meets its contract: a byte of the word that is looked up.
 -- Assumes nothing.
-use mathlib.Core.Path.{refl, sym, subst}
-use Prim.Native.Nat.{ℕ, _≤_}
-use lib.ListN.{List·getD-eq-default}
-use Rattle.answers.specs.Table.{lists}
-use Rattle.answers.proofs.Laws.{lists-length}
+use mathlib.Core.Path.{ap}
+use Prim.Native.Nat.{ℕ, _*_, _/_, _%_, _^_}
 use borrow.Author.Needs.{needs}
 use Rattle.answers.proofs.list_of.Statement.{statement}
 use Rattle.answers.proofs.list_of.Tie as tie
 
-array-read-result : tie.Need-array-read-result
-array-read-result c = search needs
+lists-requires : tie.Need-lists-requires
+lists-requires c κs = search needs
+
+mul-result : tie.Need-mul-result
+mul-result c = search needs
+
+shr-result : tie.Need-shr-result
+shr-result c = search needs
+
+cast-result : tie.Need-cast-result
+cast-result c = search needs
 
 returns : tie.Need-returns
-unfolding lists
-returns c = refl
-
-returns-2 : tie.Need-returns-2
-returns-2 c = sym (List·getD-eq-default lists 0 (subst (λ (n : ℕ). n ≤ c .before .args .context) (sym lists-length) (c .if1 .left)))
+returns c =
+    ap (λ (w : ℕ). w / 2 ^ (c .before .args .context % 8 * 8) % 256) (c .lists .ensures)
 
 pub list-of-spec : {M : Type 1} → statement M
-list-of-spec = tie.close (tie.spec array-read-result returns returns-2)
+list-of-spec = tie.close (tie.spec lists-requires mul-result shr-result cast-result returns)
