@@ -61,7 +61,7 @@ choices =
     0x4444000044444444 ∷ 0x1111000011111111 ∷ 0 ∷ 0 ∷
     []
 
--- by request and kind of answer, from number 256 on, a byte each: three sets of states before, nothing, the set of states after, the duty
+-- by request and kind of answer, from 256 on, a byte each: three sets of states before, 0, the set of states after, the duty
 abbrev pub entries : List ℕ
 entries =
     0 ∷ 0 ∷ 0 ∷ 0 ∷ 0 ∷ 0 ∷ 0 ∷ 0 ∷

@@ -355,7 +355,7 @@ fn past_entry(n: u64) -> u64
     0
 }
 
-// By request and kind of answer, from number 256 on, a byte each: three sets of states before, nothing, the set of states after, the duty.
+// By request and kind of answer, from 256 on, a byte each: three sets of states before, 0, the set of states after, the duty.
 pub fn entry(n: u64) -> u64
     ensures { λ r. ⌜ r ≡ getD entries n 0 ⌝ }
 {
