@@ -1,4 +1,4 @@
-# The codes of definition 2, and the rules of definition 5.8 to 5.11, as the scripts that write tables need them. A row is a line of
+# The codes of definition 2, and the rules of definition 5.8 to 5.11 and 5.13, as the scripts that write tables need them. A row is a line of
 # printed_rows in scripts/printed-rows: table, star, state before, states after, RetToSrc, message, Resp, FwdState.
 BEGIN {
     split("I UC UCE UD UDP SC SD", state_names, " ")
@@ -17,6 +17,11 @@ function ops_of(dirty, before, message, resp, forward) {
     if (message == "SnpResp") return "0"
     if (dirty) return resp ~ /PD/ ? "2" : "1"
     return before == state["UDP"] ? "0" : "0 1"
+}
+
+# the error fields of forwarded data; without a forward the byte is 0
+function forward_errors_of(forward) {
+    return forward == "none" ? "0" : "0 2"
 }
 
 # the RespErr values of an answer of a printed table

@@ -4,28 +4,38 @@ use mathlib.Core.Bool.{Bool, true, false, cond}
 use mathlib.Core.List.{List, [], _∷_}
 use lib.Dec.{eqb}
 use Rattle.kinds.specs.Codes.{RSP, DAT, op-SnpResp, op-SnpRespFwded, op-SnpRespData, op-SnpRespDataPtl, op-SnpRespDataFwded}
-use Rattle.kinds.specs.Codes.{Resp-I, Resp-SC, Resp-SD, Resp-I-PD, Resp-SC-PD, Fwd-SC, Fwd-UC, Fwd-UD-PD, Fwd-SD-PD}
+use Rattle.kinds.specs.Codes.{OK, Resp-I, Resp-SC, Resp-SD, Resp-I-PD, Resp-SC-PD, Fwd-SC, Fwd-UC, Fwd-UD-PD, Fwd-SD-PD}
 use Rattle.kinds.specs.declared.Resp.{Resp}
 use Rattle.kinds.specs.declared.Forward.{Forward}
 use Rattle.kinds.specs.declared.Forward.the-variants.{NoForward, CompData}
 use Rattle.kinds.specs.declared.Answer.{Answer}
 use Rattle.kinds.specs.declared.Answer.the-variants.{SnpResp, SnpRespData, SnpRespDataPtl}
 
--- the forward that a FwdState stands for; 0 is none
-abbrev pub forwardAt : ℕ → Forward
-forwardAt state = cond (eqb state 0) NoForward (CompData (record { 0 = state }))
+-- the forward that a FwdState and the data's error field stand for; FwdState 0 is none
+abbrev pub forwardAt : ℕ → ℕ → Forward
+forwardAt state error = cond (eqb state 0) NoForward (CompData (record { 0 = state }) (record { 0 = error }))
 
 -- whether data is forwarded, and its Resp: event bytes 11 and 12
 abbrev pub forwardWire : Forward → List ℕ
 forwardWire NoForward = 0 ∷ 0 ∷ []
-forwardWire (CompData f) = 1 ∷ f .0 ∷ []
+forwardWire (CompData f x) = 1 ∷ f .0 ∷ []
+
+-- whether data is forwarded
+abbrev pub present : Forward → Bool
+present NoForward = false
+present (CompData f x) = true
+
+-- the error field of the forwarded data: event byte 14; 0 without a forward
+abbrev pub forwardError : Forward → ℕ
+forwardError NoForward = 0
+forwardError (CompData f x) = x .0
 
 -- channel, opcode, Resp, FwdState and the forward: event bytes 5 to 8, 11 and 12
 abbrev pub wire : Answer → List ℕ
 wire (SnpResp r NoForward) = RSP ∷ op-SnpResp ∷ r .0 ∷ 0 ∷ forwardWire NoForward
-wire (SnpResp r (CompData f)) = RSP ∷ op-SnpRespFwded ∷ r .0 ∷ f .0 ∷ forwardWire (CompData f)
+wire (SnpResp r (CompData f x)) = RSP ∷ op-SnpRespFwded ∷ r .0 ∷ f .0 ∷ forwardWire (CompData f x)
 wire (SnpRespData r NoForward) = DAT ∷ op-SnpRespData ∷ r .0 ∷ 0 ∷ forwardWire NoForward
-wire (SnpRespData r (CompData f)) = DAT ∷ op-SnpRespDataFwded ∷ r .0 ∷ f .0 ∷ forwardWire (CompData f)
+wire (SnpRespData r (CompData f x)) = DAT ∷ op-SnpRespDataFwded ∷ r .0 ∷ f .0 ∷ forwardWire (CompData f x)
 wire (SnpRespDataPtl r) = DAT ∷ op-SnpRespDataPtl ∷ r .0 ∷ 0 ∷ forwardWire NoForward
 
 -- whether the answer brings data to Home, on DAT
@@ -33,6 +43,12 @@ abbrev pub hasData : Answer → Bool
 hasData (SnpResp r f) = false
 hasData (SnpRespData r f) = true
 hasData (SnpRespDataPtl r) = true
+
+-- what an answer forwards
+abbrev pub forwardOf : Answer → Forward
+forwardOf (SnpResp r f) = f
+forwardOf (SnpRespData r f) = f
+forwardOf (SnpRespDataPtl r) = NoForward
 
 -- the Resp of an answer
 abbrev pub answerResp : Answer → ℕ
@@ -43,9 +59,9 @@ answerResp (SnpRespDataPtl r) = r .0
 -- the FwdState of an answer; 0 without a forward
 abbrev pub answerFwd : Answer → ℕ
 answerFwd (SnpResp r NoForward) = 0
-answerFwd (SnpResp r (CompData f)) = f .0
+answerFwd (SnpResp r (CompData f x)) = f .0
 answerFwd (SnpRespData r NoForward) = 0
-answerFwd (SnpRespData r (CompData f)) = f .0
+answerFwd (SnpRespData r (CompData f x)) = f .0
 answerFwd (SnpRespDataPtl r) = 0
 
 -- the five values of Resp
@@ -64,18 +80,18 @@ r-I-PD = record { 0 = Resp-I-PD }
 abbrev r-SC-PD : Resp
 r-SC-PD = record { 0 = Resp-SC-PD }
 
--- the four forwards
+-- the four forwards; a name says nothing of the error field, and OK stands for it
 abbrev CompData-SC : Forward
-CompData-SC = CompData (record { 0 = Fwd-SC })
+CompData-SC = CompData (record { 0 = Fwd-SC }) (record { 0 = OK })
 
 abbrev CompData-UC : Forward
-CompData-UC = CompData (record { 0 = Fwd-UC })
+CompData-UC = CompData (record { 0 = Fwd-UC }) (record { 0 = OK })
 
 abbrev CompData-UD-PD : Forward
-CompData-UD-PD = CompData (record { 0 = Fwd-UD-PD })
+CompData-UD-PD = CompData (record { 0 = Fwd-UD-PD }) (record { 0 = OK })
 
 abbrev CompData-SD-PD : Forward
-CompData-SD-PD = CompData (record { 0 = Fwd-SD-PD })
+CompData-SD-PD = CompData (record { 0 = Fwd-SD-PD }) (record { 0 = OK })
 
 -- The 22 answers under their names in the tables, with - in place of _ (definition 2.8).
 abbrev pub SnpResp-I : Answer

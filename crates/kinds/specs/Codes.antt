@@ -71,7 +71,7 @@ opUpdate = 2
 abbrev pub opMatch : ℕ
 opMatch = 3
 
--- RespErr (definition 2.3, byte 10).
+-- Error fields: RespErr of the answer to Home, and that of the forwarded data (definition 2.3, bytes 10 and 14).
 abbrev pub OK : ℕ
 OK = 0
 

@@ -5,7 +5,7 @@ use lib.ListN.{getD, take, drop}
 
 -- the length of an event in bytes
 abbrev pub eventLength : ℕ
-eventLength = 14
+eventLength = 15
 
 -- the most events of a trace
 abbrev pub mostEvents : ℕ
@@ -27,6 +27,6 @@ setIn table pair = getD table pair 0
 abbrev pub pairIn : List ℕ → ℕ → ℕ
 pairIn pairs k = getD pairs k 0
 
--- the 14 bytes of event k, from offset 14k
+-- the 15 bytes of event k, from offset 15k
 abbrev pub eventIn : List ℕ → ℕ → List ℕ
 eventIn events k = take eventLength (drop (k * eventLength) events)

@@ -3,7 +3,7 @@ ghost use mathlib.Core.Path.{_≡_};
 ghost use mathlib.Core.Bool.{cond};
 ghost use Rattle.kinds.specs.Codes.{dirty, requests, respPD, fwdPD};
 ghost use Rattle.kinds.specs.Tests.{_∈?_};
-ghost use Rattle.kinds.specs.Answers.{forwardAt, forwardWire, wire, hasData, answerResp, answerFwd};
+ghost use Rattle.kinds.specs.Answers.{forwardAt, forwardWire, present, forwardError, wire, hasData, forwardOf, answerResp, answerFwd};
 ghost use Rattle.kinds.specs.Places.{setIn, pairIn, eventIn};
 ghost use lib.Dec.{ltb};
 ghost use lib.ListN.{length, set};
@@ -11,7 +11,7 @@ ghost use lib.ListN.{length, set};
 pub mod place;
 
 // The length of an event in bytes (definition 2.3).
-pub const EVENT_BYTES: usize = 14;
+pub const EVENT_BYTES: usize = 15;
 
 // The most events that a trace may have (definition 3.3).
 pub const MOST_EVENTS: usize = 4096;
@@ -94,7 +94,7 @@ impl TagOp {
     pub const MATCH: TagOp = TagOp(3);
 }
 
-// The error field of an answer (definition 2.3, byte 10).
+// An error field: that of the answer to Home, or that of the forwarded data (definition 2.3, bytes 10 and 14).
 pub struct RespErr(pub u8);
 
 impl RespErr {
@@ -222,22 +222,22 @@ impl FwdState {
     }
 }
 
-// What the snoopee forwards to the Requester (definition 2.7).
+// What the snoopee forwards to the Requester: data with its state and its own error field, or nothing (definition 2.7).
 pub enum Forward {
     NoForward,
-    CompData(FwdState),
+    CompData(FwdState, RespErr),
 }
 
 impl Forward {
-    // The forward that a FwdState stands for.
-    pub fn from_state(state: FwdState) -> Forward
-        ensures { λ r. ⌜ r ≡ forwardAt (state .0) ⌝ }
+    // The forward that a FwdState and the data's error field stand for.
+    pub fn from_state(state: FwdState, error: RespErr) -> Forward
+        ensures { λ r. ⌜ r ≡ forwardAt (state .0) (error .0) ⌝ }
     {
         let n = state.0;
         if n == FwdState::NONE.0 {
             Forward::NoForward
         } else {
-            Forward::CompData(state)
+            Forward::CompData(state, error)
         }
     }
 
@@ -247,7 +247,27 @@ impl Forward {
     {
         match self {
             Forward::NoForward => [0, 0],
-            Forward::CompData(f) => [1, f.0],
+            Forward::CompData(f, _) => [1, f.0],
+        }
+    }
+
+    // Whether data is forwarded.
+    pub fn present(self) -> bool
+        ensures { λ r. ⌜ r ≡ present self ⌝ }
+    {
+        match self {
+            Forward::NoForward => false,
+            Forward::CompData(_, _) => true,
+        }
+    }
+
+    // Byte 14 of the event: the error field of the forwarded data; OK without a forward.
+    pub fn error(self) -> RespErr
+        ensures { λ r. ⌜ r .0 ≡ forwardError self ⌝ }
+    {
+        match self {
+            Forward::NoForward => RespErr::OK,
+            Forward::CompData(_, error) => error,
         }
     }
 }
@@ -287,6 +307,17 @@ impl Answer {
         }
     }
 
+    // What it forwards.
+    pub fn forward(self) -> Forward
+        ensures { λ r. ⌜ r ≡ forwardOf self ⌝ }
+    {
+        match self {
+            Answer::SnpResp(_, sent) => sent,
+            Answer::SnpRespData(_, sent) => sent,
+            Answer::SnpRespDataPtl(_) => Forward::NoForward,
+        }
+    }
+
     // Its Resp.
     pub fn resp(self) -> Resp
         ensures { λ r. ⌜ r .0 ≡ answerResp self ⌝ }
@@ -305,11 +336,11 @@ impl Answer {
         match self {
             Answer::SnpResp(_, forward) => match forward {
                 Forward::NoForward => FwdState::NONE,
-                Forward::CompData(f) => f,
+                Forward::CompData(f, _) => f,
             },
             Answer::SnpRespData(_, forward) => match forward {
                 Forward::NoForward => FwdState::NONE,
-                Forward::CompData(f) => f,
+                Forward::CompData(f, _) => f,
             },
             Answer::SnpRespDataPtl(_) => FwdState::NONE,
         }
@@ -322,7 +353,7 @@ fn without_data(r: Resp, forward: Forward) -> [u8; 6]
 {
     match forward {
         Forward::NoForward => [Channel::RSP.0, Opcode::SNP_RESP.0, r.0, 0, 0, 0],
-        Forward::CompData(f) => [Channel::RSP.0, Opcode::SNP_RESP_FWDED.0, r.0, f.0, 1, f.0],
+        Forward::CompData(f, _) => [Channel::RSP.0, Opcode::SNP_RESP_FWDED.0, r.0, f.0, 1, f.0],
     }
 }
 
@@ -332,7 +363,7 @@ fn with_data(r: Resp, forward: Forward) -> [u8; 6]
 {
     match forward {
         Forward::NoForward => [Channel::DAT.0, Opcode::SNP_RESP_DATA.0, r.0, 0, 0, 0],
-        Forward::CompData(f) => [
+        Forward::CompData(f, _) => [
             Channel::DAT.0,
             Opcode::SNP_RESP_DATA_FWDED.0,
             r.0,
@@ -431,7 +462,7 @@ impl PairNumber {
 pub struct EventNumber(pub u32);
 
 impl EventNumber {
-    // The bytes of the event, as a part of the buffer: those from offset 14 times its number (definition 3.3).
+    // The bytes of the event, as a part of the buffer: those from offset 15 times its number (definition 3.3).
     pub fn event_in(self, events: &[u8]) -> &[u8]
         ensures { λ r. ⌜ now r ≡ eventIn (now (events .entry)) (self .0) ⌝ }
     {

@@ -26,3 +26,5 @@ pub const FORWARDED: usize = 11;
 pub const FORWARDED_RESP: usize = 12;
 
 pub const STATE_AFTER: usize = 13;
+
+pub const FORWARDED_ERR: usize = 14;

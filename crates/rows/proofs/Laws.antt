@@ -11,10 +11,11 @@ use Rattle.kinds.specs.Codes.{UD, UDP, SD, OK, DERR, opInvalid, opTransfer, opU
 use Rattle.kinds.specs.declared.Answer.{Answer}
 use Rattle.kinds.specs.declared.Answer.the-variants.{SnpResp, SnpRespData, SnpRespDataPtl}
 use Rattle.kinds.specs.declared.Forward.the-variants.{NoForward, CompData}
-use Rattle.kinds.specs.Answers.{wire, hasData, answerResp, answerFwd}
+use Rattle.kinds.specs.declared.Forward.{Forward}
+use Rattle.kinds.specs.Answers.{wire, present, hasData, forwardOf, answerResp, answerFwd}
 use Rattle.kinds.proofs.Laws.{one-of-1, one-of-2, and-6, or-3}
 use Rattle.rows.specs.declared.Table.{Table}
-use Rattle.rows.specs.Permitted.{rulesOf, okOrDerr, byTags, fits, asked, tagsAllow, tagged, someTag}
+use Rattle.rows.specs.Permitted.{rulesOf, okOrDerr, onForward, byTags, fits, asked, tagsAllow, tagged, someTag}
 use Rattle.rows.specs.Event.{requestOf, retToSrcOf, doNotGoToSDOf, exclOf, tagOf, tagOpOf, seen}
 
 -- what a rule says about a table holds for any table equal to it
@@ -28,6 +29,16 @@ ok-or-derr n a h r hh hr = hr ∙ ap (λ (b : Bool). cond b (eqb n OK || eqb n D
     each : (b : Bool) → cond b (eqb n OK || eqb n DERR) (eqb n OK) ≡ n ∈? cond b (OK ∷ DERR ∷ []) (OK ∷ [])
     each true = one-of-2 n OK DERR
     each false = one-of-1 n OK
+
+-- `on_forward` computes onForward
+pub on-forward : (n : ℕ) (a : Answer) (f : Forward) (p r : Bool) → f ≡ forwardOf a → p ≡ present f → r ≡ cond p (eqb n OK || eqb n DERR) (eqb n 0)
+    → r ≡ n ∈? onForward a
+on-forward n a f p r hf hp hr =
+    hr ∙ ap (λ (b : Bool). cond b (eqb n OK || eqb n DERR) (eqb n 0)) (hp ∙ ap present hf) ∙ each (present (forwardOf a))
+  where
+    each : (b : Bool) → cond b (eqb n OK || eqb n DERR) (eqb n 0) ≡ n ∈? cond b (OK ∷ DERR ∷ []) (0 ∷ [])
+    each true = one-of-2 n OK DERR
+    each false = one-of-1 n 0
 
 -- `by_tags` computes byTags
 pub by-tags : (n t s : ℕ) (a : Answer) (m : ℕ) (p x y r : Bool) → m ≡ answerResp a → p ≡ respPD m
@@ -66,9 +77,9 @@ same-wire x₀ x₁ x₂ x₃ x₄ x₅ a w h =
         → eqb x₀ (getD (wire b) 0 0) && eqb x₁ (getD (wire b) 1 0) && eqb x₂ (getD (wire b) 2 0) && eqb x₃ (getD (wire b) 3 0) && eqb x₄ (getD (wire b) 4 0) && eqb x₅ (getD (wire b) 5 0)
         ≡ same (x₀ ∷ x₁ ∷ x₂ ∷ x₃ ∷ x₄ ∷ x₅ ∷ []) (wire b)
     at-wire (SnpResp r NoForward) = six 0 1 (r .0) 0 0 0
-    at-wire (SnpResp r (CompData f)) = six 0 9 (r .0) (f .0) 1 (f .0)
+    at-wire (SnpResp r (CompData f x)) = six 0 9 (r .0) (f .0) 1 (f .0)
     at-wire (SnpRespData r NoForward) = six 1 1 (r .0) 0 0 0
-    at-wire (SnpRespData r (CompData f)) = six 1 6 (r .0) (f .0) 1 (f .0)
+    at-wire (SnpRespData r (CompData f x)) = six 1 6 (r .0) (f .0) 1 (f .0)
     at-wire (SnpRespDataPtl r) = six 1 5 (r .0) 0 0 0
 
 -- the four tests of `asked`

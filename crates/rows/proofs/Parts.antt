@@ -15,8 +15,8 @@ use Rattle.kinds.specs.Answers.{wire, hasData, answerResp, answerFwd}
 use Rattle.kinds.proofs.Lists.{one-of, same-equal, and-left, and-right}
 use Rattle.rows.specs.declared.Table.{Table}
 use Rattle.rows.specs.declared.Table.the-variants.{B46, B57, B59, B60, Unique, CleanInvalid, MakeInvalid, NdErr}
-use Rattle.rows.specs.Event.{byte, requestOf, retToSrcOf, doNotGoToSDOf, exclOf, answerOf, respOf, fwdStateOf, respErrOf, forwardedOf, forwardedRespOf}
-use Rattle.rows.specs.Permitted.{rulesOf, fits, asked, answered}
+use Rattle.rows.specs.Event.{byte, requestOf, retToSrcOf, doNotGoToSDOf, exclOf, answerOf, respOf, fwdStateOf, respErrOf, forwardedOf, forwardedRespOf, forwardedErrOf}
+use Rattle.rows.specs.Permitted.{rulesOf, onForward, fits, asked, answered}
 
 -- `asked`: the table is for the request and the excl, RetToSrc is the row's, and DoNotGoToSD does not forbid the row
 pub record AskedSo (e : List ℕ) (T : Table) (ret : ℕ) (marked : Bool) : Type 0 where
@@ -47,7 +47,8 @@ isNdErr CleanInvalid = false
 isNdErr MakeInvalid = false
 isNdErr NdErr = true
 
--- `answered`: the event has the row's answer, field by field, and a RespErr of the table; only the row of NDERR has NDERR
+-- `answered`: the event has the row's answer, field by field, a RespErr of the table, and an error field of forwarded data; only the row of
+-- NDERR has NDERR
 pub record AnsweredSo (e : List ℕ) (T : Table) (a : Answer) : Type 0 where
   pub shown : answerOf e ≡ wire a
   pub resp : respOf e ≡ answerResp a
@@ -56,20 +57,21 @@ pub record AnsweredSo (e : List ℕ) (T : Table) (a : Answer) : Type 0 where
   pub forwarded-resp : forwardedRespOf e ≡ byte (wire a) 5
   pub error : respErrOf e ∈? rulesOf T .errors a ≡ true
   pub nderr : eqb (respErrOf e) NDERR ≡ isNdErr T
+  pub on-forward : forwardedErrOf e ∈? onForward a ≡ true
 
 -- bytes 2 and 3 of an answer's six bytes are its Resp and its FwdState
 wire-resp : (a : Answer) → byte (wire a) 2 ≡ answerResp a
 wire-resp (SnpResp r NoForward) = refl
-wire-resp (SnpResp r (CompData f)) = refl
+wire-resp (SnpResp r (CompData f x)) = refl
 wire-resp (SnpRespData r NoForward) = refl
-wire-resp (SnpRespData r (CompData f)) = refl
+wire-resp (SnpRespData r (CompData f x)) = refl
 wire-resp (SnpRespDataPtl r) = refl
 
 wire-fwd : (a : Answer) → byte (wire a) 3 ≡ answerFwd a
 wire-fwd (SnpResp r NoForward) = refl
-wire-fwd (SnpResp r (CompData f)) = refl
+wire-fwd (SnpResp r (CompData f x)) = refl
 wire-fwd (SnpRespData r NoForward) = refl
-wire-fwd (SnpRespData r (CompData f)) = refl
+wire-fwd (SnpRespData r (CompData f x)) = refl
 wire-fwd (SnpRespDataPtl r) = refl
 
 -- no answer of a printed table carries NDERR
@@ -93,8 +95,10 @@ unfolding answered
 answered-so e T a h =
     let s = same (answerOf e) (wire a) in
     let x = respErrOf e ∈? rulesOf T .errors a in
-    let shown = same-equal (answerOf e) (wire a) (and-left s x h) in
-    let error = and-right s x h in
+    let y = forwardedErrOf e ∈? onForward a in
+    let both = and-left (s && x) y h in
+    let shown = same-equal (answerOf e) (wire a) (and-left s x both) in
+    let error = and-right s x both in
     record {
       shown = shown;
       resp = ap (λ (w : List ℕ). byte w 2) shown ∙ wire-resp a;
@@ -103,4 +107,5 @@ answered-so e T a h =
       forwarded-resp = ap (λ (w : List ℕ). byte w 5) shown;
       error = error;
       nderr = error-row (respErrOf e) T a error;
+      on-forward = and-right (s && x) y h;
     }

@@ -54,6 +54,10 @@ forwardedRespOf e = byte e 12
 abbrev pub stateAfterOf : List ℕ → ℕ
 stateAfterOf e = byte e 13
 
+-- the error field of the forwarded data
+abbrev pub forwardedErrOf : List ℕ → ℕ
+forwardedErrOf e = byte e 14
+
 -- the bytes of the answer: channel, opcode, Resp, FwdState, forwarded data present, its Resp
 abbrev pub answerOf : List ℕ → List ℕ
 answerOf e = channelOf e ∷ opcodeOf e ∷ respOf e ∷ fwdStateOf e ∷ forwardedOf e ∷ forwardedRespOf e ∷ []

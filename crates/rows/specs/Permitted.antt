@@ -1,4 +1,4 @@
--- Which steps the rows permit (definition 5.6 to 5.12).
+-- Which steps the rows permit (definition 5.6 to 5.13).
 use Prim.Native.Nat.{ℕ}
 use mathlib.Core.Bool.{Bool, cond, not, _&&_, _||_}
 use mathlib.Core.List.{List, [], _∷_}
@@ -7,10 +7,10 @@ use Rattle.kinds.specs.Tests.{any, _∈?_, same}
 use Rattle.kinds.specs.Codes.{UD, UDP, SD, tagDirty, tags, tagNotSeen, opInvalid, opTransfer, opUpdate, OK, DERR, NDERR, requests, respPD, fwdPD}
 use Rattle.kinds.specs.Codes.{SnpShared, SnpClean, SnpNotSharedDirty, SnpUnique, SnpCleanInvalid, SnpMakeInvalid, SnpCleanFwd, SnpNotSharedDirtyFwd, SnpPreferUnique, SnpPreferUniqueFwd}
 use Rattle.kinds.specs.declared.Answer.{Answer}
-use Rattle.kinds.specs.Answers.{wire, hasData, answerResp, answerFwd}
+use Rattle.kinds.specs.Answers.{wire, present, hasData, forwardOf, answerResp, answerFwd}
 use Rattle.rows.specs.declared.Table.{Table}
 use Rattle.rows.specs.declared.Table.the-variants.{B46, B57, B59, B60, Unique, CleanInvalid, MakeInvalid, NdErr}
-use Rattle.rows.specs.Event.{seen, requestOf, retToSrcOf, doNotGoToSDOf, exclOf, tagOf, answerOf, tagOpOf, respErrOf}
+use Rattle.rows.specs.Event.{seen, requestOf, retToSrcOf, doNotGoToSDOf, exclOf, tagOf, answerOf, tagOpOf, respErrOf, forwardedErrOf}
 use Rattle.rows.specs.Rows.{Row, X, rows}
 
 -- The rules that hold for all rows of a table.
@@ -27,6 +27,10 @@ pub record Rules : Type 0 where
 -- OK, or DERR with data (definition 5.10)
 abbrev pub okOrDerr : Answer → List ℕ
 okOrDerr a = cond (hasData a) (OK ∷ DERR ∷ []) (OK ∷ [])
+
+-- the error fields that forwarded data may have: OK or DERR; without a forward the byte is 0 (definition 5.13)
+abbrev pub onForward : Answer → List ℕ
+onForward a = cond (present (forwardOf a)) (OK ∷ DERR ∷ []) (0 ∷ [])
 
 -- with Dirty tags: Update if Resp carries PD, else Transfer; with other tags: Invalid or Transfer, and only Invalid from UDP
 -- (definition 5.9)
@@ -60,9 +64,9 @@ asked e T ret marked =
     && fits ret (retToSrcOf e)
     && not (marked && eqb (doNotGoToSDOf e) 1)
 
--- the event has the row's answer, and a RespErr that it may carry (definition 5.10)
+-- the event has the row's answer, a RespErr that it may carry, and an error field that its forwarded data may have (definition 5.10, 5.13)
 unfoldable pub answered : List ℕ → Table → Answer → Bool
-answered e T a = same (answerOf e) (wire a) && (respErrOf e ∈? rulesOf T .errors a)
+answered e T a = same (answerOf e) (wire a) && (respErrOf e ∈? rulesOf T .errors a) && (forwardedErrOf e ∈? onForward a)
 
 -- the TagOp values that an answer may carry; only Invalid without data (definition 5.9)
 abbrev pub tagOps : ℕ → Table → ℕ → Answer → List ℕ

@@ -14,7 +14,7 @@ ghost use Rattle.kinds.specs.Tests.{_∈?_, same};
 ghost use Rattle.kinds.specs.Codes.{tagNotSeen, NDERR};
 ghost use Rattle.kinds.specs.Answers.{wire};
 ghost use Rattle.rows.specs.Event.{byte, seen, answerOf, tagOf};
-ghost use Rattle.rows.specs.Permitted.{rulesOf, okOrDerr, byTags, tagsAllow, asked, answered, tagged, someTag, fits};
+ghost use Rattle.rows.specs.Permitted.{rulesOf, okOrDerr, onForward, byTags, tagsAllow, asked, answered, tagged, someTag, fits};
 
 // The printed tables, the bench copy's rows for three snoops more, and the row of NDERR (definition 5.2 to 5.5, 5.11, 5.12).
 pub enum Table {
@@ -146,6 +146,16 @@ fn ok_or_derr(answer: Answer, error: RespErr) -> bool
     kinds::choose_bool(answer.has_data(), ok | derr, ok)
 }
 
+// The error field of forwarded data: OK or DERR; without a forward 0 (definition 5.13).
+fn on_forward(answer: Answer, error: RespErr) -> bool
+    ensures { λ r. ⌜ r ≡ error .0 ∈? onForward answer ⌝ }
+{
+    let n = error.0;
+    let of_data = (n == RespErr::OK.0) | (n == RespErr::DERR.0);
+    let of_none = n == 0;
+    kinds::choose_bool(answer.forward().present(), of_data, of_none)
+}
+
 // TagOp of the printed tables, by the tag state, the state before and PD to Home (definition 5.9).
 fn by_tags(tag: TagState, before: LineState, answer: Answer, op: TagOp) -> bool
     ensures { λ r. ⌜ r ≡ op .0 ∈? byTags (tag .0) (before .0) answer ⌝ }
@@ -178,11 +188,13 @@ pub fn asked(e: &[u8; EVENT_BYTES], table: Table, ret: u8, marked: bool) -> bool
         & !(marked & (e[place::DO_NOT_GO_TO_SD] == 1))
 }
 
-// Whether the event has the row's answer, and a RespErr that it may carry.
+// Whether the event has the row's answer, a RespErr that it may carry, and an error field that its forwarded data may have.
 pub fn answered(e: &[u8; EVENT_BYTES], table: Table, answer: Answer) -> bool
     ensures { λ r. ⌜ r ≡ answered (now (e .entry)) table answer ⌝ }
 {
-    same_answer(e, answer) & table.errors(answer, RespErr(e[place::RESP_ERR]))
+    same_answer(e, answer)
+        & table.errors(answer, RespErr(e[place::RESP_ERR]))
+        & on_forward(answer, RespErr(e[place::FORWARDED_ERR]))
 }
 
 // Whether the event's bytes are those of this answer.

@@ -80,7 +80,7 @@ bytes-turn e bytes i b h p q =
     ∙ ap₂ (λ (l : List ℕ) (x : ℕ). l ++ (x ∷ [])) q (p ∙ ap (byte e) (sym (zero-add i)))
     ∙ sym (ap (bytesFrom e 0) (add-one i) ∙ bytes-snoc e 0 i)
 
--- after 14 bytes, all bytes are read
+-- after 15 bytes, all bytes are read
 pub bytes-end : (e bytes : List ℕ) (i : ℕ) → length bytes ≡ eventLength → eventLength ≤ i → i ≤ eventLength → take i bytes ≡ bytesFrom e 0 i → bytes ≡ eventBytes e
 bytes-end e bytes i h k l q =
     let is : i ≡ eventLength = omega arith in
@@ -99,10 +99,10 @@ row-parts w t b m r f ret T a ht hT hb hm hr hf ha hret =
     hret
     (ha ∙ ap₂ (λ (x y : ℕ). answerAt x y f) hm hr ∙ ap (answerAt (columnAt w at-message) (columnAt w at-resp)) hf)
 
-pub answer-rsp : (m r f : ℕ) (g : Forward) → m ≡ 0 → g ≡ forwardAt f → SnpResp (record { 0 = r }) g ≡ answerAt m r f
+pub answer-rsp : (m r f : ℕ) (g : Forward) → m ≡ 0 → g ≡ forwardAt f OK → SnpResp (record { 0 = r }) g ≡ answerAt m r f
 answer-rsp m r f g h k = ap (SnpResp (record { 0 = r })) k ∙ sym (ap (λ (n : ℕ). answerAt n r f) h)
 
-pub answer-dat : (m r f : ℕ) (g : Forward) → m ≡ 1 → g ≡ forwardAt f → SnpRespData (record { 0 = r }) g ≡ answerAt m r f
+pub answer-dat : (m r f : ℕ) (g : Forward) → m ≡ 1 → g ≡ forwardAt f OK → SnpRespData (record { 0 = r }) g ≡ answerAt m r f
 answer-dat m r f g h k = ap (SnpRespData (record { 0 = r })) k ∙ sym (ap (λ (n : ℕ). answerAt n r f) h)
 
 -- `row_fits` tests the snoop first, and then the answer and the tags

@@ -7,7 +7,7 @@ use lib.Bits.{bitAnd, bitOr}
 use lib.Dec.{eqb}
 use Rattle.kinds.specs.Tests.{_∈?_}
 use Rattle.kinds.specs.Places.{eventLength}
-use Rattle.kinds.specs.Codes.{RSP, op-SnpRespDataPtl, NDERR, SnpUnique, SnpCleanInvalid, SnpMakeInvalid, SnpPreferUniqueFwd}
+use Rattle.kinds.specs.Codes.{RSP, op-SnpRespDataPtl, OK, NDERR, SnpUnique, SnpCleanInvalid, SnpMakeInvalid, SnpPreferUniqueFwd}
 use Rattle.kinds.specs.declared.Answer.{Answer}
 use Rattle.kinds.specs.declared.Answer.the-variants.{SnpResp, SnpRespData, SnpRespDataPtl}
 use Rattle.kinds.specs.Answers.{forwardAt}
@@ -79,7 +79,7 @@ tableAt n =
 
 -- the answer, from its message, Resp and FwdState
 abbrev pub answerAt : ℕ → ℕ → ℕ → Answer
-answerAt m r f = cond (eqb m 0) (SnpResp (record { 0 = r }) (forwardAt f)) (cond (eqb m 1) (SnpRespData (record { 0 = r }) (forwardAt f)) (SnpRespDataPtl (record { 0 = r })))
+answerAt m r f = cond (eqb m 0) (SnpResp (record { 0 = r }) (forwardAt f OK)) (cond (eqb m 1) (SnpRespData (record { 0 = r }) (forwardAt f OK)) (SnpRespDataPtl (record { 0 = r })))
 
 -- the row that a word encodes
 unfoldable pub rowAt : ℕ → code.Row

@@ -57,11 +57,11 @@ fn table_of(number: u8) -> Table
     }
 }
 
-// The answer, from its three columns.
+// The answer, from its three columns; the rows name no error field of forwarded data, and OK stands for it.
 fn answer_of(message: u8, resp: u8, state: u8) -> Answer
     ensures { λ r. ⌜ r ≡ answerAt message resp state ⌝ }
 {
-    let forward = Forward::from_state(FwdState(state));
+    let forward = Forward::from_state(FwdState(state), RespErr::OK);
     match message {
         0 => Answer::SnpResp(Resp(resp), forward),
         1 => Answer::SnpRespData(Resp(resp), forward),
@@ -124,7 +124,7 @@ pub fn seen_states(shown: LineState) -> u8
     }
 }
 
-// A copy of the event's 14 bytes, so that the loop over the rows does not check the slice's length again.
+// A copy of the event's 15 bytes, so that the loop over the rows does not check the slice's length again.
 fn event_bytes(event: &[u8]) -> [u8; EVENT_BYTES]
     ensures { λ r. ⌜ r ≡ eventBytes (now (event .entry)) ⌝ }
 {
