@@ -22,15 +22,15 @@ use Rattle.event.specs.declared.Judgment.{Judgment}
 use Rattle.event.specs.Refusals.{Issue, issueE, below, fault, refusalAlone}
 use Rattle.event.specs.Alone.{sevenZeros, acceptedAlone, refusedAlone, judgedAlone}
 
--- the exponents of the limits of bytes 0 to 7 and of bytes 6 to 13, which are powers of two; 8 where a byte is free
+-- the exponents of the limits of bytes 0 to 7 and of bytes 7 to 14, which are powers of two; 8 where a byte is free
 abbrev front : List ℕ
 front = 8 ∷ 1 ∷ 1 ∷ 1 ∷ 2 ∷ 1 ∷ 5 ∷ 3 ∷ []
 
 abbrev back : List ℕ
-back = 8 ∷ 8 ∷ 3 ∷ 2 ∷ 2 ∷ 1 ∷ 3 ∷ 3 ∷ []
+back = 8 ∷ 3 ∷ 2 ∷ 2 ∷ 1 ∷ 3 ∷ 3 ∷ 2 ∷ []
 
 -- THE COMPUTED FACT: together they are the definition's limits
-front-back : drop 1 (powers front) ++ drop 2 (powers back) ≡ issueE .limits
+front-back : drop 1 (powers front) ++ drop 1 (powers back) ≡ issueE .limits
 front-back = refl
 
 -- two lists of limits, one behind the other
@@ -44,17 +44,17 @@ below-append e i (l ∷ ls) ms =
 
 module _ (e : List ℕ) (bytes : (i : ℕ) → byte e i < 256) where
   -- a free byte passes its test
-  both-under : under e 0 (powers front) && under e 6 (powers back) ≡ below e 1 (issueE .limits)
+  both-under : under e 0 (powers front) && under e 7 (powers back) ≡ below e 1 (issueE .limits)
   both-under =
-      rw (lt-ltb (byte e 0) 256 (bytes 0), lt-ltb (byte e 6) 256 (bytes 6), lt-ltb (byte e 7) 256 (bytes 7))
-      (below-append e 1 (drop 1 (powers front)) (drop 2 (powers back)) ∙ ap (below e 1) front-back)
+      rw (lt-ltb (byte e 0) 256 (bytes 0), lt-ltb (byte e 7) 256 (bytes 7))
+      (below-append e 1 (drop 1 (powers front)) (drop 1 (powers back)) ∙ ap (below e 1) front-back)
 
   -- the two tests of `in_range`
-  pub in-range-by : (x y : ℕ) → x ≡ word e 0 → y ≡ word e 6
+  pub in-range-by : (x y : ℕ) → x ≡ word e 0 → y ≡ word e 7
       → eqb (bitAnd x (wordOf (masks (powers front)))) 0 && eqb (bitAnd y (wordOf (masks (powers back)))) 0 ≡ below e 1 (issueE .limits)
   in-range-by x y h k =
       ap₂ (λ (m n : ℕ). eqb (bitAnd m (wordOf (masks (powers front)))) 0 && eqb (bitAnd n (wordOf (masks (powers back)))) 0) h k
-      ∙ ap₂ _&&_ (word-under e bytes 0 front refl) (word-under e bytes 6 back refl)
+      ∙ ap₂ _&&_ (word-under e bytes 0 front refl) (word-under e bytes 7 back refl)
       ∙ both-under
 
 -- every byte but the request has its limit

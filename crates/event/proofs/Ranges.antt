@@ -38,7 +38,7 @@ pub in-range : (e : List ℕ) → fault issueE e ≡ 0 → InRange e
 unfolding fault
 in-range e h =
     let k = no-fault (below e 1 (issueE .limits)) (requestOf e ∈? issueE .requests) h in
-    let at : (n : ℕ) → n < 13 → byte e (1 + n) < getD (issueE .limits) n 0 = λ n l. below-at e 1 (issueE .limits) n l (k .0) in
+    let at : (n : ℕ) → n < 14 → byte e (1 + n) < getD (issueE .limits) n 0 = λ n l. below-at e 1 (issueE .limits) n l (k .0) in
     record {
       request = k .1;
       ret = at 0 (omega arith);
@@ -54,6 +54,7 @@ in-range e h =
       forwarded = at 10 (omega arith);
       forwarded-resp = at 11 (omega arith);
       state-after = at 12 (omega arith);
+      forwarded-err = at 13 (omega arith);
     }
 
 -- an event alone that is not refused has no fault

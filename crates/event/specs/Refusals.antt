@@ -43,6 +43,8 @@ limitsE =
     8 ∷
     -- state after, with 7 for not seen
     8 ∷
+    -- error field of the forwarded data
+    4 ∷
     []
 
 -- the issue of CHI that the definition is about
@@ -54,10 +56,10 @@ abbrev pub below : List ℕ → ℕ → List ℕ → Bool
 below e i [] = true
 below e i (l ∷ ls) = ltb (byte e i) l && below e (suc i) ls
 
--- 4 for a byte from 1 to 13 outside its range, then 5 for a request that is not judged, else 0
+-- 4 for a byte from 1 to 14 outside its range, then 5 for a request that is not judged, else 0
 unfoldable pub fault : Issue → List ℕ → ℕ
 fault issue e = cond (below e 1 (issue .limits)) (cond (requestOf e ∈? issue .requests) 0 5) 4
 
--- one event alone: 1 if it is not 14 bytes long, then its fault (definition 4.3)
+-- one event alone: 1 if it is not 15 bytes long, then its fault (definition 4.3)
 unfoldable pub refusalAlone : Issue → List ℕ → ℕ
 refusalAlone issue e = cond (eqb (length e) eventLength) (fault issue e) 1

@@ -18,9 +18,9 @@ ghost use Rattle.event.specs.Alone.{judgedAlone};
 // byte 7 down: Resp below 8, opcode below 32, channel below 2, tag state below 4, excl, DoNotGoToSD and RetToSrc below 2; byte 0 is free.
 const FRONT: u64 = 0xF8_E0_FE_FC_FE_FE_FE_00;
 
-// The limits of bytes 8 to 13 likewise, byte 6 last. From byte 13 down: state after below 8, the forwarded data's Resp below 8 and presence
-// below 2, RespErr and TagOp below 4, FwdState below 8; bytes 7 and 6 are free.
-const BACK: u64 = 0xF8_F8_FE_FC_FC_F8_00_00;
+// The limits of bytes 8 to 14 likewise, byte 7 last. From byte 14 down: the forwarded data's error field below 4, state after below 8, the
+// forwarded data's Resp below 8 and presence below 2, RespErr and TagOp below 4, FwdState below 8; byte 7 is free.
+const BACK: u64 = 0xFC_F8_F8_FE_FC_FC_F8_00;
 
 // The answer to one event alone: for each of the seven states before, a set of states after and a duty.
 pub struct Judgment {
@@ -34,7 +34,7 @@ pub struct Judgment {
 fn in_range(event: &[u8]) -> bool
     ensures { λ r. ⌜ r ≡ below (now (event .entry)) 1 (issueE .limits) ⌝ }
 {
-    (words::word_at(event, 0) & FRONT == 0) & (words::word_at(event, 6) & BACK == 0)
+    (words::word_at(event, 0) & FRONT == 0) & (words::word_at(event, 7) & BACK == 0)
 }
 
 // The refusal number for an event's bytes: 4, then 5 (definition 4.1).

@@ -28,7 +28,7 @@ SetGood l p = setIn (l .table) p ≤ allStates
 abbrev pub PairGood : Lent → ℕ → Type 0
 PairGood l k = pairIn (l .pairs) k < length (l .table)
 
--- row 4 does not apply to event k: each byte from 1 to 13 is in its range
+-- row 4 does not apply to event k: each byte from 1 to 14 is in its range
 abbrev pub BytesGood : Issue → Lent → ℕ → Type 0
 BytesGood issue l k = below (eventIn (l .events) k) 1 (issue .limits) ≡ true
 

@@ -86,7 +86,7 @@ fn lowest_bad_set(table: &[u8]) -> usize
     p
 }
 
-// The bytes of event k, which are all in the buffer: a part that starts at 14 times k (definition 3.3).
+// The bytes of event k, which are all in the buffer: a part that starts at 15 times k (definition 3.3).
 fn whole_event(k: EventNumber, events: &[u8]) -> &[u8]
     requires { ⌜ Whole (now events) (k .0) ⌝ }
     ensures { λ r. ⌜ now r ≡ eventIn (now (events .entry)) (k .0) ⌝ }
