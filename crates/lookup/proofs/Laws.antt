@@ -1,6 +1,6 @@
 -- Laws about what the functions compute, over plain variables.
 -- Assumes nothing.
-use mathlib.Core.Path.{_≡_, refl, sym, _∙_, ap, ap₂}
+use mathlib.Core.Path.{_≡_, refl, sym, _∙_, ap, ap₂, subst}
 use mathlib.Core.Bool.{Bool, true, false, cond}
 use mathlib.Core.List.{List, [], _∷_, _++_, map}
 use Prim.Native.Nat.{ℕ, zero, suc, _+_, _*_, _/_, _%_, _^_, _<_, _≤_}
@@ -8,7 +8,7 @@ use native.Mathlib.Omega.{arith}
 use borrow.Author.Tests.{eq-eqb, ne-eqb, leb-true, leb-false}
 use lib.Bits.{bitAnd}
 use lib.Dec.{eqb, leb}
-use lib.ListN.{getD, drop, replicate, List·getD-eq-default}
+use lib.ListN.{length, getD, drop, replicate, List·getD-eq-default}
 use Rattle.kinds.specs.Tests.{beside}
 use Rattle.kinds.specs.Codes.{states, stateNotSeen}
 use Rattle.kinds.proofs.Lists.{seven, beside-le}
@@ -65,7 +65,7 @@ spread-by n among f t x₀ x₁ x₂ x₃ x₄ x₅ x₆ hf ht h₀ h₁ h₂ h�
     seven (λ s. cond (bit f s) (bitAnd t among) 0) x₀ x₁ x₂ x₃ x₄ x₅ x₆ h₀ h₁ h₂ h₃ h₄ h₅ h₆
     ∙ ap₂ (λ (x y : ℕ). map (λ s. cond (bit x s) (bitAnd y among) 0) states) hf ht
 
--- the states after that the event may have, from its last byte
+-- the states after that the event may have, from the byte that shows them
 pub seen-by : (e : List ℕ) (shown among : ℕ) → shown ≡ stateAfterOf e → among ≡ setOf (seen stateNotSeen (shown % 8)) → among ≡ seenAfter e
 seen-by e shown among h k = k ∙ ap (λ (x : ℕ). setOf (seen stateNotSeen (x % 8))) h
 
@@ -81,10 +81,16 @@ first-zero zero l n h = absurd (omega arith)
 first-zero (suc k) l zero h = refl
 first-zero (suc k) l (suc n) h = first-zero k l n (omega arith)
 
--- a number that the table of entries does not have
-pub no-entry : (n : ℕ) → beside n 256 256 → 0 ≡ getD entries n 0
-no-entry n h = go (leb 256 n) refl
+-- a number that a table does not have whose list starts with 256 zeros and has 512 numbers
+not-there : (l : List ℕ) → replicate 256 0 ++ drop 256 l ≡ l → length l ≡ 512 → (n : ℕ) → beside n 256 256 → 0 ≡ getD l n 0
+not-there l z long n h = go (leb 256 n) refl
   where
-    go : (b : Bool) → leb 256 n ≡ b → 0 ≡ getD entries n 0
-    go true k = sym (List·getD-eq-default entries 0 (beside-le 256 256 n h (leb-true 256 n k)))
-    go false k = sym (first-zero 256 (drop 256 entries) n (omega (arith, leb-false 256 n k)))
+    go : (b : Bool) → leb 256 n ≡ b → 0 ≡ getD l n 0
+    go true k = sym (List·getD-eq-default l 0 (subst (λ (m : ℕ). m ≤ n) (sym long) (beside-le 256 256 n h (leb-true 256 n k))))
+    go false k = sym (first-zero 256 (drop 256 l) n (omega (arith, leb-false 256 n k))) ∙ ap (λ (m : List ℕ). getD m n 0) z
+
+pub no-entry : (n : ℕ) → beside n 256 256 → 0 ≡ getD entries n 0
+no-entry = not-there entries refl refl
+
+pub no-slot : (n : ℕ) → beside n 256 256 → 0 ≡ getD slots n 0
+no-slot = not-there slots refl refl

@@ -9,13 +9,13 @@ use Rattle.kinds.specs.Tests.{_∈?_}
 use Rattle.kinds.specs.Codes.{states, stateNotSeen}
 use Rattle.sets.specs.Sets.{setOf, bit}
 use Rattle.words.specs.Words.{half}
-use Rattle.rows.specs.Event.{requestOf, stateAfterOf, seen}
+use Rattle.rows.specs.Event.{requestOf, stateAfterOf, forwardedErrOf, seen}
 use Rattle.steps.specs.Steps.{noDuty, lost, discarded}
 use Rattle.lookup.specs.Table.{factor, slots, starts, choices, entries}
 
--- the slot of a packed answer: bits 24 to 30 of its product with the factor
+-- the slot of a packed answer: bits 24 to 31 of its product with the factor, counted from 256 on
 abbrev pub slotOf : ℕ → ℕ
-slotOf answer = answer % 2 ^ 32 * factor / 2 ^ 24 % 128
+slotOf answer = answer % 2 ^ 32 * factor / 2 ^ 24 % 256 + 256
 
 -- the kind of a packed answer, by what its slot has
 abbrev pub kindIn : ℕ → ℕ → ℕ
@@ -53,9 +53,10 @@ effectBy request flags kind = effectIn (entryOf request kind) (choiceOf kind fla
 unfoldable pub lookedUp : ℕ → ℕ → ℕ → ℕ
 lookedUp request flags answer = effectBy request flags (kindOf answer % 32)
 
--- the answer's eight bytes packed into 32 bits: the first four, and the last four five bits higher, where no field in range meets another
+-- the answer's nine bytes packed into 32 bits: the first four, the next four five bits higher, and the error field of the forwarded data one
+-- bit higher, where no field in range meets another
 unfoldable pub packed : List ℕ → ℕ
-packed e = half e 5 % 2 ^ 32 + half e 9 % 2 ^ 32 * 32
+packed e = half e 5 % 2 ^ 32 + half e 9 % 2 ^ 32 * 32 + forwardedErrOf e * 2
 
 -- the effect of an event
 unfoldable pub effectOf : List ℕ → ℕ

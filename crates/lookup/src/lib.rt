@@ -44,7 +44,7 @@ impl Effect {
 fn kind_of(answer: u64) -> u64
     ensures { λ r. ⌜ r ≡ kindOf answer ⌝ }
 {
-    let slot = table::slot(((answer % HALF * table::FACTOR) >> 24) % 128);
+    let slot = table::slot(((answer % HALF * table::FACTOR) >> 24) % 256 + 256);
     if slot % HALF == answer { slot >> 32 } else { 0 }
 }
 
@@ -81,13 +81,14 @@ fn look_up(request: u8, flags: u64, answer: u64) -> u64
     (entry >> (choice * 8)) % 256 + (entry >> 32) * 256
 }
 
-// The answer's eight bytes packed into 32 bits, where no field in range meets another.
+// The answer's nine bytes packed into 32 bits, where no field in range meets another.
 fn packed(event: &[u8]) -> u64
     ensures { λ r. ⌜ r ≡ packed (now (event .entry)) ⌝ }
 {
     let first = words::half_at(event, place::CHANNEL) % HALF;
     let last = words::half_at(event, place::TAG_OP) % HALF;
-    first + last * 32
+    let on_forward = rows::byte_at(event, place::FORWARDED_ERR) as u64;
+    first + last * 32 + on_forward * 2
 }
 
 // The effect of an event.

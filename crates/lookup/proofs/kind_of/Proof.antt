@@ -8,6 +8,9 @@ use Rattle.lookup.proofs.kind_of.Tie as tie
 mul-slot : tie.Need-mul-slot
 mul-slot c = search needs
 
+add-slot : tie.Need-add-slot
+add-slot c = search needs
+
 slot-requires : tie.Need-slot-requires
 slot-requires c κs = search needs
 
@@ -18,4 +21,4 @@ returns-2 : tie.Need-returns-2
 returns-2 c = kind-none (c .before .before .args .answer) (c .before .slot .result) (c .before .slot .ensures) (c .if1 .left)
 
 pub kind-of-spec : {M : Type 1} → statement M
-kind-of-spec = tie.close (tie.spec mul-slot slot-requires returns returns-2)
+kind-of-spec = tie.close (tie.spec mul-slot add-slot slot-requires returns returns-2)

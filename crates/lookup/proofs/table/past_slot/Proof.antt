@@ -1,15 +1,12 @@
--- `lookup::table::past_slot` meets its contract: past the end the list has 0.
+-- `lookup::table::past_slot` meets its contract: the list has 0 for a slot that the table does not have.
 -- Assumes nothing.
-use mathlib.Core.Path.{sym}
-use lib.ListN.{List·getD-eq-default}
 use borrow.Author.Needs.{needs}
-use Rattle.kinds.proofs.Lists.{beyond-le}
-use Rattle.lookup.specs.Table.{slots}
+use Rattle.lookup.proofs.Laws.{no-slot}
 use Rattle.lookup.proofs.table.past_slot.Statement.{statement}
 use Rattle.lookup.proofs.table.past_slot.Tie as tie
 
 returns : tie.Need-returns
-returns c = sym (List·getD-eq-default slots 0 (beyond-le 128 (c .args .n) (search needs)))
+returns c = no-slot (c .args .n) (search needs)
 
 pub past-slot-spec : {M : Type 1} → statement M
 past-slot-spec = tie.close (tie.spec returns)
