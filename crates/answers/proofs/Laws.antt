@@ -12,7 +12,7 @@ use lib.Dec.{eqb, ltb, leb}
 use lib.ListN.{length, getD, take, drop, set, length-append, length-drop, length-map}
 use lib.Seq.{sets-eq, take-suc, take-at, drop-append-add, drop-drop, getD-drop, length-take-le}
 use Rattle.kinds.specs.Tests.{_∈?_}
-use Rattle.kinds.specs.Codes.{RSP, DAT, SnpUnique, SnpCleanInvalid, SnpMakeInvalid, SnpCleanFwd, SnpNotSharedDirtyFwd, SnpPreferUniqueFwd}
+use Rattle.kinds.specs.Codes.{RSP, DAT, DERR, SnpUnique, SnpCleanInvalid, SnpMakeInvalid, SnpCleanFwd, SnpNotSharedDirtyFwd, SnpPreferUniqueFwd}
 use Rattle.kinds.proofs.Laws.{one-of-2, and-5}
 use Rattle.event.specs.Refusals.{issueE, below}
 use Rattle.answers.specs.declared.Question.{Question}
@@ -20,7 +20,7 @@ use Rattle.answers.specs.declared.Listed.{Listed}
 use Rattle.answers.specs.Answers.{questionBytes}
 use Rattle.answers.specs.Listed.{answerLength, asking, joined}
 use Rattle.answers.specs.Table.{spans, numbers, answers, listCount, numberCount, firstOnDat}
-use Rattle.answers.specs.Code.{tablesOf, contextOf, listAt, spanOf, nineOf, answerAt, answersAt}
+use Rattle.answers.specs.Code.{tablesOf, contextOf, listAt, spanOf, tenOf, withDerr, answerAt, answersAt}
 
 -- the choices of `tables`, each from the one before
 pub tables-by : (request excl plain both printed make clean r : ℕ)
@@ -52,11 +52,11 @@ pub numbers-length : length numbers ≡ numberCount
 unfolding numbers
 numbers-length = refl
 
--- nine stores, one behind another
-pub nine-stores : (l : List ℕ) (at b₀ b₁ b₂ b₃ b₄ b₅ b₆ b₇ b₈ : ℕ) → at + 9 ≤ length l
-    → set (set (set (set (set (set (set (set (set l at b₀) (at + 1) b₁) (at + 2) b₂) (at + 3) b₃) (at + 4) b₄) (at + 5) b₅) (at + 6) b₆) (at + 7) b₇) (at + 8) b₈
-    ≡ take at l ++ (b₀ ∷ b₁ ∷ b₂ ∷ b₃ ∷ b₄ ∷ b₅ ∷ b₆ ∷ b₇ ∷ b₈ ∷ []) ++ drop (at + 9) l
-nine-stores l at b₀ b₁ b₂ b₃ b₄ b₅ b₆ b₇ b₈ h =
+-- ten stores, one behind another
+pub ten-stores : (l : List ℕ) (at b₀ b₁ b₂ b₃ b₄ b₅ b₆ b₇ b₈ b₉ : ℕ) → at + 10 ≤ length l
+    → set (set (set (set (set (set (set (set (set (set l at b₀) (at + 1) b₁) (at + 2) b₂) (at + 3) b₃) (at + 4) b₄) (at + 5) b₅) (at + 6) b₆) (at + 7) b₇) (at + 8) b₈) (at + 9) b₉
+    ≡ take at l ++ (b₀ ∷ b₁ ∷ b₂ ∷ b₃ ∷ b₄ ∷ b₅ ∷ b₆ ∷ b₇ ∷ b₈ ∷ b₉ ∷ []) ++ drop (at + 10) l
+ten-stores l at b₀ b₁ b₂ b₃ b₄ b₅ b₆ b₇ b₈ b₉ h =
     let e₁ : at + 1 ≡ suc at = omega arith in
     let e₂ : at + 2 ≡ suc (suc at) = omega arith in
     let e₃ : at + 3 ≡ suc (suc (suc at)) = omega arith in
@@ -65,7 +65,8 @@ nine-stores l at b₀ b₁ b₂ b₃ b₄ b₅ b₆ b₇ b₈ h =
     let e₆ : at + 6 ≡ suc (suc (suc (suc (suc (suc at))))) = omega arith in
     let e₇ : at + 7 ≡ suc (suc (suc (suc (suc (suc (suc at)))))) = omega arith in
     let e₈ : at + 8 ≡ suc (suc (suc (suc (suc (suc (suc (suc at))))))) = omega arith in
-    rw (e₁, e₂, e₃, e₄, e₅, e₆, e₇, e₈) (sets-eq (b₀ ∷ b₁ ∷ b₂ ∷ b₃ ∷ b₄ ∷ b₅ ∷ b₆ ∷ b₇ ∷ b₈ ∷ []) l at h)
+    let e₉ : at + 9 ≡ suc (suc (suc (suc (suc (suc (suc (suc (suc at)))))))) = omega arith in
+    rw (e₁, e₂, e₃, e₄, e₅, e₆, e₇, e₈, e₉) (sets-eq (b₀ ∷ b₁ ∷ b₂ ∷ b₃ ∷ b₄ ∷ b₅ ∷ b₆ ∷ b₇ ∷ b₈ ∷ b₉ ∷ []) l at h)
 
 -- lists joined, with one more behind them
 joined-snoc : (ls : List (List ℕ)) (l : List ℕ) → joined (ls ++ (l ∷ [])) ≡ joined ls ++ l
@@ -76,7 +77,7 @@ map-snoc : (f : ℕ → List ℕ) (ns : List ℕ) (n : ℕ) → map f (ns ++ (n 
 map-snoc f [] n = refl
 map-snoc f (m ∷ ns) n = ap (λ (x : List (List ℕ)). f m ∷ x) (map-snoc f ns n)
 
--- answers joined have nine bytes each
+-- answers joined have ten bytes each
 joined-length : (ns : List ℕ) → length (joined (map answerAt ns)) ≡ answerLength * length ns
 unfolding answerAt
 joined-length [] = refl
@@ -121,11 +122,12 @@ module _ {room₀ ns room : List ℕ} {start count k : ℕ} (fits : start + coun
       ∙ ap₂ _+_ (filled start count k fits (p .among)) (length-drop (answerLength * k) room₀)
       ∙ omega (arith, p .among)
 
-  pub putting-next : (channel rest : ℕ) (next : List ℕ) → Putting room₀ start count ns room k → k < count
-      → channel ≡ cond (ltb (getD ns (start + k) 0) firstOnDat) RSP DAT → rest ≡ getD answers (getD ns (start + k) 0) 0
-      → next ≡ take (k * answerLength) room ++ nineOf channel rest ++ drop (k * answerLength + answerLength) room → Putting room₀ start count ns next (k + 1)
+  pub putting-next : (channel rest error : ℕ) (next : List ℕ) → Putting room₀ start count ns room k → k < count
+      → channel ≡ cond (ltb (getD ns (start + k) 0 % withDerr) firstOnDat) RSP DAT → rest ≡ getD answers (getD ns (start + k) 0 % withDerr) 0
+      → error ≡ getD ns (start + k) 0 / withDerr % 2 * DERR
+      → next ≡ take (k * answerLength) room ++ tenOf channel rest error ++ drop (k * answerLength + answerLength) room → Putting room₀ start count ns next (k + 1)
   unfolding answerAt
-  putting-next channel rest next p l hc hr hn = record { among = omega arith; table = p .table; put = put }
+  putting-next channel rest error next p l hc hr he hn = record { among = omega arith; table = p .table; put = put }
     where
       long : length (joined (answersAt start k)) ≡ k * answerLength
       long = filled start count k fits (p .among) ∙ omega arith
@@ -142,13 +144,16 @@ module _ {room₀ ns room : List ℕ} {start count k : ℕ} (fits : start + coun
           ∙ drop-drop answerLength (answerLength * k) room₀
           ∙ ap (λ (n : ℕ). drop n room₀) further
 
-      this : nineOf channel rest ≡ answerAt (getD numbers (start + k) 0)
-      this = ap₂ nineOf hc hr ∙ ap (λ (x : List ℕ). answerAt (getD x (start + k) 0)) (p .table)
+      this : tenOf channel rest error ≡ answerAt (getD numbers (start + k) 0)
+      this =
+          ap₂ (λ (x y : ℕ). tenOf x y error) hc hr
+          ∙ ap (tenOf (cond (ltb (getD ns (start + k) 0 % withDerr) firstOnDat) RSP DAT) (getD answers (getD ns (start + k) 0 % withDerr) 0)) he
+          ∙ ap (λ (x : List ℕ). answerAt (getD x (start + k) 0)) (p .table)
 
       put : next ≡ joined (answersAt start (k + 1)) ++ drop (answerLength * (k + 1)) room₀
       put =
           hn
-          ∙ ap₂ (λ (x y : List ℕ). x ++ nineOf channel rest ++ y) front back
+          ∙ ap₂ (λ (x y : List ℕ). x ++ tenOf channel rest error ++ y) front back
           ∙ ap (λ (x : List ℕ). (joined (answersAt start k)) ++ x ++ drop (answerLength * (k + 1)) room₀) this
           ∙ ap (λ (x : List ℕ). x ++ drop (answerLength * (k + 1)) room₀) (sym (answers-next start k (omega arith)))
 

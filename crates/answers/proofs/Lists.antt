@@ -3,23 +3,25 @@
 use mathlib.Core.Path.{_≡_, refl, sym, _∙_, ap, ap₂, subst}
 use mathlib.Core.Bool.{Bool, true, false, cond, _&&_, and-comm}
 use mathlib.Core.List.{List, [], _∷_, map}
-use Prim.Native.Nat.{ℕ, zero, suc, _/_, _%_}
+use Prim.Native.Nat.{ℕ, zero, suc, _*_, _/_, _%_, _<_}
+use native.Mathlib.Nat.{mod-lt}
 use native.Mathlib.Omega.{arith}
 use lib.Dec.{eqb, ltb}
 use lib.ListN.{length, getD, take, drop}
 use Rattle.kinds.specs.Tests.{any, all, same, _∈?_}
-use Rattle.kinds.specs.Codes.{RSP, DAT}
-use Rattle.kinds.proofs.Lists.{and-left, and-right, and-both}
+use Rattle.kinds.specs.Codes.{RSP, DAT, OK, DERR}
+use Rattle.kinds.proofs.Lists.{one-of, and-left, and-right, and-both}
 use Rattle.rows.specs.Event.{byte}
 use Rattle.rows.specs.Rows.{rows}
 use Rattle.rows.specs.Permitted.{asked}
+use Rattle.steps.proofs.Passing.{all-getD}
 use Rattle.event.specs.Refusals.{issueE, below, fault}
 use Rattle.answers.specs.declared.Question.{Question}
 use Rattle.answers.specs.Answers.{question, questionBytes, answerLimits, permits, numbersFrom, choices, allBelow, answersTo}
 use Rattle.answers.specs.Ascending.{ascending}
 use Rattle.answers.specs.Listed.{answerLength, asking, faultOf}
 use Rattle.answers.specs.Table.{spans, numbers, answers, firstOnDat}
-use Rattle.answers.specs.Code.{spanOf, nineOf, answerAt, answersIn}
+use Rattle.answers.specs.Code.{spanOf, tenOf, withDerr, answerAt, answersIn}
 use Rattle.answers.proofs.Ascending.{all-member, same-members}
 use Rattle.answers.proofs.Choices.{chosen, choices-members, chosen-below, allBelow-members, allBelow-ascending, keep-members, keep-ascending}
 use Rattle.answers.proofs.OfRows.{rowChoices, rowAsked, answersOf, rows-members}
@@ -59,28 +61,43 @@ all-right : all (λ b. rightList (questionAt b)) questions ≡ true
 unfolding rightList questions rows asked rowChoices rowAsked answersOf order insert sorted alike spans numbers spanOf answerAt answersIn
 all-right = refl
 
--- every answer of the table is in range, on either channel
-inRange : ℕ → ℕ → Bool
-inRange channel w = below (nineOf channel w) 0 (answerLimits issueE)
+-- every answer of the table is in range, on either channel and with either error field
+inRange : ℕ → ℕ → ℕ → Bool
+inRange w channel error = below (tenOf channel w error) 0 (answerLimits issueE)
 
-words-in-range : all (λ w. inRange RSP w && inRange DAT w) answers ≡ true
-unfolding inRange
+wordInRange : ℕ → Bool
+wordInRange w = all (λ channel. all (inRange w channel) (OK ∷ DERR ∷ [])) (RSP ∷ DAT ∷ [])
+
+words-in-range : all wordInRange answers ≡ true
+unfolding wordInRange inRange
 words-in-range = refl
 
-at-in-range : (ws : List ℕ) → all (λ w. inRange RSP w && inRange DAT w) ws ≡ true → (n : ℕ) → inRange RSP (getD ws n 0) && inRange DAT (getD ws n 0) ≡ true
-unfolding inRange
-at-in-range [] h n = refl
-at-in-range (w ∷ ws) h zero = and-left (inRange RSP w && inRange DAT w) (all (λ x. inRange RSP x && inRange DAT x) ws) h
-at-in-range (w ∷ ws) h (suc n) = at-in-range ws (and-right (inRange RSP w && inRange DAT w) (all (λ x. inRange RSP x && inRange DAT x) ws) h) n
+zero-in-range : wordInRange 0 ≡ true
+unfolding wordInRange inRange
+zero-in-range = refl
 
-on-either : (b : Bool) (w : ℕ) → inRange RSP w && inRange DAT w ≡ true → inRange (cond b RSP DAT) w ≡ true
-on-either true w h = and-left (inRange RSP w) (inRange DAT w) h
-on-either false w h = and-right (inRange RSP w) (inRange DAT w) h
+-- the channel and the error field that a number stands for
+on-either : (b : Bool) (m w : ℕ) → m < 2 → wordInRange w ≡ true → inRange w (cond b RSP DAT) (m * DERR) ≡ true
+unfolding wordInRange
+on-either b m w l h = error m l (one-of (λ channel. all (inRange w channel) (OK ∷ DERR ∷ [])) (cond b RSP DAT) (RSP ∷ DAT ∷ []) (channel b) h)
+  where
+    channel : (t : Bool) → cond t RSP DAT ∈? (RSP ∷ DAT ∷ []) ≡ true
+    channel true = refl
+    channel false = refl
+
+    error : (n : ℕ) → n < 2 → all (inRange w (cond b RSP DAT)) (OK ∷ DERR ∷ []) ≡ true → inRange w (cond b RSP DAT) (n * DERR) ≡ true
+    error zero k r = one-of (inRange w (cond b RSP DAT)) OK (OK ∷ DERR ∷ []) refl r
+    error (suc zero) k r = one-of (inRange w (cond b RSP DAT)) DERR (OK ∷ DERR ∷ []) refl r
+    error (suc (suc n)) k r = absurd (omega arith)
 
 all-in-range : (ns : List ℕ) → all (λ a. below a 0 (answerLimits issueE)) (map answerAt ns) ≡ true
 unfolding answerAt inRange
 all-in-range [] = refl
-all-in-range (n ∷ ns) = and-both (on-either (ltb n firstOnDat) (getD answers n 0) (at-in-range answers words-in-range n)) (all-in-range ns)
+all-in-range (n ∷ ns) =
+    and-both
+    (on-either (ltb (n % withDerr) firstOnDat) (n / withDerr % 2) (getD answers (n % withDerr) 0) (mod-lt (n / withDerr) (omega arith))
+    (all-getD wordInRange answers (n % withDerr) zero-in-range words-in-range))
+    (all-in-range ns)
 
 -- a test that follows from the other two
 added-test : (n p b : Bool) → (n && p ≡ true → b ≡ true) → n && p ≡ p && (n && b)

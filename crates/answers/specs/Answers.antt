@@ -24,7 +24,7 @@ question request ret noSD excl tag before =
 abbrev pub questionBytes : Question → List ℕ
 questionBytes q = q .request .0 ∷ q .«ret_to_src» ∷ q .«do_not_go_to_sd» ∷ q .excl ∷ q .tag .0 ∷ q .before .0 ∷ []
 
--- the event that a question and an answer make: bytes 0 to 4 are the question's, bytes 5 to 13 are the answer
+-- the event that a question and an answer make: bytes 0 to 4 are the question's, bytes 5 to 14 are the answer
 abbrev pub eventWith : Question → List ℕ → List ℕ
 eventWith q a = take 5 (questionBytes q) ++ a
 
@@ -32,7 +32,7 @@ eventWith q a = take 5 (questionBytes q) ++ a
 unfoldable pub permits : Question → List ℕ → Bool
 permits q a = permitted (eventWith q a) (q .tag .0) (q .before .0) (stateAfterOf (eventWith q a))
 
--- the limits of an answer's bytes: those of event bytes 5 to 13, but the state after is one of the seven
+-- the limits of an answer's bytes: those of event bytes 5 to 14, but the state after is one of the seven
 abbrev pub answerLimits : Issue → List ℕ
 answerLimits issue = set (drop 4 (issue .limits)) 8 7
 

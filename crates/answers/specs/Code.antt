@@ -5,7 +5,7 @@ use mathlib.Core.List.{List, [], _∷_, map}
 use lib.Dec.{eqb, ltb}
 use lib.ListN.{getD, take, drop}
 use Rattle.kinds.specs.Tests.{_∈?_}
-use Rattle.kinds.specs.Codes.{SnpUnique, SnpCleanInvalid, SnpMakeInvalid, SnpCleanFwd, SnpNotSharedDirtyFwd, SnpPreferUniqueFwd, tagDirty, RSP, DAT}
+use Rattle.kinds.specs.Codes.{SnpUnique, SnpCleanInvalid, SnpMakeInvalid, SnpCleanFwd, SnpNotSharedDirtyFwd, SnpPreferUniqueFwd, tagDirty, RSP, DAT, DERR}
 use Rattle.answers.specs.declared.Question.{Question}
 use Rattle.answers.specs.Table.{lists, spans, numbers, answers, firstOnDat}
 
@@ -34,9 +34,9 @@ listAt context = getD lists (context / 8) 0 / 2 ^ (context % 8 * 8) % 256
 unfoldable pub spanOf : Question → ℕ
 spanOf q = getD spans (listAt (contextOf q)) 0
 
--- nine bytes: a channel, and eight bytes from one number, the lowest first
-abbrev pub nineOf : ℕ → ℕ → List ℕ
-nineOf channel w =
+-- ten bytes: a channel, eight bytes from one number, the lowest first, and an error field
+abbrev pub tenOf : ℕ → ℕ → ℕ → List ℕ
+tenOf channel w error =
     channel ∷
     w % 256 ∷
     w / 2 ^ 8 % 256 ∷
@@ -46,11 +46,16 @@ nineOf channel w =
     w / 2 ^ 40 % 256 ∷
     w / 2 ^ 48 % 256 ∷
     w / 2 ^ 56 % 256 ∷
+    error ∷
     []
+
+-- what is added to the number of an answer with DERR on its forwarded data
+abbrev pub withDerr : ℕ
+withDerr = 128
 
 -- the answer with this number: those on RSP come first
 unfoldable pub answerAt : ℕ → List ℕ
-answerAt n = nineOf (cond (ltb n firstOnDat) RSP DAT) (getD answers n 0)
+answerAt n = tenOf (cond (ltb (n % withDerr) firstOnDat) RSP DAT) (getD answers (n % withDerr) 0) (n / withDerr % 2 * DERR)
 
 -- so many answers, by their numbers from `start` on
 abbrev pub answersAt : ℕ → ℕ → List (List ℕ)

@@ -22,7 +22,7 @@ pub data Given (issue : Issue) (q : Question) (room : List ℕ) : ℕ → Type 0
   bad-byte : below (questionBytes q) 1 (asking issue .limits) ≡ false → Given issue q room 4
   -- 5: all are in range, and the request is none of the ten
   bad-request : below (questionBytes q) 1 (asking issue .limits) ≡ true → requestOf (questionBytes q) ∈? issue .requests ≡ false → Given issue q room 5
-  -- 9: the question is good, and nine times the number of answers exceeds the room
+  -- 9: the question is good, and ten times the number of answers exceeds the room
   short-room : Good issue q → length room < answerLength * length (answersTo issue q) → Given issue q room 9
   -- 0: the question is good, and the answers fit
   accepted : Good issue q → answerLength * length (answersTo issue q) ≤ length room → Given issue q room 0

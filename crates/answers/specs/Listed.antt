@@ -11,11 +11,11 @@ use Rattle.answers.specs.Answers.{questionBytes, answersTo}
 
 -- the length of an answer in bytes
 abbrev pub answerLength : ℕ
-answerLength = 9
+answerLength = 10
 
 -- the most answers of a list
 abbrev pub mostAnswers : ℕ
-mostAnswers = 29
+mostAnswers = 57
 
 -- what the bytes of a question may be: RetToSrc, DoNotGoToSD and excl as in an event, a tag state that was seen, one of the seven states
 abbrev pub asking : Issue → Issue

@@ -3,6 +3,7 @@ use kinds::Channel;
 use kinds::LineState;
 use kinds::Refusal;
 use kinds::Request;
+use kinds::RespErr;
 use kinds::TagState;
 ghost use Prim.Native.Nat.{_+_, _*_, _≤_};
 ghost use mathlib.Core.Path.{_≡_};
@@ -11,15 +12,18 @@ ghost use lib.ListN.{length, getD, take, drop};
 ghost use Rattle.event.specs.Refusals.{issueE};
 ghost use Rattle.answers.specs.Listed.{answerLength, mostAnswers, joined, faultOf, listLeft, listed};
 ghost use Rattle.answers.specs.Table.{spans, numbers};
-ghost use Rattle.answers.specs.Code.{tablesOf, contextOf, listAt, spanOf, nineOf, answersAt};
+ghost use Rattle.answers.specs.Code.{tablesOf, contextOf, listAt, spanOf, tenOf, answersAt};
 
 mod table;
 
-// The length of an answer in bytes: event bytes 5 to 13 (definition 11.2).
-pub const ANSWER_BYTES: usize = 9;
+// The length of an answer in bytes: event bytes 5 to 14 (definition 11.2).
+pub const ANSWER_BYTES: usize = 10;
 
 // The most answers of a list (definition 11.6).
-pub const MOST_ANSWERS: usize = 29;
+pub const MOST_ANSWERS: usize = 57;
+
+// What is added to the number of an answer with DERR on its forwarded data.
+const WITH_DERR: u8 = 128;
 
 // What is asked: a snoop, the tag state of the snoopee and the state of its line before (definition 11.1).
 pub struct Question {
@@ -106,11 +110,12 @@ fn span(q: Question) -> u16
     span_of(list_of(context(q)))
 }
 
-// Puts the nine bytes of an answer into the room at an offset: its channel, and the bytes of `rest`, the lowest first. They must fit.
-fn put_answer(room: &mut [u8], at: usize, channel: u8, rest: u64)
+// Puts the ten bytes of an answer into the room at an offset: its channel, the bytes of `rest`, the lowest first, and the error field of its
+// forwarded data. They must fit.
+fn put_answer(room: &mut [u8], at: usize, channel: u8, rest: u64, error: u8)
     requires { ⌜ at + answerLength ≤ length (now room) ⌝ }
     ensures { λ _. ⌜ now (room .exit) ≡
-        take at (now (room .entry)) ++ nineOf channel rest ++ drop (at + answerLength) (now (room .entry)) ⌝ }
+        take at (now (room .entry)) ++ tenOf channel rest error ++ drop (at + answerLength) (now (room .entry)) ⌝ }
 {
     room[at] = channel;
     room[at + 1] = (rest % 256) as u8;
@@ -121,6 +126,7 @@ fn put_answer(room: &mut [u8], at: usize, channel: u8, rest: u64)
     room[at + 6] = ((rest >> 40) % 256) as u8;
     room[at + 7] = ((rest >> 48) % 256) as u8;
     room[at + 8] = ((rest >> 56) % 256) as u8;
+    room[at + 9] = error;
 }
 
 // Puts so many answers into the room, one after another, by their numbers from `start` on. They must fit.
@@ -133,12 +139,20 @@ fn put_answers(room: &mut [u8], start: usize, count: usize)
     let mut k: usize = 0;
     while k < count {
         let number = numbers[start + k];
+        let answer = number % WITH_DERR;
         let channel = kinds::choose_byte(
-            number < table::FIRST_ON_DAT,
+            answer < table::FIRST_ON_DAT,
             Channel::RSP.0,
             Channel::DAT.0,
         );
-        put_answer(room, k * ANSWER_BYTES, channel, table::answer(number));
+        let error = number / WITH_DERR % 2 * RespErr::DERR.0;
+        put_answer(
+            room,
+            k * ANSWER_BYTES,
+            channel,
+            table::answer(answer),
+            error,
+        );
         k += 1;
     }
 }

@@ -1,9 +1,9 @@
--- `answers::put_answer` meets its contract: nine stores, one behind another.
+-- `answers::put_answer` meets its contract: ten stores, one behind another.
 -- Assumes nothing.
 use native.Mathlib.Omega.{arith}
 use denote.Ref.{now}
 use lib.ListN.{length-set}
-use Rattle.answers.proofs.Laws.{nine-stores}
+use Rattle.answers.proofs.Laws.{ten-stores}
 use borrow.Author.Needs.{needs}
 use Rattle.answers.proofs.put_answer.Statement.{statement}
 use Rattle.answers.proofs.put_answer.Tie as tie
@@ -83,11 +83,17 @@ add-room-8 c = search needs
 slice-write-room-9 : tie.Need-slice-write-room-9
 slice-write-room-9 c = simp length-set (omega arith)
 
+add-room-9 : tie.Need-add-room-9
+add-room-9 c = search needs
+
+slice-write-room-10 : tie.Need-slice-write-room-10
+slice-write-room-10 c = simp length-set (omega arith)
+
 same-length : tie.Need-same-length
 same-length c = simp length-set
 
 returns : tie.Need-returns
-returns c = nine-stores (now (c .args .room)) (c .args .at) _ _ _ _ _ _ _ _ _ (c .pre)
+returns c = ten-stores (now (c .args .room)) (c .args .at) _ _ _ _ _ _ _ _ _ _ (c .pre)
 
 pub put-answer-spec : {M : Type 1} → statement M
 put-answer-spec =
@@ -118,5 +124,7 @@ put-answer-spec =
     cast-room-8
     add-room-8
     slice-write-room-9
+    add-room-9
+    slice-write-room-10
     same-length
     returns)

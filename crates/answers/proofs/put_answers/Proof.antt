@@ -28,6 +28,9 @@ array-read-number c = omega (arith, numbers-length)
 choose-byte-requires : tie.Need-choose-byte-requires Inv-loop μ-loop
 choose-byte-requires c κs = search needs
 
+mul-error : tie.Need-mul-error Inv-loop μ-loop
+mul-error c = search needs
+
 mul-put-answer : tie.Need-mul-put-answer Inv-loop μ-loop
 mul-put-answer c = omega (arith, numbers-length)
 
@@ -35,7 +38,10 @@ answer-requires : tie.Need-answer-requires Inv-loop μ-loop
 answer-requires c κs = search needs
 
 put-answer-requires : tie.Need-put-answer-requires Inv-loop μ-loop
-put-answer-requires c κs = let pre = c .before .before .before .before .before .before .pre in omega (arith, putting-length (pre .0) (pre .1) (c .before .before .before .before .loop .inv))
+put-answer-requires c κs =
+    let at-loop = c .before .before .before .before .before in
+    let pre = at-loop .before .before .pre in
+    omega (arith, putting-length (pre .0) (pre .1) (at-loop .loop .inv))
 
 add-k : tie.Need-add-k Inv-loop μ-loop
 add-k c = omega arith
@@ -46,9 +52,11 @@ loop-less c = omega arith
 loop-again : tie.Need-loop-again Inv-loop μ-loop
 loop-again c =
     let answer = c .before .before .before .answer in
-    let choose-byte = c .before .before .before .before .before .choose-byte in
-    let pre = c .before .before .before .before .before .before .before .before .before .pre in
-    putting-next (pre .0) (pre .1) (choose-byte .result) (answer .result) _ (c .before .before .before .before .before .before .before .loop .inv) (c .before .before .before .before .before .before .loop-test .taken) (choose-byte .ensures) (answer .ensures)
+    let choose-byte = c .before .before .before .before .before .before .choose-byte in
+    let at-loop = c .before .before .before .before .before .before .before .before in
+    let pre = at-loop .before .before .pre in
+    putting-next (pre .0) (pre .1) (choose-byte .result) (answer .result) _ _ (at-loop .loop .inv)
+    (c .before .before .before .before .before .before .before .loop-test .taken) (choose-byte .ensures) (answer .ensures) refl
     (c .before .before .put-answer .ensures)
 
 same-length : tie.Need-same-length Inv-loop μ-loop
@@ -67,6 +75,7 @@ put-answers-spec =
     add-number
     array-read-number
     choose-byte-requires
+    mul-error
     mul-put-answer
     answer-requires
     put-answer-requires
