@@ -15,7 +15,7 @@ use Rattle.text.specs.Text.{bytes}
 use Rattle.kinds.specs.Tests.{same, all}
 use Rattle.kinds.proofs.Lists.{In, here, there, and-left, and-right, and-both, all-at, same-equal}
 use Rattle.names.specs.Names.{Named, unknown, codeOf, requestNames, flagNames, tagNames, responses, responseNames, tagOpNames, respErrNames}
-use Rattle.names.specs.Names.{forwardNames, finalNames, mostDigits, isDigit, leadingZero, isPair, readDecimal, pairOf, columns}
+use Rattle.names.specs.Names.{forwardNames, finalNames, fwdErrNames, mostDigits, isDigit, leadingZero, isPair, readDecimal, pairOf, columns}
 
 -- `same` is the equality of lists; the other direction is `same-equal` of kinds
 pub same-self : (f : List ℕ) → same f f ≡ true
@@ -153,6 +153,10 @@ forwards-both-ways = one-to-one forwardNames refl
 pub finals-both-ways : OneToOne finalNames
 unfolding tidy agree finalNames
 finals-both-ways = one-to-one finalNames refl
+
+pub fwd-errs-both-ways : OneToOne fwdErrNames
+unfolding tidy agree respErrNames fwdErrNames
+fwd-errs-both-ways = one-to-one fwdErrNames refl
 
 -- if all codes of a column are below a limit, every known field's code is
 pub codes-below : (ns : List Named) (limit : ℕ) → all (λ (n : Named). ltb (n .code) limit) ns ≡ true → (f : List ℕ)
@@ -306,7 +310,7 @@ pair-unknown f = (to (isPair f) refl, λ h. ap (λ (b : Bool). cond b (readDecim
 
 -- the limit of each column's codes
 abbrev pub limits : List ℕ
-limits = pairLimit ∷ 256 ∷ 2 ∷ 2 ∷ 2 ∷ 4 ∷ 22 ∷ 4 ∷ 4 ∷ 8 ∷ 8 ∷ []
+limits = pairLimit ∷ 256 ∷ 2 ∷ 2 ∷ 2 ∷ 4 ∷ 22 ∷ 4 ∷ 4 ∷ 8 ∷ 8 ∷ 5 ∷ []
 
 -- every code of the column is unknown or below the limit
 abbrev pub Limited : (List ℕ → ℕ) → ℕ → Type 0
@@ -319,7 +323,7 @@ pub data AllLimited : List (List ℕ → ℕ) → List ℕ → Type 0 where
       → AllLimited (column ∷ others) (limit ∷ more)
 
 pub columns-limited : AllLimited columns limits
-unfolding columns requestNames flagNames tagNames responses responseNames tagOpNames respErrNames forwardNames finalNames
+unfolding columns requestNames flagNames tagNames responses responseNames tagOpNames respErrNames forwardNames finalNames fwdErrNames
 columns-limited =
     one-more pair-below
     (one-more (codes-below requestNames 256 refl)
@@ -332,7 +336,8 @@ columns-limited =
     (one-more (codes-below respErrNames 4 refl)
     (one-more (codes-below forwardNames 8 refl)
     (one-more (codes-below finalNames 8 refl)
-    none-more))))))))))
+    (one-more (codes-below fwdErrNames 5 refl)
+    none-more)))))))))))
 
 -- examples of pair fields, good ones and bad ones, at each limit
 pub some-pairs :

@@ -35,3 +35,6 @@ forwardCode codes = getD codes 9 0
 
 abbrev pub finalCode : List ℕ → ℕ
 finalCode codes = getD codes 10 0
+
+abbrev pub fwdErrCode : List ℕ → ℕ
+fwdErrCode codes = getD codes 11 0

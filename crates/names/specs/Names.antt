@@ -141,6 +141,14 @@ finalNames =
     named "?" stateNotSeen ∷
     []
 
+-- the code of - in the column fwdErr: no data is forwarded; it is no error field's
+abbrev pub noFwdErr : ℕ
+noFwdErr = 4
+
+-- the error fields of forwarded data, with the names of RespErr; - is none
+unfoldable pub fwdErrNames : List Named
+fwdErrNames = named "-" noFwdErr ∷ respErrNames
+
 -- The pair's field is a number, not a name.
 -- the byte of the digit 0
 abbrev pub zeroDigit : ℕ
@@ -175,7 +183,8 @@ readDecimal v (d ∷ ds) = readDecimal (v * 10 + (d - zeroDigit)) ds
 unfoldable pub pairOf : List ℕ → ℕ
 pairOf field = cond (isPair field) (readDecimal 0 field) unknown
 
--- how each column of the header reads a field: pair, request, RetToSrc, DoNotGoToSD, excl, tag, response, TagOp, RespErr, forward, final
+-- how each column of the header reads a field: pair, request, RetToSrc, DoNotGoToSD, excl, tag, response, TagOp, RespErr, forward, final,
+-- fwdErr
 unfoldable pub columns : List (List ℕ → ℕ)
 columns =
     pairOf ∷
@@ -189,6 +198,7 @@ columns =
     codeOf respErrNames ∷
     codeOf forwardNames ∷
     codeOf finalNames ∷
+    codeOf fwdErrNames ∷
     []
 
 -- the code of a field in the column with this number, counted from 0; unknown past the last

@@ -21,5 +21,7 @@ pub const FORWARD: usize = 9;
 
 pub const FINAL: usize = 10;
 
+pub const FWD_ERR: usize = 11;
+
 // The number of columns: a line has one field for each.
-pub const COLUMNS: usize = 11;
+pub const COLUMNS: usize = 12;

@@ -14,8 +14,8 @@ ghost use Prim.Native.Nat.{_≤_};
 ghost use lib.ListN.{length};
 ghost use Rattle.kinds.specs.Tests.{same, all};
 ghost use Rattle.names.specs.Names.{codeOf, requestNames, flagNames, tagNames, responseNames, tagOpNames, respErrNames};
-ghost use Rattle.names.specs.Names.{forwardNames, finalNames, unknown, mostDigits, isDigit, readDecimal, pairOf, inColumn};
-ghost use Rattle.names.specs.Names.{answerAt};
+ghost use Rattle.names.specs.Names.{forwardNames, finalNames, fwdErrNames, unknown, mostDigits, isDigit, readDecimal, pairOf};
+ghost use Rattle.names.specs.Names.{answerAt, inColumn};
 
 pub mod columns;
 
@@ -173,6 +173,17 @@ pub fn forward(field: &[u8]) -> u32
     known(field, b"-", FwdState::NONE.0, code)
 }
 
+// The code of `-` in the column fwdErr: no data is forwarded. It is no error field's.
+pub const NO_FWD_ERR: u8 = 4;
+
+// The error field of forwarded data, with the names of RespErr; NO_FWD_ERR for none.
+pub fn fwd_err(field: &[u8]) -> u32
+    ensures { λ r. ⌜ r ≡ codeOf fwdErrNames (now (field .entry)) ⌝ }
+{
+    let code = resp_err(field);
+    known(field, b"-", NO_FWD_ERR, code)
+}
+
 // The code of a state after.
 pub fn state_after(field: &[u8]) -> u32
     ensures { λ r. ⌜ r ≡ codeOf finalNames (now (field .entry)) ⌝ }
@@ -220,7 +231,8 @@ pub fn pair(field: &[u8]) -> u32
     digits(field)
 }
 
-// The answer with this index among the 22 responses; past the last, the first.
+// The answer with this index among the 22 responses; past the last, the first. A name says nothing of the forwarded data's error field:
+// OK stands for it.
 pub fn answer(place: u8) -> Answer
     ensures { λ r. ⌜ r ≡ answerAt place ⌝ }
 {
@@ -233,20 +245,20 @@ pub fn answer(place: u8) -> Answer
         5 => Answer::SnpRespData(Resp::I_PD, Forward::NoForward),
         6 => Answer::SnpRespData(Resp::SC_PD, Forward::NoForward),
         7 => Answer::SnpRespDataPtl(Resp::I_PD),
-        8 => Answer::SnpResp(Resp::I, Forward::CompData(FwdState::SC)),
-        9 => Answer::SnpResp(Resp::SC, Forward::CompData(FwdState::SC)),
-        10 => Answer::SnpResp(Resp::SD, Forward::CompData(FwdState::SC)),
-        11 => Answer::SnpResp(Resp::I, Forward::CompData(FwdState::SD_PD)),
-        12 => Answer::SnpResp(Resp::SC, Forward::CompData(FwdState::SD_PD)),
-        13 => Answer::SnpResp(Resp::I, Forward::CompData(FwdState::UC)),
-        14 => Answer::SnpResp(Resp::I, Forward::CompData(FwdState::UD_PD)),
-        15 => Answer::SnpRespData(Resp::I, Forward::CompData(FwdState::SC)),
-        16 => Answer::SnpRespData(Resp::SC, Forward::CompData(FwdState::SC)),
-        17 => Answer::SnpRespData(Resp::SD, Forward::CompData(FwdState::SC)),
-        18 => Answer::SnpRespData(Resp::I, Forward::CompData(FwdState::SD_PD)),
-        19 => Answer::SnpRespData(Resp::SC, Forward::CompData(FwdState::SD_PD)),
-        20 => Answer::SnpRespData(Resp::I_PD, Forward::CompData(FwdState::SC)),
-        21 => Answer::SnpRespData(Resp::SC_PD, Forward::CompData(FwdState::SC)),
+        8 => Answer::SnpResp(Resp::I, Forward::CompData(FwdState::SC, RespErr::OK)),
+        9 => Answer::SnpResp(Resp::SC, Forward::CompData(FwdState::SC, RespErr::OK)),
+        10 => Answer::SnpResp(Resp::SD, Forward::CompData(FwdState::SC, RespErr::OK)),
+        11 => Answer::SnpResp(Resp::I, Forward::CompData(FwdState::SD_PD, RespErr::OK)),
+        12 => Answer::SnpResp(Resp::SC, Forward::CompData(FwdState::SD_PD, RespErr::OK)),
+        13 => Answer::SnpResp(Resp::I, Forward::CompData(FwdState::UC, RespErr::OK)),
+        14 => Answer::SnpResp(Resp::I, Forward::CompData(FwdState::UD_PD, RespErr::OK)),
+        15 => Answer::SnpRespData(Resp::I, Forward::CompData(FwdState::SC, RespErr::OK)),
+        16 => Answer::SnpRespData(Resp::SC, Forward::CompData(FwdState::SC, RespErr::OK)),
+        17 => Answer::SnpRespData(Resp::SD, Forward::CompData(FwdState::SC, RespErr::OK)),
+        18 => Answer::SnpRespData(Resp::I, Forward::CompData(FwdState::SD_PD, RespErr::OK)),
+        19 => Answer::SnpRespData(Resp::SC, Forward::CompData(FwdState::SD_PD, RespErr::OK)),
+        20 => Answer::SnpRespData(Resp::I_PD, Forward::CompData(FwdState::SC, RespErr::OK)),
+        21 => Answer::SnpRespData(Resp::SC_PD, Forward::CompData(FwdState::SC, RespErr::OK)),
         _ => Answer::SnpResp(Resp::I, Forward::NoForward),
     }
 }
@@ -267,6 +279,7 @@ pub fn column(number: usize, field: &[u8]) -> u32
         columns::RESP_ERR => resp_err(field),
         columns::FORWARD => forward(field),
         columns::FINAL => state_after(field),
+        columns::FWD_ERR => fwd_err(field),
         _ => UNKNOWN,
     }
 }

@@ -19,7 +19,7 @@ use Rattle.names.specs.Columns.{pairCode}
 use Rattle.names.proofs.Names.{pairLimit, limits, Limited, AllLimited, none-more, one-more, columns-limited}
 use Rattle.parser.specs.declared.ParsedLine.{ParsedLine}
 use Rattle.parser.specs.declared.Found.{Found}
-use Rattle.parser.specs.Parsed.{codesOf, lineCodes, known, wellFormed, eventOf, parsedAs, refusedParse, parsed}
+use Rattle.parser.specs.Parsed.{codesOf, lineCodes, known, dashesAgree, wellFormed, eventOf, parsedAs, refusedParse, parsed}
 use Rattle.parser.specs.Code.{codesIn, asByte}
 
 -- as many numbers as limits, each below its own
@@ -45,7 +45,14 @@ codes-below (one-more {column = c} {others = cs} p ps) (f ∷ fs) k =
 -- every code of a well-formed line is known, and below its column's limit
 pub codes-known : (line : List ℕ) → wellFormed line ≡ true → all known (lineCodes line) ≡ true
 unfolding wellFormed
-codes-known line w = and-right (eqb (length (fieldsOf line)) (length columns)) (all known (lineCodes line)) w
+codes-known line w =
+    let many = eqb (length (fieldsOf line)) (length columns) in
+    and-right many (all known (lineCodes line)) (and-left (many && all known (lineCodes line)) (dashesAgree (lineCodes line)) w)
+
+-- its dashes agree
+pub dashes-agree : (line : List ℕ) → wellFormed line ≡ true → dashesAgree (lineCodes line) ≡ true
+unfolding wellFormed
+dashes-agree line w = and-right (eqb (length (fieldsOf line)) (length columns) && all known (lineCodes line)) (dashesAgree (lineCodes line)) w
 
 pub codes-under : (line : List ℕ) → wellFormed line ≡ true → under (lineCodes line) limits ≡ true
 codes-under line w = codes-below columns-limited (fieldsOf line) (codes-known line w)

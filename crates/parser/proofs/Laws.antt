@@ -15,7 +15,7 @@ use Rattle.kinds.specs.declared.Answer.{Answer}
 use Rattle.kinds.specs.declared.Answer.the-variants.{SnpResp, SnpRespData, SnpRespDataPtl}
 use Rattle.kinds.specs.declared.Forward.{Forward}
 use Rattle.kinds.specs.declared.Forward.the-variants.{NoForward, CompData}
-use Rattle.kinds.specs.Answers.{forwardAt, wire, forwardWire}
+use Rattle.kinds.specs.Answers.{wire, forwardWire, forwardError}
 use Rattle.kinds.proofs.Lists.{and-right}
 use Rattle.fields.specs.Fields.{fieldsOf, fieldsFrom, fieldEnd}
 use Rattle.fields.proofs.Laws.{end-from, end-within, fields-start, fields-none, fields-step}
@@ -24,7 +24,7 @@ use Rattle.names.specs.Columns.{requestCode, retToSrcCode, doNotGoToSDCode, exc
 use Rattle.parser.specs.declared.Taken.{Taken}
 use Rattle.parser.specs.declared.Codes.{Codes}
 use Rattle.parser.specs.declared.Found.{Found}
-use Rattle.parser.specs.Parsed.{codesOf, lineCodes, known, wellFormed, eventOf}
+use Rattle.parser.specs.Parsed.{codesOf, lineCodes, known, dashesAgree, wellFormed, sentOf, eventOf}
 use Rattle.parser.specs.Code.{takenBy, takenAt, gatheredOf, allTaken, codesIn, asByte}
 
 -- ONE FIELD: within the line, and past its end.
@@ -59,8 +59,8 @@ end-next line at end h e = (subst (λ n. at ≤ n) (sym e) (end-from line at), s
 behind : (number : ℕ) (line : List ℕ) {f g : Taken} → f ≡ g → takenAt number line (f .next) ≡ takenAt number line (g .next)
 behind number line e = ap (λ (f : Taken). takenAt number line (f .next)) e
 
--- eleven fields, each read behind the one before, are all fields of the line
-pub all-taken : (line : List ℕ) {f₀ f₁ f₂ f₃ f₄ f₅ f₆ f₇ f₈ f₉ f₁₀ : Taken} {r : Codes}
+-- twelve fields, each read behind the one before, are all fields of the line
+pub all-taken : (line : List ℕ) {f₀ f₁ f₂ f₃ f₄ f₅ f₆ f₇ f₈ f₉ f₁₀ f₁₁ : Taken} {r : Codes}
     → f₀ ≡ takenAt 0 line 0
     → f₁ ≡ takenAt 1 line (f₀ .next)
     → f₂ ≡ takenAt 2 line (f₁ .next)
@@ -72,9 +72,10 @@ pub all-taken : (line : List ℕ) {f₀ f₁ f₂ f₃ f₄ f₅ f₆ f₇ f₈ 
     → f₈ ≡ takenAt 8 line (f₇ .next)
     → f₉ ≡ takenAt 9 line (f₈ .next)
     → f₁₀ ≡ takenAt 10 line (f₉ .next)
-    → r ≡ gatheredOf f₀ f₁ f₂ f₃ f₄ f₅ f₆ f₇ f₈ f₉ f₁₀ → r ≡ allTaken line
+    → f₁₁ ≡ takenAt 11 line (f₁₀ .next)
+    → r ≡ gatheredOf f₀ f₁ f₂ f₃ f₄ f₅ f₆ f₇ f₈ f₉ f₁₀ f₁₁ → r ≡ allTaken line
 unfolding allTaken
-all-taken line e₀ e₁ e₂ e₃ e₄ e₅ e₆ e₇ e₈ e₉ e₁₀ e =
+all-taken line e₀ e₁ e₂ e₃ e₄ e₅ e₆ e₇ e₈ e₉ e₁₀ e₁₁ e =
     let p₁ = e₁ ∙ behind 1 line e₀ in
     let p₂ = e₂ ∙ behind 2 line p₁ in
     let p₃ = e₃ ∙ behind 3 line p₂ in
@@ -85,7 +86,8 @@ all-taken line e₀ e₁ e₂ e₃ e₄ e₅ e₆ e₇ e₈ e₉ e₁₀ e =
     let p₈ = e₈ ∙ behind 8 line p₇ in
     let p₉ = e₉ ∙ behind 9 line p₈ in
     let p₁₀ = e₁₀ ∙ behind 10 line p₉ in
-    e ∙ (λ i. gatheredOf (e₀ i) (p₁ i) (p₂ i) (p₃ i) (p₄ i) (p₅ i) (p₆ i) (p₇ i) (p₈ i) (p₉ i) (p₁₀ i))
+    let p₁₁ = e₁₁ ∙ behind 11 line p₁₀ in
+    e ∙ (λ i. gatheredOf (e₀ i) (p₁ i) (p₂ i) (p₃ i) (p₄ i) (p₅ i) (p₆ i) (p₇ i) (p₈ i) (p₉ i) (p₁₀ i) (p₁₁ i))
 
 -- ALL FIELDS, one after another, for any list of columns
 takenFrom : List (List ℕ → ℕ) → List ℕ → ℕ → Codes
@@ -172,14 +174,16 @@ as-many false m n h = go (eqb m n)
 found : List ℕ → Bool → Found
 found codes good = record { codes = codes; good = good }
 
--- THE CODES OF A LINE: it is well formed exactly when every code is known and the last field ends the line
-pub codes-found : (line : List ℕ) (t : Codes) (k : Bool) → t ≡ allTaken line → k ≡ all known (t .codes)
-    → record { codes = t .codes; good = k && ltb (length line) (t .end) } ≡ codesIn line
+-- THE CODES OF A LINE: it is well formed exactly when every code is known, the last field ends the line, and the dashes agree
+pub codes-found : (line : List ℕ) (t : Codes) (k d : Bool) → t ≡ allTaken line → k ≡ all known (t .codes) → d ≡ dashesAgree (t .codes)
+    → record { codes = t .codes; good = k && ltb (length line) (t .end) && d } ≡ codesIn line
 unfolding found wellFormed
-codes-found line t k e h =
+codes-found line t k d e h g =
     ap₂ found codes-so
+    (ap₂ (λ (a b : Bool). a && b)
     (ap₂ (λ (a b : Bool). a && b) (h ∙ ap (all known) codes-so) end-so
     ∙ as-many (all known (lineCodes line)) (length (fieldsOf line)) (length columns) (none-missing columns (fieldsOf line)))
+    (g ∙ ap dashesAgree codes-so))
   where
     t-so : t ≡ takenFrom columns line 0
     t-so = e ∙ one-by-one line
@@ -252,14 +256,14 @@ two w s = getD w 0 0 ∷ getD w 1 0 ∷ s
 
 four-so : (a : Answer) (s : List ℕ) → four (wire a) s ≡ take 4 (wire a) ++ s
 four-so (SnpResp r NoForward) s = refl
-four-so (SnpResp r (CompData f)) s = refl
+four-so (SnpResp r (CompData f x)) s = refl
 four-so (SnpRespData r NoForward) s = refl
-four-so (SnpRespData r (CompData f)) s = refl
+four-so (SnpRespData r (CompData f x)) s = refl
 four-so (SnpRespDataPtl r) s = refl
 
 two-so : (f : Forward) (s : List ℕ) → two (forwardWire f) s ≡ forwardWire f ++ s
 two-so NoForward s = refl
-two-so (CompData f) s = refl
+two-so (CompData f x) s = refl
 
 module _ (codes : List ℕ) where
   front : List ℕ → List ℕ
@@ -268,11 +272,15 @@ module _ (codes : List ℕ) where
   middle : List ℕ → List ℕ
   middle s = tagOpCode codes ∷ respErrCode codes ∷ s
 
-  pub event-parts : {a : Answer} {f : Forward} (w v : List ℕ) → a ≡ answerAt (responseCode codes) → w ≡ wire a → f ≡ forwardAt (forwardCode codes) → v ≡ forwardWire f
-      → requestCode codes ∷ retToSrcCode codes ∷ doNotGoToSDCode codes ∷ exclCode codes ∷ tagCode codes ∷ four w (tagOpCode codes ∷ respErrCode codes ∷ two v (finalCode codes ∷ []))
+  pub event-parts : {a : Answer} {f : Forward} (w v : List ℕ) (x : ℕ) → a ≡ answerAt (responseCode codes) → w ≡ wire a → f ≡ sentOf codes → v ≡ forwardWire f
+      → x ≡ forwardError f
+      → requestCode codes ∷ retToSrcCode codes ∷ doNotGoToSDCode codes ∷ exclCode codes ∷ tagCode codes
+      ∷ four w (tagOpCode codes ∷ respErrCode codes ∷ two v (finalCode codes ∷ x ∷ []))
       ≡ eventOf codes
   unfolding front middle eventOf
-  event-parts w v a-so w-so f-so v-so =
-      ap₂ (λ (x y : List ℕ). front (four x (middle (two y (finalCode codes ∷ []))))) (w-so ∙ ap wire a-so) (v-so ∙ ap forwardWire f-so)
-      ∙ ap front (four-so (answerAt (responseCode codes)) (middle (two (forwardWire (forwardAt (forwardCode codes))) (finalCode codes ∷ []))))
-      ∙ ap (λ (s : List ℕ). front (take 4 (wire (answerAt (responseCode codes))) ++ middle s)) (two-so (forwardAt (forwardCode codes)) (finalCode codes ∷ []))
+  event-parts w v x a-so w-so f-so v-so x-so =
+      let last = finalCode codes ∷ forwardError (sentOf codes) ∷ [] in
+      ap₂ (λ (y : List ℕ) (z : ℕ). front (four y (middle (two v (finalCode codes ∷ z ∷ []))))) (w-so ∙ ap wire a-so) (x-so ∙ ap forwardError f-so)
+      ∙ ap (λ (y : List ℕ). front (four (wire (answerAt (responseCode codes))) (middle (two y last)))) (v-so ∙ ap forwardWire f-so)
+      ∙ ap front (four-so (answerAt (responseCode codes)) (middle (two (forwardWire (sentOf codes)) last)))
+      ∙ ap (λ (l : List ℕ). front (take 4 (wire (answerAt (responseCode codes))) ++ middle l)) (two-so (sentOf codes) last)

@@ -22,14 +22,14 @@ takenBy column line at =
 unfoldable pub takenAt : ℕ → List ℕ → ℕ → Taken
 takenAt number line at = takenBy (inColumn number) line at
 
--- the codes of eleven fields, and the offset behind the last one
-abbrev pub gatheredOf : Taken → Taken → Taken → Taken → Taken → Taken → Taken → Taken → Taken → Taken → Taken → Codes
-gatheredOf a b c d e f g h i j k = record {
-  codes = a .code ∷ b .code ∷ c .code ∷ d .code ∷ e .code ∷ f .code ∷ g .code ∷ h .code ∷ i .code ∷ j .code ∷ k .code ∷ [];
-  end = k .next;
+-- the codes of twelve fields, and the offset behind the last one
+abbrev pub gatheredOf : Taken → Taken → Taken → Taken → Taken → Taken → Taken → Taken → Taken → Taken → Taken → Taken → Codes
+gatheredOf a b c d e f g h i j k l = record {
+  codes = a .code ∷ b .code ∷ c .code ∷ d .code ∷ e .code ∷ f .code ∷ g .code ∷ h .code ∷ i .code ∷ j .code ∷ k .code ∷ l .code ∷ [];
+  end = l .next;
 }
 
--- eleven fields one after another, each behind the comma of the one before
+-- twelve fields one after another, each behind the comma of the one before
 unfoldable pub allTaken : List ℕ → Codes
 allTaken line =
     let a = takenAt 0 line 0 in
@@ -43,7 +43,8 @@ allTaken line =
     let i = takenAt 8 line (h .next) in
     let j = takenAt 9 line (i .next) in
     let k = takenAt 10 line (j .next) in
-    gatheredOf a b c d e f g h i j k
+    let l = takenAt 11 line (k .next) in
+    gatheredOf a b c d e f g h i j k l
 
 -- the codes of a line's fields, and whether it is well formed
 abbrev pub codesIn : List ℕ → Found

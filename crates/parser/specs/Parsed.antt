@@ -5,11 +5,12 @@ use mathlib.Core.List.{List, [], _∷_, _++_}
 use lib.Dec.{eqb, ltb}
 use lib.ListN.{length, take, replicate}
 use Rattle.kinds.specs.Tests.{all}
-use Rattle.kinds.specs.Answers.{forwardAt, wire, forwardWire}
+use Rattle.kinds.specs.declared.Forward.{Forward}
+use Rattle.kinds.specs.Answers.{forwardAt, wire, forwardWire, forwardError}
 use Rattle.kinds.specs.Places.{eventLength, highestPair}
 use Rattle.fields.specs.Fields.{fieldsOf}
-use Rattle.names.specs.Names.{unknown, answerAt, columns}
-use Rattle.names.specs.Columns.{pairCode, requestCode, retToSrcCode, doNotGoToSDCode, exclCode, tagCode, responseCode, tagOpCode, respErrCode, forwardCode, finalCode}
+use Rattle.names.specs.Names.{unknown, answerAt, noFwdErr, columns}
+use Rattle.names.specs.Columns.{pairCode, requestCode, retToSrcCode, doNotGoToSDCode, exclCode, tagCode, responseCode, tagOpCode, respErrCode, forwardCode, finalCode, fwdErrCode}
 use Rattle.parser.specs.declared.ParsedLine.{ParsedLine}
 
 -- the code of each field in its column; a missing field is unknown
@@ -26,11 +27,20 @@ lineCodes line = codesOf columns (fieldsOf line)
 abbrev pub known : ℕ → Bool
 known code = not (eqb code unknown)
 
--- eleven fields, each known in its column
-unfoldable pub wellFormed : List ℕ → Bool
-wellFormed line = eqb (length (fieldsOf line)) (length columns) && all known (lineCodes line)
+-- - stands in both of forward and fwdErr, or in neither
+abbrev pub dashesAgree : List ℕ → Bool
+dashesAgree codes = cond (eqb (forwardCode codes) 0) (eqb (fwdErrCode codes) noFwdErr) (not (eqb (fwdErrCode codes) noFwdErr))
 
--- the event's bytes, from the codes of the fields: bytes 5 to 8 come from the response, bytes 11 and 12 from the forward (definition 8.4)
+-- twelve fields, each known in its column, and - in both of forward and fwdErr or in neither
+unfoldable pub wellFormed : List ℕ → Bool
+wellFormed line = eqb (length (fieldsOf line)) (length columns) && all known (lineCodes line) && dashesAgree (lineCodes line)
+
+-- what a line says is forwarded, by its columns forward and fwdErr
+abbrev pub sentOf : List ℕ → Forward
+sentOf codes = forwardAt (forwardCode codes) (fwdErrCode codes)
+
+-- the event's bytes, from the codes of the fields: bytes 5 to 8 come from the response, bytes 11, 12 and 14 from what is forwarded
+-- (definition 8.4)
 unfoldable pub eventOf : List ℕ → List ℕ
 eventOf codes =
     requestCode codes ∷
@@ -39,7 +49,7 @@ eventOf codes =
     exclCode codes ∷
     tagCode codes ∷
     (take 4 (wire (answerAt (responseCode codes)))
-    ++ (tagOpCode codes ∷ respErrCode codes ∷ (forwardWire (forwardAt (forwardCode codes)) ++ (finalCode codes ∷ []))))
+    ++ (tagOpCode codes ∷ respErrCode codes ∷ (forwardWire (sentOf codes) ++ (finalCode codes ∷ forwardError (sentOf codes) ∷ []))))
 
 -- an accepted line: its pair and its event
 abbrev pub parsedAs : ℕ → List ℕ → ParsedLine

@@ -5,12 +5,13 @@ use kinds::FwdState;
 use kinds::HIGHEST_PAIR;
 use kinds::PairNumber;
 use kinds::Refusal;
+use kinds::RespErr;
 use names::columns;
 use names::columns::COLUMNS;
 ghost use mathlib.Core.Path.{_≡_};
 ghost use mathlib.Core.List.{map};
 ghost use Rattle.kinds.specs.Tests.{all};
-ghost use Rattle.parser.specs.Parsed.{known, eventOf, parsed, refusedParse};
+ghost use Rattle.parser.specs.Parsed.{known, dashesAgree, eventOf, parsed, refusedParse};
 ghost use Rattle.parser.specs.Code.{takenAt, gatheredOf, allTaken, codesIn, asByte};
 
 // A parsed line: its pair and its event with refusal 0, or the refusal number.
@@ -32,13 +33,13 @@ struct Taken {
     next: usize,
 }
 
-// The codes of a line's first eleven fields, and the offset behind the last one.
+// The codes of a line's first twelve fields, and the offset behind the last one.
 struct Codes {
     codes: [u32; COLUMNS],
     end: usize,
 }
 
-// The codes of a line's fields, and whether there are exactly eleven fields, each known in its column.
+// The codes of a line's fields, and whether the line is well formed.
 struct Found {
     codes: [u32; COLUMNS],
     good: bool,
@@ -62,7 +63,7 @@ fn field_at(number: usize, line: &[u8], at: usize) -> Taken
     }
 }
 
-// The codes of eleven fields, in their order.
+// The codes of twelve fields, in their order.
 fn gathered(
     pair: Taken,
     request: Taken,
@@ -74,9 +75,10 @@ fn gathered(
     op: Taken,
     error: Taken,
     forward: Taken,
+    after: Taken,
     last: Taken,
 ) -> Codes
-    ensures { λ r. ⌜ r ≡ gatheredOf pair request ret sd excl tag response op error forward last ⌝ }
+    ensures { λ r. ⌜ r ≡ gatheredOf pair request ret sd excl tag response op error forward after last ⌝ }
 {
     Codes {
         codes: [
@@ -90,13 +92,14 @@ fn gathered(
             op.code,
             error.code,
             forward.code,
+            after.code,
             last.code,
         ],
         end: last.next,
     }
 }
 
-// Reads the eleven fields one after another.
+// Reads the twelve fields one after another.
 fn take_all(line: &[u8]) -> Codes
     ensures { λ r. ⌜ r ≡ allTaken (now (line .entry)) ⌝ }
 {
@@ -121,7 +124,9 @@ fn take_all(line: &[u8]) -> Codes
     fields.at = error.next;
     let forward = field_at(columns::FORWARD, fields.line, fields.at);
     fields.at = forward.next;
-    let last = field_at(columns::FINAL, fields.line, fields.at);
+    let after = field_at(columns::FINAL, fields.line, fields.at);
+    fields.at = after.next;
+    let last = field_at(columns::FWD_ERR, fields.line, fields.at);
     gathered(
         pair,
         request,
@@ -133,6 +138,7 @@ fn take_all(line: &[u8]) -> Codes
         op,
         error,
         forward,
+        after,
         last,
     )
 }
@@ -151,15 +157,25 @@ fn all_known(codes: &[u32]) -> bool
     good
 }
 
-// The codes of a line's fields, and whether the line is well formed.
+// Whether `-` stands in both of forward and fwdErr, or in neither.
+fn dashes_agree(codes: [u32; COLUMNS]) -> bool
+    ensures { λ r. ⌜ r ≡ dashesAgree codes ⌝ }
+{
+    let no_forward = codes[columns::FORWARD] == FwdState::NONE.0 as u32;
+    let no_error = codes[columns::FWD_ERR] == names::NO_FWD_ERR as u32;
+    kinds::choose_bool(no_forward, no_error, !no_error)
+}
+
+// The codes of a line's fields, and whether it is well formed: twelve fields, each known in its column, and the dashes agree.
 fn codes_of(line: &[u8]) -> Found
     ensures { λ r. ⌜ r ≡ codesIn (now (line .entry)) ⌝ }
 {
     let taken = take_all(line);
     let codes = taken.codes;
+    let agree = dashes_agree(codes);
     Found {
         codes,
-        good: all_known(&codes) & (line.len() < taken.end),
+        good: all_known(&codes) & (line.len() < taken.end) & agree,
     }
 }
 
@@ -181,7 +197,10 @@ fn event_of(codes: [u8; COLUMNS]) -> [u8; EVENT_BYTES]
     ensures { λ r. ⌜ r ≡ eventOf codes ⌝ }
 {
     let answer = names::answer(codes[columns::RESPONSE]).wire();
-    let forward = Forward::from_state(FwdState(codes[columns::FORWARD])).wire();
+    let state = FwdState(codes[columns::FORWARD]);
+    let forward = Forward::from_state(state, RespErr(codes[columns::FWD_ERR]));
+    let sent = forward.wire();
+    let error = forward.error();
     [
         codes[columns::REQUEST],
         codes[columns::RET_TO_SRC],
@@ -194,9 +213,10 @@ fn event_of(codes: [u8; COLUMNS]) -> [u8; EVENT_BYTES]
         answer[3],
         codes[columns::TAG_OP],
         codes[columns::RESP_ERR],
-        forward[0],
-        forward[1],
+        sent[0],
+        sent[1],
         codes[columns::FINAL],
+        error.0,
     ]
 }
 

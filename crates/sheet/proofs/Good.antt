@@ -1,11 +1,11 @@
--- A line that is not refused is an event without fault: bytes in range, a request of the seven, and a pair that the table has.
+-- A line that is not refused is an event without fault: bytes in range, a request of the ten, and a pair that the table has.
 -- Assumes nothing.
 use mathlib.Core.Path.{_≡_, refl, sym, _∙_, ap}
-use mathlib.Core.Bool.{Bool, true, false, cond, _&&_, false≢true}
+use mathlib.Core.Bool.{Bool, true, false, cond, not, _&&_, false≢true}
 use mathlib.Core.List.{List, [], _∷_, _++_}
 use Prim.Native.Nat.{ℕ, zero, suc, _≤_, _<_}
 use native.Mathlib.Omega.{arith}
-use borrow.Author.Tests.{ltb-true, ltb-false}
+use borrow.Author.Tests.{eqb-false, ltb-true, ltb-false, lt-ltb, not-true}
 use lib.Dec.{eqb, ltb}
 use lib.ListN.{length, getD, take, drop}
 use Rattle.kinds.specs.Tests.{all, _∈?_}
@@ -13,17 +13,17 @@ use Rattle.kinds.specs.Codes.{requests}
 use Rattle.kinds.specs.Places.{eventLength, mostPairs, highestPair}
 use Rattle.kinds.specs.declared.Answer.{Answer}
 use Rattle.kinds.specs.declared.Forward.the-variants.{NoForward, CompData}
-use Rattle.kinds.specs.Answers.{forwardAt, wire, forwardWire, SnpResp-I}
+use Rattle.kinds.specs.Answers.{forwardAt, wire, forwardWire, forwardError, SnpResp-I}
 use Rattle.kinds.proofs.Lists.{and-left, and-right, and-both, all-at}
 use Rattle.event.specs.Refusals.{issueE, below, fault}
 use Rattle.fields.specs.Fields.{fieldsOf}
-use Rattle.names.specs.Names.{Named, codeOf, requestNames, responses, answers, answerAt, pairOf, columns}
-use Rattle.names.specs.Columns.{pairCode, requestCode, retToSrcCode, doNotGoToSDCode, exclCode, tagCode, responseCode, tagOpCode, respErrCode, forwardCode, finalCode}
+use Rattle.names.specs.Names.{Named, codeOf, requestNames, responses, answers, answerAt, noFwdErr, pairOf, columns}
+use Rattle.names.specs.Columns.{pairCode, requestCode, retToSrcCode, doNotGoToSDCode, exclCode, tagCode, responseCode, tagOpCode, respErrCode, forwardCode, finalCode, fwdErrCode}
 use Rattle.names.proofs.Names.{Sought, none, found, seek, pairLimit, limits}
-use Rattle.parser.specs.Parsed.{codesOf, lineCodes, known, wellFormed, eventOf, parsedAs, parsed}
+use Rattle.parser.specs.Parsed.{codesOf, lineCodes, known, dashesAgree, wellFormed, sentOf, eventOf, parsedAs, parsed}
 use Rattle.parser.specs.declared.ParsedLine.{ParsedLine}
 use Rattle.sheet.specs.Code.{NoFault}
-use Rattle.parser.proofs.Events.{under, codes-known, codes-under, parsed-ill, parsed-high, parsed-fine}
+use Rattle.parser.proofs.Events.{under, codes-known, dashes-agree, codes-under, parsed-ill, parsed-high, parsed-fine}
 
 names-requested : all (λ (n : Named). n .code ∈? requests) requestNames ≡ true
 unfolding requestNames
@@ -88,12 +88,24 @@ answer-under : (place : ℕ) → under (take 4 (wire (answerAt place))) (take 4 
 unfolding answers responses
 answer-under place = getD-all (λ (a : Answer). under (take 4 (wire a)) (take 4 behindTag)) answers SnpResp-I refl refl place
 
-forward-under : (state : ℕ) → ltb state 8 ≡ true → under (forwardWire (forwardAt state)) (take 2 behindError) ≡ true
-forward-under state h = go (eqb state 0)
+forward-under : (state error : ℕ) → ltb state 8 ≡ true → under (forwardWire (forwardAt state error)) (take 2 behindError) ≡ true
+forward-under state error h = go (eqb state 0)
   where
-    go : (b : Bool) → under (forwardWire (cond b NoForward (CompData (record { 0 = state })))) (take 2 behindError) ≡ true
+    go : (b : Bool) → under (forwardWire (cond b NoForward (CompData (record { 0 = state }) (record { 0 = error })))) (take 2 behindError) ≡ true
     go true = refl
     go false = and-both h refl
+
+-- where the dashes agree, the error field is one of the four, or there is none
+not-dash : (n : ℕ) → ltb n 5 ≡ true → not (eqb n noFwdErr) ≡ true → ltb n 4 ≡ true
+not-dash n h k = lt-ltb n 4 (omega (arith, ltb-true n 5 h, eqb-false n noFwdErr (not-true (eqb n noFwdErr) k)))
+
+error-under : (codes : List ℕ) → ltb (fwdErrCode codes) 5 ≡ true → dashesAgree codes ≡ true → ltb (forwardError (sentOf codes)) 4 ≡ true
+error-under codes h d = go (eqb (forwardCode codes) 0) d
+  where
+    go : (b : Bool) → cond b (eqb (fwdErrCode codes) noFwdErr) (not (eqb (fwdErrCode codes) noFwdErr)) ≡ true
+        → ltb (forwardError (cond b NoForward (CompData (record { 0 = forwardCode codes }) (record { 0 = fwdErrCode codes })))) 4 ≡ true
+    go true k = refl
+    go false k = not-dash (fwdErrCode codes) h k
 
 -- the first test stays, and the second implies the third
 keep : (a : Bool) {b c : Bool} → (b ≡ true → c ≡ true) → a && b ≡ true → a && c ≡ true
@@ -101,16 +113,23 @@ keep true f h = f h
 keep false f h = absurd (false≢true h)
 
 -- codes below their columns' limits make bytes below the event's limits
-module _ (codes : List ℕ) where
-  error-on : ltb (forwardCode codes) 8 && (ltb (finalCode codes) 8 && true) ≡ true
-      → under (forwardWire (forwardAt (forwardCode codes)) ++ (finalCode codes ∷ [])) behindError ≡ true
+module _ (codes : List ℕ) (agree : dashesAgree codes ≡ true) where
+  abbrev last : List ℕ
+  last = finalCode codes ∷ forwardError (sentOf codes) ∷ []
+
+  error-on : ltb (forwardCode codes) 8 && (ltb (finalCode codes) 8 && (ltb (fwdErrCode codes) 5 && true)) ≡ true
+      → under (forwardWire (sentOf codes) ++ last) behindError ≡ true
   error-on h =
-      let final = ltb (finalCode codes) 8 && true in
-      under-append (forwardWire (forwardAt (forwardCode codes))) (take 2 behindError) (finalCode codes ∷ []) (drop 2 behindError)
-      (forward-under (forwardCode codes) (and-left (ltb (forwardCode codes) 8) final h)) (and-right (ltb (forwardCode codes) 8) final h)
+      let onward = ltb (fwdErrCode codes) 5 && true in
+      let final = ltb (finalCode codes) 8 && onward in
+      let rest = and-right (ltb (forwardCode codes) 8) final h in
+      under-append (forwardWire (sentOf codes)) (take 2 behindError) last (drop 2 behindError)
+      (forward-under (forwardCode codes) (fwdErrCode codes) (and-left (ltb (forwardCode codes) 8) final h))
+      (and-both (and-left (ltb (finalCode codes) 8) onward rest)
+      (and-both (error-under codes (and-left (ltb (fwdErrCode codes) 5) true (and-right (ltb (finalCode codes) 8) onward rest)) agree) refl))
 
   tag-on : below codes 6 (drop 6 limits) ≡ true
-      → under (take 4 (wire (answerAt (responseCode codes))) ++ (tagOpCode codes ∷ respErrCode codes ∷ (forwardWire (forwardAt (forwardCode codes)) ++ (finalCode codes ∷ [])))) behindTag ≡ true
+      → under (take 4 (wire (answerAt (responseCode codes))) ++ (tagOpCode codes ∷ respErrCode codes ∷ (forwardWire (sentOf codes) ++ last))) behindTag ≡ true
   tag-on h =
       under-append (take 4 (wire (answerAt (responseCode codes)))) (take 4 behindTag) _ behindAnswer (answer-under (responseCode codes))
       (keep (ltb (tagOpCode codes) 4) (keep (ltb (respErrCode codes) 4) error-on) (and-right (ltb (responseCode codes) 22) (below codes 7 (drop 7 limits)) h))
@@ -126,7 +145,7 @@ module _ (codes : List ℕ) where
 
 module _ (line : List ℕ) (w : wellFormed line ≡ true) where
   event-under : under (drop 1 (eventOf (lineCodes line))) (issueE .limits) ≡ true
-  event-under = bytes-under (lineCodes line) (under-below (lineCodes line) limits (codes-under line w))
+  event-under = bytes-under (lineCodes line) (dashes-agree line w) (under-below (lineCodes line) limits (codes-under line w))
 
   event-long : length (eventOf (lineCodes line)) ≡ eventLength
   unfolding eventOf

@@ -32,7 +32,7 @@ refuse number k table = told (refusedLine number (k + 1)) table false
 
 -- the header of the input (definition 8.2)
 unfoldable pub header : List ℕ
-header = bytes "pair,request,RetToSrc,DoNotGoToSD,excl,tag,response,TagOp,RespErr,forward,final"
+header = bytes "pair,request,RetToSrc,DoNotGoToSD,excl,tag,response,TagOp,RespErr,forward,final,fwdErr"
 
 -- the most lines of a sheet (definition 8.7)
 abbrev pub mostLines : ℕ

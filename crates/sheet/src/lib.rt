@@ -82,7 +82,7 @@ fn judge_header(line: &[u8], out: &mut [u8], at: usize) -> Answered
 {
     if names::is(
         line,
-        b"pair,request,RetToSrc,DoNotGoToSD,excl,tag,response,TagOp,RespErr,forward,final",
+        b"pair,request,RetToSrc,DoNotGoToSD,excl,tag,response,TagOp,RespErr,forward,final,fwdErr",
     ) {
         return Answered { at, goes: true };
     }

@@ -40,6 +40,9 @@ forward-requires c κs = search needs
 state-after-requires : tie.Need-state-after-requires
 state-after-requires c κs = search needs
 
+fwd-err-requires : tie.Need-fwd-err-requires
+fwd-err-requires c κs = search needs
+
 returns : tie.Need-returns
 unfolding inColumn columns
 returns c = in-column (c .before .before .before .args .number) (now (c .before .before .before .args .field)) 0 (c .before .match .keys1) (c .pair .ensures)
@@ -97,13 +100,19 @@ returns-11 c =
     in-column (args .number) (now (args .field)) 10 (c .before .match .keys11) (c .state-after .ensures)
 
 returns-12 : tie.Need-returns-12
+unfolding inColumn columns
+returns-12 c =
+    let args = c .before .before .before .args in
+    in-column (args .number) (now (args .field)) 11 (c .before .match .keys12) (c .fwd-err .ensures)
+
+returns-13 : tie.Need-returns-13
 unfolding columns
-returns-12 c = past-columns (c .before .before .args .number) (now (c .before .before .args .field)) (c .match .rest)
+returns-13 c = past-columns (c .before .before .args .number) (now (c .before .before .args .field)) (c .match .rest)
 
 pub column-spec : {M : Type 1} → statement M
 column-spec =
     tie.close
     (tie.spec
     pair-requires request-requires flag-requires flag-requires-2 flag-requires-3 tag-requires response-requires
-    tag-op-requires resp-err-requires forward-requires state-after-requires returns returns-2 returns-3 returns-4
-    returns-5 returns-6 returns-7 returns-8 returns-9 returns-10 returns-11 returns-12)
+    tag-op-requires resp-err-requires forward-requires state-after-requires fwd-err-requires returns returns-2 returns-3 returns-4
+    returns-5 returns-6 returns-7 returns-8 returns-9 returns-10 returns-11 returns-12 returns-13)

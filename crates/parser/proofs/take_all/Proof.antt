@@ -70,7 +70,7 @@ stayed = (stay-none-slice (0 ∷ []) tt (plain (λ _. u8)) yes, tt)
 
 -- where the cell of a local stands among the locals' in the context: the last of the locals stands first, and behind each what frees it
 abbrev cell : ℕ → ℕ
-cell i = 2 * (35 - i)
+cell i = 2 * (38 - i)
 
 -- the same behind the token and what the line owns
 abbrev slot : ℕ → ℕ
@@ -218,25 +218,25 @@ module _ {M : Type 1} (𝓤 : URA M) (H : Heap 𝓤) (A : Atoms 𝓤) (W : Given
         subst (λ (w : Val). Seq K W (Token ∷ ‵ Own ∷ Γ) (lands C Λ E d w rest p)) (sym (ap only told)) (k (record { it = f; is = subst (Is TakenT.the-row f) told is }) e)))))
 
     -- the call of `gathered`: what is passed, what it asks, what it says, and the call as a step
-    module _ (f₀ f₁ f₂ f₃ f₄ f₅ f₆ f₇ f₈ f₉ f₁₀ : Found) where
+    module _ (f₀ f₁ f₂ f₃ f₄ f₅ f₆ f₇ f₈ f₉ f₁₀ f₁₁ : Found) where
       abbrev all-found : Args gathered.signature tt
-      all-found = (f₀ .it, (f₁ .it, (f₂ .it, (f₃ .it, (f₄ .it, (f₅ .it, (f₆ .it, (f₇ .it, (f₈ .it, (f₉ .it, (f₁₀ .it, tt)))))))))))
+      all-found = (f₀ .it, (f₁ .it, (f₂ .it, (f₃ .it, (f₄ .it, (f₅ .it, (f₆ .it, (f₇ .it, (f₈ .it, (f₉ .it, (f₁₀ .it, (f₁₁ .it, tt))))))))))))
 
       -- the same as the machine has them
       abbrev all-lowered : Vals gathered.signature tt
       all-lowered =
           let low : Found → List Val = λ f. Taken′.lowered (f .it) ∷ [] in
-          (low f₀, (low f₁, (low f₂, (low f₃, (low f₄, (low f₅, (low f₆, (low f₇, (low f₈, (low f₉, (low f₁₀, tt)))))))))))
+          (low f₀, (low f₁, (low f₂, (low f₃, (low f₄, (low f₅, (low f₆, (low f₇, (low f₈, (low f₉, (low f₁₀, (low f₁₁, tt))))))))))))
 
       abbrev to-gathered : Gathered 𝓤 H A mem run .Ghost
       to-gathered = ((tt, tt, tt, all-found, all-lowered), tt)
 
       abbrev codes : Codes
-      codes = gatheredOf (f₀ .it) (f₁ .it) (f₂ .it) (f₃ .it) (f₄ .it) (f₅ .it) (f₆ .it) (f₇ .it) (f₈ .it) (f₉ .it) (f₁₀ .it)
+      codes = gatheredOf (f₀ .it) (f₁ .it) (f₂ .it) (f₃ .it) (f₄ .it) (f₅ .it) (f₆ .it) (f₇ .it) (f₈ .it) (f₉ .it) (f₁₀ .it) (f₁₁ .it)
 
       goes-gathered : ent 𝓤 (emp 𝓤) (Gathered 𝓤 H A mem run .pre to-gathered)
       goes-gathered =
-          qed W [] ∵ nothing ! $ joined ! f₁₀ $ joined ! f₉ $ joined ! f₈ $ joined ! f₇ $ joined ! f₆ $ joined ! f₅ $
+          qed W [] ∵ nothing ! $ joined ! f₁₁ $ joined ! f₁₀ $ joined ! f₉ $ joined ! f₈ $ joined ! f₇ $ joined ! f₆ $ joined ! f₅ $
           joined ! f₄ $ joined ! f₃ $ joined ! f₂ $ joined ! f₁ $ joined ! f₀ $ nothing ! $ join ! $ frame ! $ done !
 
       gathered-said : (r : Codes) → ent 𝓤 (ensured 𝓤 H A gathered.ended (gathered.clauses 𝓤 H A mem run) tt all-found tt r) (fact 𝓤 (r ≡ codes))
@@ -292,6 +292,7 @@ module _ {M : Type 1} (𝓤 : URA M) (H : Heap 𝓤) (A : Atoms 𝓤) (W : Given
         alloc1 ! (λ l₁₈. alloc1 ! (λ l₁₉. alloc1 ! (λ l₂₀. alloc1 ! (λ l₂₁. alloc1 ! (λ l₂₂. alloc1 ! (λ l₂₃.
         alloc1 ! (λ l₂₄. alloc1 ! (λ l₂₅. alloc1 ! (λ l₂₆. alloc1 ! (λ l₂₇. alloc1 ! (λ l₂₈. alloc1 ! (λ l₂₉.
         alloc1 ! (λ l₃₀. alloc1 ! (λ l₃₁. alloc1 ! (λ l₃₂. alloc1 ! (λ l₃₃. alloc1 ! (λ l₃₄. alloc1 ! (λ l₃₅.
+        alloc1 ! (λ l₃₆. alloc1 ! (λ l₃₇. alloc1 ! (λ l₃₈.
         alloc0 ! $ params1 ! $ pass1 ! (init ! (cell 1) refl (tt, wt)) $ pass0 ! $
         move ! (slot 0 ∷ []) $ use1 W (Token ⊛ ‵ Own) goes-in $ split ! $
         assigns ! (agg ! (and-then ! (load ! (from ! (stop !)) (look ! (slot 1) refl)) (and-then ! (lit ! tt) (no-more !))))
@@ -306,14 +307,15 @@ module _ {M : Type 1} (𝓤 : URA M) (H : Heap 𝓤) (A : Atoms 𝓤) (W : Given
         takes ! 7 (f₆ .it .next) refl tt (lit< tt) (next-fits f₆) (λ f₇ e₇. moves ! f₇ refl refl refl refl $
         takes ! 8 (f₇ .it .next) refl tt (lit< tt) (next-fits f₇) (λ f₈ e₈. moves ! f₈ refl refl refl refl $
         takes ! 9 (f₈ .it .next) refl tt (lit< tt) (next-fits f₈) (λ f₉ e₉. moves ! f₉ refl refl refl refl $
-        takes ! 10 (f₉ .it .next) refl tt (lit< tt) (next-fits f₉) (λ f₁₀ e₁₀.
+        takes ! 10 (f₉ .it .next) refl tt (lit< tt) (next-fits f₉) (λ f₁₀ e₁₀. moves ! f₁₀ refl refl refl refl $
+        takes ! 11 (f₁₀ .it .next) refl tt (lit< tt) (next-fits f₁₀) (λ f₁₁ e₁₁.
         -- [the token; what the line owns; the locals]: each field is in its local
-        calls-gathered f₀ f₁ f₂ f₃ f₄ f₅ f₆ f₇ f₈ f₉ f₁₀ !
+        calls-gathered f₀ f₁ f₂ f₃ f₄ f₅ f₆ f₇ f₈ f₉ f₁₀ f₁₁ !
         (and-then ! (held ! (past 3) refl refl) (and-then ! (held ! (past 4) refl refl) (and-then ! (held ! (past 5) refl refl)
         (and-then ! (held ! (past 6) refl refl) (and-then ! (held ! (past 7) refl refl)
         (and-then ! (held ! (past 8) refl refl) (and-then ! (held ! (past 9) refl refl) (and-then ! (held ! (past 10) refl refl)
         (and-then ! (held ! (past 11) refl refl) (and-then ! (held ! (past 12) refl refl)
-        (and-then ! (held ! (past 13) refl refl) (no-more !)))))))))))) (λ r u e ty. land ! (from ! (stop !)) (init ! (past 0) refl ty) $
+        (and-then ! (held ! (past 13) refl refl) (and-then ! (held ! (past 14) refl refl) (no-more !))))))))))))) (λ r u e ty. land ! (from ! (stop !)) (init ! (past 0) refl ty) $
         -- [what the result owns; the token; what the line owns; the locals]
         returns ! (look ! (past 0) refl) $
         leaves ! (past 0) refl refl $ leaves ! (past 1) refl refl $ leaves ! (past 2) refl refl $ leaves ! (past 3) refl refl $ leaves ! (past 4) refl refl $ leaves ! (past 5) refl refl $
@@ -322,8 +324,9 @@ module _ {M : Type 1} (𝓤 : URA M) (H : Heap 𝓤) (A : Atoms 𝓤) (W : Given
         leaves ! (past 18) refl refl $ leaves ! (past 19) refl refl $ leaves ! (past 20) refl refl $ leaves ! (past 21) refl refl $ leaves ! (past 22) refl refl $ leaves ! (past 23) refl refl $
         leaves ! (past 24) refl refl $ leaves ! (past 25) refl refl $ leaves ! (past 26) refl refl $ leaves ! (past 27) refl refl $ leaves ! (past 28) refl refl $ leaves ! (past 29) refl refl $
         leaves ! (past 30) refl refl $ leaves ! (past 31) refl refl $ leaves ! (past 32) refl refl $ leaves ! (past 33) refl refl $ leaves ! (past 34) refl refl $ leaves ! (past 35) refl refl $
+        leaves ! (past 36) refl refl $ leaves ! (past 37) refl refl $ leaves ! (past 38) refl refl $
         free0 ! $
-        by ! (exits r u (all-taken (now s) e₀ e₁ e₂ e₃ e₄ e₅ e₆ e₇ e₈ e₉ e₁₀ e))))))))))))))))))))))))))))))))))))))))))))))))))
+        by ! (exits r u (all-taken (now s) e₀ e₁ e₂ e₃ e₄ e₅ e₆ e₇ e₈ e₉ e₁₀ e₁₁ e))))))))))))))))))))))))))))))))))))))))))))))))))))))
 
 module _ {M : Type 1} (𝓤 : URA M) (H : Heap 𝓤) (A : Atoms 𝓤) (W : Given 𝓤 H A) (mem : Memory → SProp 𝓤) (run : Routine → Fun 𝓤) where
   take-all-walks : (C : Calls 𝓤 H) (Λ : Loops 𝓤 H) → FmC 𝓤 H (W .laws) C → Triple 𝓤 (C #parser·field-at) (FieldAt 𝓤 H A mem run) → Triple 𝓤 (C #parser·gathered) (Gathered 𝓤 H A mem run)
