@@ -39,19 +39,19 @@ use Rattle.theorems.proofs.Listing.{event-accepted, before-below, tag-b
 pub one-list : (q : Question) (room : List ℕ) (l l′ : ListLeft) → l ≡ listed issueE q room → l′ ≡ listed issueE q room → l ≡ l′
 one-list q room = only (listed issueE q room)
 
--- THE LIST (definition 11.2): nine bytes are in it exactly when they are in range and the rows permit them: as the event that the question
+-- THE LIST (definition 11.2): ten bytes are in it exactly when they are in range and the rows permit them: as the event that the question
 -- and they make, with the question's tag state, from its state before to their last byte.
 pub listed-exactly : (q : Question) (a : List ℕ)
     → isListed q a ≡ true ↔ (InRange a × (permitted (eventWith q a) (q .tag .0) (q .before .0) (byte a 8) ≡ true))
 unfolding permits
 listed-exactly q a =
-    let nine = eqb (length a) answerLength in
+    let ten = eqb (length a) answerLength in
     let each = below a 0 (answerLimits issueE) in (
       λ h.
           let k = sym (answers-members q a) ∙ h in
-          let in-range = and-right (permits q a) (nine && each) k in
-          (record { nine = eqb-true (length a) answerLength (and-left nine each in-range); each = and-right nine each in-range }, and-left (permits q a) (nine && each) k),
-      λ p. answers-members q a ∙ and-both (p .1) (and-both (eq-eqb (length a) answerLength (p .0 .nine)) (p .0 .each)),
+          let in-range = and-right (permits q a) (ten && each) k in
+          (record { ten = eqb-true (length a) answerLength (and-left ten each in-range); each = and-right ten each in-range }, and-left (permits q a) (ten && each) k),
+      λ p. answers-members q a ∙ and-both (p .1) (and-both (eq-eqb (length a) answerLength (p .0 .ten)) (p .0 .each)),
     )
 
 -- THE ORDER (definition 11.3): the list ascends byte by byte, so each answer stands once.
@@ -64,7 +64,7 @@ each-once q i j l b e =
     (sym (not-itself (getD (answersTo issueE q) j []))
     ∙ subst (λ (x : List ℕ). comesBefore x (getD (answersTo issueE q) j []) ≡ true) e (ascending-at (answersTo issueE q) (answers-ascend q) i j l b))
 
--- LISTED EXACTLY WHEN JUDGED PERMITTED (definition 11.2): for a good question, `judge_event` of the question and nine bytes in range has
+-- LISTED EXACTLY WHEN JUDGED PERMITTED (definition 11.2): for a good question, `judge_event` of the question and ten bytes in range has
 -- their state after in its set for the state before exactly when the list has them.
 pub listed-when-judged : (q : Question) → Good issueE q → (a : List ℕ) → InRange a
     → bit (setFrom (eventWith q a) (q .before .0)) (byte a 8) ≡ true ↔ isListed q a ≡ true
@@ -82,7 +82,7 @@ pub no-tags-no-answers : (q : Question) → Good issueE q → noSuchTags q ≡ t
 no-tags-no-answers q g h =
     no-length (answersTo issueE q) (sym (ap (λ (b : Bool). cond b (eqb (length (answersTo issueE q)) 0) (isListed q nderrAnswer)) h) ∙ nderr-test q g)
 
--- THE LONGEST LIST (definition 11.6): no list has more than 29 answers, and one has so many.
+-- THE LONGEST LIST (definition 11.6): no list has more than 57 answers, and one has so many.
 pub at-most : (q : Question) → Good issueE q → length (answersTo issueE q) ≤ mostAnswers
 at-most = most
 

@@ -9,5 +9,8 @@ pub mod AnswerTheorems
 pub mod TagColumn
 pub mod TagTheorems
 pub mod LookupTheorems
+pub mod Before
 pub mod Invalidating
 pub mod InvalidatingTheorems
+pub mod Forwarded
+pub mod ForwardedTheorems

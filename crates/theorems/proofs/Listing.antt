@@ -11,6 +11,7 @@ use lib.Dec.{eqb, ltb, leb}
 use lib.ListN.{length, getD}
 use Rattle.kinds.specs.Tests.{any, all, same, _∈?_}
 use Rattle.kinds.specs.Codes.{tags, tagNotSeen, stateNotSeen}
+use Rattle.kinds.specs.Places.{eventLength}
 use Rattle.kinds.proofs.Lists.{and-left, and-right, and-both, or-right}
 use Rattle.rows.specs.Event.{byte, tagOf, stateAfterOf, requestOf, seen}
 use Rattle.rows.specs.Permitted.{permitted}
@@ -84,7 +85,7 @@ module _ (q : Question) (g : Good issueE q) (a : List ℕ) (r : InRange a) where
   unfolding refusalAlone fault bothLimits wider
   event-accepted =
       number-alone (eventWith q a)
-      ∙ ap (λ (n : ℕ). cond (eqb (suc (suc (suc (suc (suc n))))) 14) (fault issueE (eventWith q a)) 1) (r .nine)
+      ∙ ap (λ (n : ℕ). cond (eqb (suc (suc (suc (suc (suc n))))) eventLength) (fault issueE (eventWith q a)) 1) (r .ten)
       ∙ ap₂ (λ (x y : Bool). cond x (cond y 0 5) 4) (below-wider (eventWith q a) bothLimits (issueE .limits) 1 refl event-below) (g .known)
 
   pub before-below : q .before .0 < 7

@@ -23,6 +23,7 @@ use Rattle.kinds.specs.declared.Refusal.{Refusal}
 use Rattle.kinds.specs.declared.Duty.{Duty}
 use Rattle.kinds.specs.declared.Resp.{Resp}
 use Rattle.kinds.specs.declared.FwdState.{FwdState}
+use Rattle.kinds.specs.declared.RespErr.{RespErr}
 use Rattle.kinds.specs.declared.PairNumber.{PairNumber}
 use Rattle.event.specs.declared.Judgment.{Judgment}
 use Rattle.event.specs.Refusals.{issueE, fault, refusalAlone}
@@ -52,6 +53,9 @@ one-resp = only-number (λ k. k .0) (λ n. record { 0 = n }) (λ k. refl)
 
 pub one-fwd-state : (claimed : ℕ) (r r′ : FwdState) → r .0 ≡ claimed → r′ .0 ≡ claimed → r ≡ r′
 one-fwd-state = only-number (λ k. k .0) (λ n. record { 0 = n }) (λ k. refl)
+
+pub one-error : (claimed : ℕ) (r r′ : RespErr) → r .0 ≡ claimed → r′ .0 ≡ claimed → r ≡ r′
+one-error = only-number (λ k. k .0) (λ n. record { 0 = n }) (λ k. refl)
 
 pub one-pair-number : (claimed : ℕ) (r r′ : PairNumber) → r .0 ≡ claimed → r′ .0 ≡ claimed → r ≡ r′
 one-pair-number = only-number (λ k. k .0) (λ n. record { 0 = n }) (λ k. refl)

@@ -7,14 +7,15 @@ use lib.ListN.{getD}
 use Rattle.kinds.specs.Tests.{_∈?_}
 use Rattle.kinds.specs.Codes.{I, UC, UD, SC, SD, stateNotSeen, tagInvalid, tagDirty, opInvalid, opTransfer, opUpdate, OK, NDERR, SnpShared, SnpClean, SnpCleanFwd, SnpPreferUniqueFwd}
 use Rattle.kinds.specs.declared.Answer.{Answer}
-use Rattle.kinds.specs.Answers.{wire, SnpResp-I, SnpResp-SC, SnpRespData-SD, SnpResp-SC-Fwded-SD-PD, SnpRespData-SC-PD-Fwded-SC, SnpResp-I-Fwded-UC, SnpResp-SC-Fwded-SC}
+use Rattle.kinds.specs.Answers.{wire, forwardOf, forwardError, SnpResp-I, SnpResp-SC, SnpRespData-SD, SnpResp-SC-Fwded-SD-PD, SnpRespData-SC-PD-Fwded-SC, SnpResp-I-Fwded-UC, SnpResp-SC-Fwded-SC}
 use Rattle.sets.specs.Sets.{setOf}
 use Rattle.steps.specs.Steps.{noDuty, Home, Requester, lost}
 use Rattle.event.specs.Refusals.{issueE}
 use Rattle.event.specs.Alone.{judgedAlone}
 use Rattle.theorems.specs.Alone.{setFrom, dutyFrom}
 
--- An event from its fields: request, RetToSrc, DoNotGoToSD, excl, tag state, answer with its forward, TagOp, RespErr, state after.
+-- An event from its fields: request, RetToSrc, DoNotGoToSD, excl, tag state, answer with its forward, TagOp, RespErr, state after. The error
+-- field of forwarded data is as the answer has it.
 abbrev pub eventTo : ℕ → ℕ → ℕ → ℕ → ℕ → Answer → ℕ → ℕ → ℕ → List ℕ
 eventTo request ret noSD excl tag a op err stateAfter =
     request ∷
@@ -31,6 +32,7 @@ eventTo request ret noSD excl tag a op err stateAfter =
     getD (wire a) 4 0 ∷
     getD (wire a) 5 0 ∷
     stateAfter ∷
+    forwardError (forwardOf a) ∷
     []
 
 -- the same with a state after that was not seen
