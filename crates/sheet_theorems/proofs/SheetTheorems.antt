@@ -23,8 +23,9 @@ use Rattle.verdicts.specs.Verdicts.{afterSet, verdict, dutyByte, explained}
 use Rattle.trace.specs.Events.{run}
 use Rattle.trace.specs.Lent.{Left}
 use Rattle.trace.specs.Judged.{judged}
+use Rattle.text.specs.Text.{bytes}
 use Rattle.lines.specs.Lines.{linesOf}
-use Rattle.names.specs.Names.{codeOf, requestNames, flagNames, tagNames, responses, responseNames, answers as namedAnswers, tagOpNames, respErrNames, forwardNames, finalNames, isPair, readDecimal, pairOf, columns}
+use Rattle.names.specs.Names.{codeOf, requestNames, flagNames, tagNames, responses, responseNames, answers as namedAnswers, tagOpNames, respErrNames, forwardNames, finalNames, fwdErrNames, isPair, readDecimal, pairOf, columns}
 use Rattle.parser.specs.Parsed.{lineCodes, wellFormed, eventOf, parsed}
 use Rattle.replies.specs.Replies.{room, decimalText, verdictText, dutyText, statesText, headerLine, answerLine, refusedLine}
 use Rattle.sheet.specs.Sheet.{refuse, header, mostLines, onLine, answers, startTable, sheetOut}
@@ -32,10 +33,10 @@ use Rattle.sheet.specs.declared.Carried.{Carried}
 use Rattle.sheet.specs.Pieces.{Held, sure, ready, eaten, total}
 use Rattle.sheet.specs.Runs.{emptied, withPiece, Run, SomeRun, start}
 use Rattle.sheet.specs.Turns.{enough, answerWith, begunWith, begun, inFront, endedBy, carriedOf, turnLeftBy, turned, Turns, SomeTurns}
-use Rattle.sheet_theorems.specs.Examples.{exampleIn, exampleOut, cases, benchCases, asSaid}
+use Rattle.sheet_theorems.specs.Examples.{exampleIn, exampleOut, cases, benchCases, forwardedCases, headerBefore, asSaid}
 use Rattle.sheet_theorems.specs.Before.{namesBefore, newNames}
 use Rattle.sheet_theorems.specs.Good.{eventOn, eventsOf, good, AllGood, foundBehind, answerLines, names}
-use Rattle.sheet_theorems.specs.Refused.{RefusedWith, LineIs, SheetSays}
+use Rattle.sheet_theorems.specs.Refused.{RefusedWith, LineIs, SheetSays, no-header}
 use Rattle.sheet_theorems.specs.SheetHistories.{pairOn, ReachesIn, PassesTo, VerdictOn, DutyOn}
 use Rattle.sheet_theorems.specs.AsTrace.{asTrace, spelled}
 -- their proofs
@@ -49,28 +50,35 @@ use Rattle.sheet_theorems.proofs.Named.{named}
 use Rattle.sheet_theorems.proofs.Reached.{seven-states, pair-inside, set-exact, shown-exact, verdict-given, gives-verdict, duty-given, duty-none}
 use Rattle.sheet_theorems.proofs.Refused.{refused-told, line-is, one-number, header-passes, said-answers, some-said}
 use Rattle.sheet_theorems.proofs.AsTrace.{judged-so, spelled-so}
-use Rattle.sheet_theorems.proofs.Before.{read-before}
+use Rattle.sheet_theorems.proofs.Before.{read-before, old-is-other}
 
 -- THE EXAMPLE (definition 8.11): the whole input gives the whole output, byte for byte.
 pub example-answered : sheetOut exampleIn ≡ exampleOut
 unfolding setOf bit rows asked answered tagged permitted steps duty afterSet verdict dutyByte
-    codeOf requestNames flagNames tagNames responses responseNames namedAnswers tagOpNames respErrNames forwardNames finalNames
+    codeOf requestNames flagNames tagNames responses responseNames namedAnswers tagOpNames respErrNames forwardNames finalNames fwdErrNames
     isPair readDecimal pairOf columns wellFormed eventOf parsed decimalText verdictText dutyText statesText headerLine answerLine refusedLine header onLine startTable
 example-answered = refl
 
 -- THE REFUSALS BY EXAMPLES (definition 8.7, 8.8): each input gives exactly the output that the case says.
 pub refusal-cases : all asSaid cases ≡ true
 unfolding setOf bit rows asked answered tagged permitted steps duty afterSet verdict dutyByte
-    codeOf requestNames flagNames tagNames responses responseNames namedAnswers tagOpNames respErrNames forwardNames finalNames
+    codeOf requestNames flagNames tagNames responses responseNames namedAnswers tagOpNames respErrNames forwardNames finalNames fwdErrNames
     isPair readDecimal pairOf columns wellFormed eventOf parsed decimalText verdictText dutyText statesText headerLine answerLine refusedLine header onLine startTable
 refusal-cases = refl
 
 -- THE THREE SNOOPS ON A SHEET (definition 5.12, 8.6) by examples: a line thrown away is `discarded`, and with NDERR it is `lost`.
 pub bench-copy-cases : all asSaid benchCases ≡ true
 unfolding setOf bit rows asked answered tagged permitted steps duty afterSet verdict dutyByte
-    codeOf requestNames flagNames tagNames responses responseNames namedAnswers tagOpNames respErrNames forwardNames finalNames
+    codeOf requestNames flagNames tagNames responses responseNames namedAnswers tagOpNames respErrNames forwardNames finalNames fwdErrNames
     isPair readDecimal pairOf columns wellFormed eventOf parsed decimalText verdictText dutyText statesText headerLine answerLine refusedLine header onLine startTable
 bench-copy-cases = refl
+
+-- THE COLUMN fwdErr (definition 5.13, 8.4, 8.7) by examples: each input gives exactly the output that the case says.
+pub forwarded-cases : all asSaid forwardedCases ≡ true
+unfolding setOf bit rows asked answered tagged permitted steps duty afterSet verdict dutyByte
+    codeOf requestNames flagNames tagNames responses responseNames namedAnswers tagOpNames respErrNames forwardNames finalNames fwdErrNames
+    isPair readDecimal pairOf columns wellFormed eventOf parsed decimalText verdictText dutyText statesText headerLine answerLine refusedLine header onLine startTable
+forwarded-cases = refl
 
 -- OLD SHEETS ARE READ AS BEFORE (definition 5.12, 8.4): a request field that is none of the three new names has the code that it had, or none.
 -- What is judged then is `old-finding` in crates/theorems.
@@ -95,6 +103,11 @@ sheet-exact input out = (
       subst (SheetSays (linesOf input)) (sym (said-answers (s .says)) ∙ append-cancel-left headerLine (answers 0 startTable (linesOf input)) out e) (s .says),
   λ s. ap (λ (t : List ℕ). headerLine ++ t) (said-answers s),
 )
+
+-- AN OLD SHEET IS REFUSED (definition 8.2, 8.7): whatever follows the header of before, the output is 6 at line 1.
+pub old-header-refused : (input : List ℕ) (more : List (List ℕ)) → linesOf input ≡ bytes headerBefore ∷ more → sheetOut input ≡ headerLine ++ refusedLine 6 1
+old-header-refused input more e =
+    sheet-exact input (refusedLine 6 1) .1 (subst (λ (ls : List (List ℕ)). SheetSays ls (refusedLine 6 1)) (sym e) (no-header old-is-other))
 
 -- THE PIECES (definition 8.9): however the input is cut, and for any buffer size, a run writes the sheet; any two agree; and there is one.
 pub however-cut : {input out : List ℕ} → Run start input out → headerLine ++ out ≡ sheetOut input
@@ -174,7 +187,7 @@ table-carried = good-then-more
 
 -- The four lines of the example are good (definition 8.11).
 pub example-good : AllGood 1 (drop 1 (linesOf exampleIn))
-unfolding codeOf requestNames flagNames tagNames responses responseNames namedAnswers tagOpNames respErrNames forwardNames finalNames isPair readDecimal pairOf columns wellFormed eventOf parsed
+unfolding codeOf requestNames flagNames tagNames responses responseNames namedAnswers tagOpNames respErrNames forwardNames finalNames fwdErrNames isPair readDecimal pairOf columns wellFormed eventOf parsed
 example-good = record { behind-header = omega arith; not-too-many = omega arith; each-good = refl }
 
 -- A LINE'S OWN OUTPUT (definition 8.6): its number and its finding, right after the output of the lines before it.
