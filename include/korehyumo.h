@@ -11,21 +11,27 @@
  * The archive needs no other library. It keeps no state between calls and allocates nothing. Several
  * threads may call it at once.
  *
- * EVENTS. An event is one snoop and its answer, in 14 bytes:
+ * EVENTS. An event is one snoop and its answer, in 15 bytes:
  *
  *   byte  field        range        byte  field                   range
- *   0     request      see below    7     Resp                    0 to 7
- *   1     RetToSrc     0 or 1       8     FwdState                0 to 7
- *   2     DoNotGoToSD  0 or 1       9     TagOp                   0 to 3
- *   3     excl         0 or 1       10    RespErr                 0 to 3
- *   4     tag state    0 to 3       11    forwarded data present  0 or 1
- *   5     channel      0 or 1       12    its Resp                0 to 7
- *   6     opcode       0 to 31      13    state after             0 to 7
+ *   0     request      see below    8     FwdState                0 to 7
+ *   1     RetToSrc     0 or 1       9     TagOp                   0 to 3
+ *   2     DoNotGoToSD  0 or 1       10    RespErr                 0 to 3
+ *   3     excl         0 or 1       11    forwarded data present  0 or 1
+ *   4     tag state    0 to 3       12    its Resp                0 to 7
+ *   5     channel      0 or 1       13    state after             0 to 7
+ *   6     opcode       0 to 31      14    fwdErr                  0 to 3
+ *   7     Resp         0 to 7
  *
  * Ten requests are judged: SnpShared 1, SnpClean 2, SnpNotSharedDirty 4, SnpUnique 7,
  * SnpCleanInvalid 9, SnpMakeInvalid 10, SnpCleanFwd 18, SnpNotSharedDirtyFwd 20, SnpPreferUnique 21,
  * SnpPreferUniqueFwd 22. A tag state of 3 was not seen. A state after of 7 was not seen.
  * docs/DEFINITION.md has the codes of every field.
+ *
+ * RespErr is the error field of the answer to Home, and fwdErr that of the forwarded data. Both have
+ * the codes OK 0, EXOK 1, DERR 2, NDERR 3. With a forward the rows permit a fwdErr of OK or DERR,
+ * beside every RespErr that they permit. Without a forward they permit 0. Other values up to 3 are in
+ * range: no row explains them, and none is refused.
  *
  * PAIRS AND SETS. A pair is one cache line in one cache. The states that it can be in are one byte:
  * bit n is set if state n is possible.
@@ -57,14 +63,15 @@
 extern "C" {
 #endif
 
-/* The version of this interface, as numbers and as text. */
+/* The version of this interface, as numbers and as text. It is 0.2.0: an event has 15 bytes and a
+ * listed answer ten, where 0.1.0 had 14 and nine. */
 #define KOREHYUMO_VERSION_MAJOR 0
-#define KOREHYUMO_VERSION_MINOR 1
+#define KOREHYUMO_VERSION_MINOR 2
 #define KOREHYUMO_VERSION_PATCH 0
-#define KOREHYUMO_VERSION "0.1.0"
+#define KOREHYUMO_VERSION "0.2.0"
 
 /* How many bytes an event has. */
-#define KOREHYUMO_EVENT_BYTES 14
+#define KOREHYUMO_EVENT_BYTES 15
 
 /* The most events of one call. */
 #define KOREHYUMO_MOST_EVENTS 4096
@@ -73,10 +80,10 @@ extern "C" {
 #define KOREHYUMO_MOST_PAIRS 4096
 
 /* How many bytes a listed answer has. */
-#define KOREHYUMO_ANSWER_BYTES 9
+#define KOREHYUMO_ANSWER_BYTES 10
 
 /* The most answers that a list has. */
-#define KOREHYUMO_MOST_ANSWERS 29
+#define KOREHYUMO_MOST_ANSWERS 57
 
 /* The set of all seven states: nothing is known of the line. */
 #define KOREHYUMO_ALL_STATES 127
@@ -158,18 +165,19 @@ static inline size_t korehyumo_count(uint64_t result)
  *   result         256 (number 0, place 1) when accepted, else the number of the refusal (place 0)
  *
  *   number                refused when (the first that applies is given)
- *   1 KOREHYUMO_LENGTHS   event_len is not 14
- *   4 KOREHYUMO_RANGE     a byte from 1 to 13 is outside its range
+ *   1 KOREHYUMO_LENGTHS   event_len is not 15
+ *   4 KOREHYUMO_RANGE     a byte from 1 to 14 is outside its range
  *   5 KOREHYUMO_REQUEST   the request is not one of the ten
  *
  * Accepted: sets[s] is the set of states that the line can be in after the event if it was in state s
  * before; it is 0 where the rows permit no step from s. duties[s] is the duty, judged from state s
- * alone; it is 0 where sets[s] is 0. Refused: all 14 bytes are 0.
+ * alone; it is 0 where sets[s] is 0. Refused: all seven sets and all seven duties are 0.
  *
  * Example: SnpClean answered by SnpResp_SC. A line in UC is in I or SC afterwards.
  *
- *   uint8_t event[14] = {2, 0, 0, 0, 0, 0, 1, 1, 0, 0, 0, 0, 0, 7}, sets[7], duties[7];
- *   uint64_t result = korehyumo_event(event, 14, sets, duties);
+ *   const uint8_t event[KOREHYUMO_EVENT_BYTES] = {2, 0, 0, 0, 0, 0, 1, 1, 0, 0, 0, 0, 0, 7, 0};
+ *   uint8_t sets[7], duties[7];
+ *   uint64_t result = korehyumo_event(event, sizeof event, sets, duties);
  *   // result == 256, sets[KOREHYUMO_STATE_UC] == (KOREHYUMO_I | KOREHYUMO_SC), no duty
  */
 uint64_t korehyumo_event(const uint8_t *event, size_t event_len,
@@ -177,7 +185,7 @@ uint64_t korehyumo_event(const uint8_t *event, size_t event_len,
 
 /* Judges a whole trace, each event on the set of its pair. All lengths count elements.
  *
- *   lent, read     events    14 bytes for each of n events
+ *   lent, read     events    15 bytes for each of n events
  *                  pairs     the pair number of each event
  *   lent, written  table     a set for each pair: lent as before the trace, left as after it
  *                  verdicts  a byte for each event; the bytes lent don't matter
@@ -188,13 +196,13 @@ uint64_t korehyumo_event(const uint8_t *event, size_t event_len,
  * Each of the six may be null with length 0. All six null is an accepted trace of no events.
  *
  *   number                refused when (the first that applies is given)            place
- *   1 KOREHYUMO_LENGTHS   events_len is not a multiple of 14, there are more than   0
+ *   1 KOREHYUMO_LENGTHS   events_len is not a multiple of 15, there are more than   0
  *                         4,096 events, table_len is above 4,096, or pairs_len,
  *                         verdicts_len, duties_len or afters_len is not n
  *   2 KOREHYUMO_SET       a set in the table is above 127                           lowest such pair
  *   Then event by event:
  *   3 KOREHYUMO_PAIR      its pair number is not below table_len                    that event
- *   4 KOREHYUMO_RANGE     one of its bytes from 1 to 13 is outside its range        that event
+ *   4 KOREHYUMO_RANGE     one of its bytes from 1 to 14 is outside its range        that event
  *   5 KOREHYUMO_REQUEST   its request is not one of the ten                         that event
  *
  * Accepted: verdicts[k] is event k's verdict, duties[k] its duty (0 unless it is explained), and
@@ -204,11 +212,12 @@ uint64_t korehyumo_event(const uint8_t *event, size_t event_len,
  *
  * Example: a cache hands its Dirty line to Home, then claims to hold it still.
  *
- *   const uint8_t events[28] = {1, 0, 0, 0, 0, 1, 1, 5, 0, 0, 0, 0, 0, 7,  // SnpRespData_SC_PD
- *                               2, 0, 0, 0, 0, 1, 1, 3, 0, 0, 0, 0, 0, 7}; // SnpRespData_SD
+ *   const uint8_t events[2 * KOREHYUMO_EVENT_BYTES] = {
+ *       1, 0, 0, 0, 0, 1, 1, 5, 0, 0, 0, 0, 0, 7, 0,  // SnpRespData_SC_PD
+ *       2, 0, 0, 0, 0, 1, 1, 3, 0, 0, 0, 0, 0, 7, 0}; // SnpRespData_SD
  *   const uint16_t pairs[2] = {0, 0};
  *   uint8_t table[1] = {KOREHYUMO_ALL_STATES}, verdicts[2], duties[2], afters[2];
- *   uint64_t result = korehyumo_trace(events, 28, pairs, 2, table, 1,
+ *   uint64_t result = korehyumo_trace(events, sizeof events, pairs, 2, table, 1,
  *                                     verdicts, 2, duties, 2, afters, 2);
  *   // result == 2 * 256
  *   // event 0: KOREHYUMO_EXPLAINED, KOREHYUMO_DUTY_HOME, KOREHYUMO_I | KOREHYUMO_SC
@@ -234,23 +243,23 @@ uint64_t korehyumo_trace(const uint8_t *events, size_t events_len,
  *   4 KOREHYUMO_RANGE     ret_to_src, do_not_go_to_sd or excl is not 0 or 1, tag is above 2, or
  *                         before is above 6
  *   5 KOREHYUMO_REQUEST   the request is not one of the ten
- *   9 KOREHYUMO_ROOM      9 times the count is above room_len; never with a room of 261 bytes
+ *   9 KOREHYUMO_ROOM      10 times the count is above room_len; never with a room of 570 bytes
  *
- * Accepted: the 9 bytes from room[9 * k] on are answer k, bytes 5 to 13 of an event with the state
+ * Accepted: the 10 bytes from room[10 * k] on are answer k, bytes 5 to 14 of an event with the state
  * after seen. Each answer stands once, in ascending order byte by byte. An answer is listed exactly
- * when korehyumo_event, for the event of the five bytes given and these nine, has the state after in
+ * when korehyumo_event, for the event of the five bytes given and these ten, has the state after in
  * sets[before]. The list is empty for Dirty tags (2) with a state other than UD and SD; every other
- * list has the answer of NDERR, {0, 1, 0, 0, 0, 3, 0, 0, 0}. Bytes past the last answer are as they
- * were lent. Refused: every byte of the room is as it was lent.
+ * list has the answer of NDERR, {0, 1, 0, 0, 0, 3, 0, 0, 0, 0}. Bytes past the last answer are as
+ * they were lent. Refused: every byte of the room is as it was lent.
  *
  * Example: what a line in UDP may answer to SnpCleanFwd.
  *
  *   uint8_t room[KOREHYUMO_MOST_ANSWERS * KOREHYUMO_ANSWER_BYTES];
  *   uint64_t result = korehyumo_answers(18, 0, 0, 0, 0, KOREHYUMO_STATE_UDP, room, sizeof room);
  *   // korehyumo_number(result) == KOREHYUMO_ACCEPTED, korehyumo_count(result) == 3
- *   // room[0] to room[8]:   0, 1, 0, 0, 0, 3, 0, 0, 0  SnpResp_I with NDERR
- *   // room[9] to room[17]:  1, 5, 4, 0, 0, 0, 0, 0, 0  SnpRespDataPtl_I_PD
- *   // room[18] to room[26]: 1, 5, 4, 0, 0, 2, 0, 0, 0  SnpRespDataPtl_I_PD with DERR
+ *   // room[0] to room[9]:   0, 1, 0, 0, 0, 3, 0, 0, 0, 0  SnpResp_I with NDERR
+ *   // room[10] to room[19]: 1, 5, 4, 0, 0, 0, 0, 0, 0, 0  SnpRespDataPtl_I_PD
+ *   // room[20] to room[29]: 1, 5, 4, 0, 0, 2, 0, 0, 0, 0  SnpRespDataPtl_I_PD with DERR
  */
 uint64_t korehyumo_answers(uint8_t request, uint8_t ret_to_src, uint8_t do_not_go_to_sd,
                            uint8_t excl, uint8_t tag, uint8_t before,

@@ -20,7 +20,16 @@ static uint8_t table[ROOM + 1], verdicts[ROOM + 1], duties[ROOM + 1], afters[ROO
 static int wrong;
 
 /* SnpClean answered by SnpResp_SC: explained from UC and from SC. */
-static const uint8_t good[KOREHYUMO_EVENT_BYTES] = {2, 0, 0, 0, 0, 0, 1, 1, 0, 0, 0, 0, 0, 7};
+static const uint8_t good[KOREHYUMO_EVENT_BYTES] = {2, 0, 0, 0, 0, 0, 1, 1, 0, 0, 0, 0, 0, 7, 0};
+
+/* SnpCleanFwd answered by SnpResp_SC_Fwded_SD_PD: explained from UD and from SD. */
+static const uint8_t forwarded[KOREHYUMO_EVENT_BYTES] = {18, 0, 0, 0, 0, 0, 9, 1, 7, 0, 0, 1, 7, 7, 0};
+
+/* The byte of an event that is the error field of forwarded data. */
+#define FWD_ERR 14
+
+/* How many bytes an event had before that byte was added. */
+#define OLD_EVENT_BYTES 14
 
 /* Counts and prints a check that fails. */
 static void hold(const char *what, int holds)
@@ -80,20 +89,29 @@ static void wrong_lengths(void)
     hold("lengths that are refused write nothing", untouched_but(0) && table[0] == KOREHYUMO_ALL_STATES);
 }
 
+/* Old traces, of n pairs and n events of 14 bytes, are refused with 1 whatever n is, and nothing is written. */
+static void old_traces(void)
+{
+    fill();
+    for (size_t n = 1; n <= KOREHYUMO_MOST_EVENTS; n++)
+        hold("an old trace is 1", judge(n * OLD_EVENT_BYTES, n, KOREHYUMO_MOST_PAIRS, n, n, n) == KOREHYUMO_LENGTHS);
+    hold("old traces write nothing", untouched_but(0) && table[0] == KOREHYUMO_ALL_STATES);
+}
+
 /* Refusals at the last event and at the last pair have place 4,095, and nothing is written. */
 static void last_places(void)
 {
-    size_t n = KOREHYUMO_MOST_EVENTS, last = n - 1;
+    size_t n = KOREHYUMO_MOST_EVENTS, last = n - 1, bytes = n * KOREHYUMO_EVENT_BYTES;
     fill();
     events[last * KOREHYUMO_EVENT_BYTES] = 3;
-    hold("5 at event 4,095", judge(14 * n, n, n, n, n, n) == last * 256 + KOREHYUMO_REQUEST);
-    events[last * KOREHYUMO_EVENT_BYTES + 13] = 8;
-    hold("4 at event 4,095", judge(14 * n, n, n, n, n, n) == last * 256 + KOREHYUMO_RANGE);
+    hold("5 at event 4,095", judge(bytes, n, n, n, n, n) == last * 256 + KOREHYUMO_REQUEST);
+    events[last * KOREHYUMO_EVENT_BYTES + FWD_ERR] = 4;
+    hold("4 at event 4,095", judge(bytes, n, n, n, n, n) == last * 256 + KOREHYUMO_RANGE);
     pairs[last] = KOREHYUMO_MOST_EVENTS;
-    hold("3 at event 4,095", judge(14 * n, n, n, n, n, n) == last * 256 + KOREHYUMO_PAIR);
+    hold("3 at event 4,095", judge(bytes, n, n, n, n, n) == last * 256 + KOREHYUMO_PAIR);
     hold("refused events write nothing", untouched_but(0) && table[0] == KOREHYUMO_ALL_STATES);
     table[last] = 128;
-    hold("2 at pair 4,095", judge(14 * n, n, n, n, n, n) == last * 256 + KOREHYUMO_SET);
+    hold("2 at pair 4,095", judge(bytes, n, n, n, n, n) == last * 256 + KOREHYUMO_SET);
     hold("a refused set stays", untouched_but(last) && table[last] == 128);
 }
 
@@ -102,7 +120,7 @@ static void longest(void)
 {
     size_t n = KOREHYUMO_MOST_EVENTS;
     fill();
-    hold("4,096 events are accepted", judge(14 * n, n, n, n, n, n) == n * 256);
+    hold("4,096 events are accepted", judge(n * KOREHYUMO_EVENT_BYTES, n, n, n, n, n) == n * 256);
     hold("all are explained", all(verdicts, n, KOREHYUMO_EXPLAINED) && all(duties, n, KOREHYUMO_DUTY_NONE));
     hold("each leaves I or SC", all(afters, n, KOREHYUMO_I | KOREHYUMO_SC) && table[0] == (KOREHYUMO_I | KOREHYUMO_SC));
     hold("other pairs stay", all(table + 1, sizeof table - 1, KOREHYUMO_ALL_STATES));
@@ -112,11 +130,12 @@ static void longest(void)
 /* A null pointer with length 0 is an empty buffer. */
 static void null_for_none(void)
 {
+    size_t one = KOREHYUMO_EVENT_BYTES;
     fill();
     hold("no events, no pairs", korehyumo_trace(0, 0, 0, 0, 0, 0, 0, 0, 0, 0, 0, 0) == 0);
     hold("no events", korehyumo_trace(0, 0, 0, 0, table, 8, 0, 0, 0, 0, 0, 0) == 0 && table[0] == KOREHYUMO_ALL_STATES);
-    hold("no pairs: 3 at event 0", korehyumo_trace(events, 14, pairs, 1, 0, 0, verdicts, 1, duties, 1, afters, 1) == KOREHYUMO_PAIR);
-    hold("no verdicts: 1", korehyumo_trace(events, 14, pairs, 1, table, 8, 0, 0, duties, 1, afters, 1) == KOREHYUMO_LENGTHS);
+    hold("no pairs: 3 at event 0", korehyumo_trace(events, one, pairs, 1, 0, 0, verdicts, 1, duties, 1, afters, 1) == KOREHYUMO_PAIR);
+    hold("no verdicts: 1", korehyumo_trace(events, one, pairs, 1, table, 8, 0, 0, duties, 1, afters, 1) == KOREHYUMO_LENGTHS);
     hold("null calls write nothing", untouched_but(0) && table[0] == KOREHYUMO_ALL_STATES);
 }
 
@@ -124,37 +143,65 @@ static void null_for_none(void)
 static void one_event(void)
 {
     uint8_t event[KOREHYUMO_EVENT_BYTES + 1] = {0}, sets[7], alone[7];
+    size_t whole = KOREHYUMO_EVENT_BYTES;
     memcpy(event, good, sizeof good);
     const uint8_t explained[7] = {0, 33, 0, 0, 0, 33, 0};
     memset(sets, BEFORE, 7);
     memset(alone, BEFORE, 7);
-    hold("a good event is 256", korehyumo_event(event, 14, sets, alone) == 256 && memcmp(sets, explained, 7) == 0 && all(alone, 7, 0));
-    for (size_t len = 0; len <= 15; len++) {
+    hold("a good event is 256", korehyumo_event(event, whole, sets, alone) == 256 && memcmp(sets, explained, 7) == 0 && all(alone, 7, 0));
+    hold("an old event is 1", korehyumo_event(event, OLD_EVENT_BYTES, sets, alone) == KOREHYUMO_LENGTHS);
+    for (size_t len = 0; len <= whole + 1; len++) {
         memset(sets, BEFORE, 7);
         memset(alone, BEFORE, 7);
         uint64_t result = korehyumo_event(len == 0 ? 0 : event, len, sets, alone);
-        hold("another length is 1, with empty sets and no duty", len == 14 || (result == 1 && all(sets, 7, 0) && all(alone, 7, 0)));
+        hold("another length is 1, with empty sets and no duty", len == whole || (result == 1 && all(sets, 7, 0) && all(alone, 7, 0)));
     }
     event[0] = 3;
-    hold("another request is 5", korehyumo_event(event, 14, sets, alone) == KOREHYUMO_REQUEST && all(sets, 7, 0) && all(alone, 7, 0));
+    hold("another request is 5", korehyumo_event(event, whole, sets, alone) == KOREHYUMO_REQUEST && all(sets, 7, 0) && all(alone, 7, 0));
     event[1] = 2;
-    hold("a byte out of range is 4", korehyumo_event(event, 14, sets, alone) == KOREHYUMO_RANGE);
+    hold("a byte out of range is 4", korehyumo_event(event, whole, sets, alone) == KOREHYUMO_RANGE);
+}
+
+/* An event with every value of its last byte: 0 is explained, and 2 where asked; 1 and 3 are not, and values above are 4. */
+static void forwarded_error(const char *what, const uint8_t *without_error, int derr_explained)
+{
+    uint8_t event[KOREHYUMO_EVENT_BYTES], sets[7], alone[7], plain_sets[7], plain_duties[7];
+    hold(what, korehyumo_event(without_error, sizeof event, plain_sets, plain_duties) == 256 && !all(plain_sets, 7, 0));
+    memcpy(event, without_error, sizeof event);
+    for (unsigned value = 0; value < 256; value++) {
+        int explained = value == 0 || (value == 2 && derr_explained);
+        event[FWD_ERR] = (uint8_t)value;
+        hold(what, korehyumo_event(event, sizeof event, sets, alone) == (value < 4 ? 256 : KOREHYUMO_RANGE));
+        hold(what, explained ? memcmp(sets, plain_sets, 7) == 0 : all(sets, 7, 0));
+        hold(what, explained ? memcmp(alone, plain_duties, 7) == 0 : all(alone, 7, 0));
+    }
+}
+
+/* The last byte of an event: OK and DERR with a forward, 0 without one, and 4 above its range whatever the request is. */
+static void forwarded_errors(void)
+{
+    forwarded_error("with a forward OK and DERR are explained", forwarded, 1);
+    forwarded_error("without a forward only 0 is explained", good, 0);
+    uint8_t event[KOREHYUMO_EVENT_BYTES] = {3, [FWD_ERR] = 4}, sets[7], alone[7];
+    hold("the last byte is 4 before the request is 5", korehyumo_event(event, sizeof event, sets, alone) == KOREHYUMO_RANGE);
 }
 
 /* The example of korehyumo_event in the header. */
 static void event_example(void)
 {
-    uint8_t event[14] = {2, 0, 0, 0, 0, 0, 1, 1, 0, 0, 0, 0, 0, 7}, sets[7], alone[7];
-    uint64_t result = korehyumo_event(event, 14, sets, alone);
+    const uint8_t event[KOREHYUMO_EVENT_BYTES] = {2, 0, 0, 0, 0, 0, 1, 1, 0, 0, 0, 0, 0, 7, 0};
+    uint8_t sets[7], alone[7];
+    uint64_t result = korehyumo_event(event, sizeof event, sets, alone);
     hold("the event's example is 256", result == 256 && sets[KOREHYUMO_STATE_UC] == (KOREHYUMO_I | KOREHYUMO_SC) && all(alone, 7, 0));
 }
 
 /* The example of korehyumo_trace in the header. */
 static void trace_example(void)
 {
-    const uint8_t two[28] = {1, 0, 0, 0, 0, 1, 1, 5, 0, 0, 0, 0, 0, 7, 2, 0, 0, 0, 0, 1, 1, 3, 0, 0, 0, 0, 0, 7};
+    const uint8_t two[2 * KOREHYUMO_EVENT_BYTES] = {1, 0, 0, 0, 0, 1, 1, 5, 0, 0, 0, 0, 0, 7, 0,
+                                                    2, 0, 0, 0, 0, 1, 1, 3, 0, 0, 0, 0, 0, 7, 0};
     fill();
-    uint64_t result = korehyumo_trace(two, 28, pairs, 2, table, 1, verdicts, 2, duties, 2, afters, 2);
+    uint64_t result = korehyumo_trace(two, sizeof two, pairs, 2, table, 1, verdicts, 2, duties, 2, afters, 2);
     hold("the trace's example is 2 * 256", result == 2 * 256 && table[0] == 0);
     hold("its event 0", verdicts[0] == KOREHYUMO_EXPLAINED && duties[0] == KOREHYUMO_DUTY_HOME);
     hold("its states after event 0", afters[0] == (KOREHYUMO_I | KOREHYUMO_SC));
@@ -174,7 +221,9 @@ static const uint8_t requests[10] = {1, 2, 4, 7, 9, 10, 18, 20, 21, 22};
 static const uint8_t partial[6] = {18, 0, 0, 0, 0, KOREHYUMO_STATE_UDP};
 
 /* Its three answers. */
-static const uint8_t partial_list[27] = {0, 1, 0, 0, 0, 3, 0, 0, 0, 1, 5, 4, 0, 0, 0, 0, 0, 0, 1, 5, 4, 0, 0, 2, 0, 0, 0};
+static const uint8_t partial_list[3 * KOREHYUMO_ANSWER_BYTES] = {0, 1, 0, 0, 0, 3, 0, 0, 0, 0,
+                                                                 1, 5, 4, 0, 0, 0, 0, 0, 0, 0,
+                                                                 1, 5, 4, 0, 0, 2, 0, 0, 0, 0};
 
 /* Asks a question with a room that is filled with BEFORE. */
 static uint64_t ask(const uint8_t question[6], size_t len)
@@ -184,7 +233,7 @@ static uint64_t ask(const uint8_t question[6], size_t len)
     return korehyumo_answers(q[0], q[1], q[2], q[3], q[4], q[5], room, len);
 }
 
-/* A list needs nine bytes for each answer, and writes no others. */
+/* A list needs ten bytes for each answer, and writes no others. */
 static void rooms_of_a_list(void)
 {
     uint64_t accepted = (uint64_t)3 << 32;
@@ -255,7 +304,7 @@ static void longest_list(void)
         size_t count = count_answers(question);
         longest = count > longest ? count : longest;
     }
-    hold("the longest list has 29 answers", longest == KOREHYUMO_MOST_ANSWERS);
+    hold("the longest list has 57 answers", longest == 57 && longest == KOREHYUMO_MOST_ANSWERS);
 }
 
 /* The example of korehyumo_answers in the header. */
@@ -285,17 +334,20 @@ static void constants(void)
     hold("the version as numbers and as text", strcmp(version, KOREHYUMO_VERSION) == 0);
     hold("the states make the set of all", KOREHYUMO_ALL_STATES == (KOREHYUMO_I | KOREHYUMO_UC | KOREHYUMO_UCE | KOREHYUMO_UD
                                                                     | KOREHYUMO_UDP | KOREHYUMO_SC | KOREHYUMO_SD));
-    hold("an answer is bytes 5 to 13 of an event", KOREHYUMO_ANSWER_BYTES == KOREHYUMO_EVENT_BYTES - 5);
-    hold("the longest list has 261 bytes", LONGEST_LIST == 261);
+    hold("an event has 15 bytes", KOREHYUMO_EVENT_BYTES == 15);
+    hold("an answer is bytes 5 to 14 of an event", KOREHYUMO_ANSWER_BYTES == KOREHYUMO_EVENT_BYTES - 5);
+    hold("the longest list has 570 bytes", LONGEST_LIST == 570);
 }
 
 int main(void)
 {
     wrong_lengths();
+    old_traces();
     last_places();
     longest();
     null_for_none();
     one_event();
+    forwarded_errors();
     event_example();
     trace_example();
     rooms_of_a_list();

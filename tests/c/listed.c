@@ -1,6 +1,7 @@
 /* Holds the lists of answers to the judge of one event, for every question: an answer is listed exactly when the judge permits it.
- * Tried are all answers with a known message and forwarded data as FwdState says, and all that differ from a listed one in at most
- * a single byte. */
+ * Tried are all answers with a known message and forwarded data as FwdState says, without an error on that data; all that forward
+ * with a known message, Resp and FwdState, with an error on that data; and all that differ from a listed one in at most a single
+ * byte. */
 
 #include <stdio.h>
 #include <stdlib.h>
@@ -19,13 +20,16 @@
 /* How many questions there are. */
 #define QUESTIONS (SNOOPS * STATES)
 
-/* How many answers have a known message and forwarded data as FwdState says. */
+/* How many answers have a known message and forwarded data as FwdState says, without an error on that data. */
 #define KNOWN (5 * 8 * 8 * 4 * 4 * STATES)
 
-/* How many answers are put for one that is listed: one for each value of each byte. */
-#define NEAR (2 + 32 + 8 + 8 + 4 + 4 + 2 + 8 + STATES)
+/* How many answers forward with a known message, Resp and FwdState, and have an error on the forwarded data. */
+#define IN_ERROR (2 * 5 * 4 * 4 * 4 * STATES * 3)
 
-/* An answer: bytes 5 to 13 of an event, the state after being seen. */
+/* How many answers are put for one that is listed: one for each value of each byte. */
+#define NEAR (2 + 32 + 8 + 8 + 4 + 4 + 2 + 8 + STATES + 4)
+
+/* An answer: bytes 5 to 14 of an event, the state after being seen. */
 struct answer {
     uint8_t bytes[KOREHYUMO_ANSWER_BYTES];
 };
@@ -36,7 +40,7 @@ static size_t counts[QUESTIONS];
 
 /* The answers of all lists, and the answers that are tried. */
 static struct answer rows[QUESTIONS * KOREHYUMO_MOST_ANSWERS];
-static struct answer tried[KNOWN + QUESTIONS * KOREHYUMO_MOST_ANSWERS * NEAR];
+static struct answer tried[KNOWN + IN_ERROR + QUESTIONS * KOREHYUMO_MOST_ANSWERS * NEAR];
 
 /* How many answers are listed, how many events were judged, and how many checks failed. */
 static unsigned long listed, judged, wrong;
@@ -114,14 +118,27 @@ static void put_known(struct answer *answers)
         uint8_t resp = take(&choice, 8), fwd_state = take(&choice, 8);
         uint8_t tag_op = take(&choice, 4), resp_err = take(&choice, 4), after = take(&choice, STATES);
         const uint8_t *message = messages[choice];
-        answers[n] = (struct answer){{message[0], message[1], resp, fwd_state, tag_op, resp_err, fwd_state != 0, fwd_state, after}};
+        answers[n] = (struct answer){{message[0], message[1], resp, fwd_state, tag_op, resp_err, fwd_state != 0, fwd_state, after, 0}};
+    }
+}
+
+/* Puts the IN_ERROR answers. */
+static void put_in_error(struct answer *answers)
+{
+    static const uint8_t messages[2][2] = {{0, 9}, {1, 6}}, resps[5] = {0, 1, 3, 4, 5}, fwd_states[4] = {1, 2, 6, 7};
+    for (size_t n = 0; n < IN_ERROR; n++) {
+        size_t choice = n;
+        uint8_t fwd_err = (uint8_t)(1 + take(&choice, 3)), resp = resps[take(&choice, 5)], fwd_state = fwd_states[take(&choice, 4)];
+        uint8_t tag_op = take(&choice, 4), resp_err = take(&choice, 4), after = take(&choice, STATES);
+        const uint8_t *message = messages[choice];
+        answers[n] = (struct answer){{message[0], message[1], resp, fwd_state, tag_op, resp_err, 1, fwd_state, after, fwd_err}};
     }
 }
 
 /* Puts the NEAR answers that differ from this one in at most a single byte. */
 static void put_near(struct answer *near, const struct answer *answer)
 {
-    static const uint8_t values[KOREHYUMO_ANSWER_BYTES] = {2, 32, 8, 8, 4, 4, 2, 8, STATES};
+    static const uint8_t values[KOREHYUMO_ANSWER_BYTES] = {2, 32, 8, 8, 4, 4, 2, 8, STATES, 4};
     for (size_t byte = 0; byte < KOREHYUMO_ANSWER_BYTES; byte++)
         for (unsigned value = 0; value < values[byte]; value++, near++) {
             *near = *answer;
@@ -133,10 +150,12 @@ static void put_near(struct answer *near, const struct answer *answer)
 static size_t gather_tried(void)
 {
     size_t row_count = gather_rows();
+    struct answer *near = tried + KNOWN + IN_ERROR;
     put_known(tried);
+    put_in_error(tried + KNOWN);
     for (size_t row = 0; row < row_count; row++)
-        put_near(tried + KNOWN + row * NEAR, &rows[row]);
-    return each_once(tried, KNOWN + row_count * NEAR);
+        put_near(near + row * NEAR, &rows[row]);
+    return each_once(tried, KNOWN + IN_ERROR + row_count * NEAR);
 }
 
 /* Goes on in the list of a question if this answer is the next, and checks that it is so exactly if it is permitted. */
