@@ -3,7 +3,7 @@
 //!     answers REQUEST RETTOSRC DONOTGOTOSD EXCL TAG BEFORE
 //!
 //! The six words are spelled as on the bench sheet: `answers SnpShared 0 0 0 Invalid UD`. BEFORE is the state before. The first
-//! line names the columns, which are the sheet's last five. Each line that follows is an answer.
+//! line names the columns, which are the sheet's last six. Each line that follows is an answer.
 
 use korehyumo::{permitted_answers, Question, Refusal, Request, State, TagState};
 use std::env;
@@ -12,7 +12,7 @@ use std::io::{self, Write};
 use std::process::ExitCode;
 
 /// The first line of the output.
-const COLUMNS: &str = "response,TagOp,RespErr,forward,final";
+const COLUMNS: &str = "response,TagOp,RespErr,forward,final,fwdErr";
 
 /// Why the program prints no answers.
 #[derive(Debug)]
@@ -124,16 +124,23 @@ mod tests {
     /// A question with answers, and one that the rows permit none to.
     #[test]
     fn lists() {
-        let answers = "response,TagOp,RespErr,forward,final\n\
-                       SnpResp_I,Invalid,NDERR,-,I\n\
-                       SnpResp_SD_Fwded_SC,Invalid,OK,CompData_SC,SD\n\
-                       SnpRespData_I_PD_Fwded_SC,Update,OK,CompData_SC,I\n\
-                       SnpRespData_I_PD_Fwded_SC,Update,DERR,CompData_SC,I\n\
-                       SnpRespData_SC_PD_Fwded_SC,Update,OK,CompData_SC,I\n\
-                       SnpRespData_SC_PD_Fwded_SC,Update,OK,CompData_SC,SC\n\
-                       SnpRespData_SC_PD_Fwded_SC,Update,DERR,CompData_SC,I\n\
-                       SnpRespData_SC_PD_Fwded_SC,Update,DERR,CompData_SC,SC\n";
-        let none = "response,TagOp,RespErr,forward,final\n";
+        let answers = "response,TagOp,RespErr,forward,final,fwdErr\n\
+                       SnpResp_I,Invalid,NDERR,-,I,-\n\
+                       SnpResp_SD_Fwded_SC,Invalid,OK,CompData_SC,SD,OK\n\
+                       SnpResp_SD_Fwded_SC,Invalid,OK,CompData_SC,SD,DERR\n\
+                       SnpRespData_I_PD_Fwded_SC,Update,OK,CompData_SC,I,OK\n\
+                       SnpRespData_I_PD_Fwded_SC,Update,OK,CompData_SC,I,DERR\n\
+                       SnpRespData_I_PD_Fwded_SC,Update,DERR,CompData_SC,I,OK\n\
+                       SnpRespData_I_PD_Fwded_SC,Update,DERR,CompData_SC,I,DERR\n\
+                       SnpRespData_SC_PD_Fwded_SC,Update,OK,CompData_SC,I,OK\n\
+                       SnpRespData_SC_PD_Fwded_SC,Update,OK,CompData_SC,I,DERR\n\
+                       SnpRespData_SC_PD_Fwded_SC,Update,OK,CompData_SC,SC,OK\n\
+                       SnpRespData_SC_PD_Fwded_SC,Update,OK,CompData_SC,SC,DERR\n\
+                       SnpRespData_SC_PD_Fwded_SC,Update,DERR,CompData_SC,I,OK\n\
+                       SnpRespData_SC_PD_Fwded_SC,Update,DERR,CompData_SC,I,DERR\n\
+                       SnpRespData_SC_PD_Fwded_SC,Update,DERR,CompData_SC,SC,OK\n\
+                       SnpRespData_SC_PD_Fwded_SC,Update,DERR,CompData_SC,SC,DERR\n";
+        let none = "response,TagOp,RespErr,forward,final,fwdErr\n";
         assert_eq!(told("SnpCleanFwd 0 0 0 Dirty UD").unwrap(), answers);
         assert_eq!(told("SnpShared 0 0 0 Dirty UC").unwrap(), none);
     }

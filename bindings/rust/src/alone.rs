@@ -51,14 +51,14 @@ impl Judgment {
 /// assert!(judgment[State::UC].after.is_empty());
 /// assert_eq!(judgment.befores().to_string(), "UD SD");
 ///
-/// assert_eq!(judge_event([0; 13]), Err(Refusal::Lengths));
+/// assert_eq!(judge_event([0; Event::BYTES - 1]), Err(Refusal::Lengths));
 /// # Ok::<(), Refusal>(())
 /// ```
 ///
 /// # Errors
 ///
-/// - [`Refusal::Lengths`]: there are not fourteen bytes.
-/// - [`Refusal::Range`] of event 0: a byte from 1 to 13 is outside its range.
+/// - [`Refusal::Lengths`]: there are not [`Event::BYTES`](crate::Event::BYTES) bytes.
+/// - [`Refusal::Range`] of event 0: a byte from 1 to 14 is outside its range.
 /// - [`Refusal::Request`] of event 0: the request is not one of the ten.
 pub fn judge_event<Bytes: AsRef<[u8]>>(event: Bytes) -> Result<Judgment, Refusal> {
     let (result, sets, duties) = calls::event(event.as_ref());

@@ -170,7 +170,7 @@ kind! {
 }
 
 kind! {
-    /// The RespErr of an answer.
+    /// An error field: the RespErr of an answer to Home, or the fwdErr of forwarded data.
     RespErr {
         /// No error.
         OK = 0,
@@ -178,7 +178,7 @@ kind! {
         EXOK = 1,
         /// The data is in error.
         DERR = 2,
-        /// A non-data error; the answer has no data.
+        /// A non-data error; the answer has neither data nor a forward.
         NDERR = 3,
     }
 }

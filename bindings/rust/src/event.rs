@@ -4,12 +4,12 @@ use crate::answer::Answer;
 use crate::codes::{Request, RespErr, State, TagOp, TagState};
 use std::fmt;
 
-/// One snoop and its answer, as fourteen bytes. It can hold any bytes; the judge refuses bad ones.
+/// One snoop and its answer, as fifteen bytes. It can hold any bytes; the judge refuses bad ones.
 ///
 /// ```
 /// use korehyumo::{Answer, Event, Fields, Forward, Request, Resp};
 ///
-/// let captured = Event::from([1, 0, 0, 0, 0, 1, 1, 5, 0, 0, 0, 0, 0, 7]);
+/// let captured = Event::from([1, 0, 0, 0, 0, 1, 1, 5, 0, 0, 0, 0, 0, 7, 0]);
 /// let answer = Answer::SnpRespData(Resp::SC_PD, Forward::NoForward);
 /// let named = Event::from(Fields::new(Request::SnpShared, answer));
 /// assert_eq!(captured, named);
@@ -20,16 +20,16 @@ pub struct Event([u8; Event::BYTES]);
 /// One snoop and its answer, field by field.
 ///
 /// ```
-/// use korehyumo::{Answer, Event, Fields, Forward, FwdState, Request, Resp, TagOp, TagState};
+/// use korehyumo::{Answer, Event, Fields, Forward, FwdState, Request, Resp, RespErr, TagOp, TagState};
 ///
 /// // entry g of the notebook
-/// let answer = Answer::SnpRespData(Resp::SC_PD, Forward::CompData(FwdState::SC));
+/// let answer = Answer::SnpRespData(Resp::SC_PD, Forward::CompData(FwdState::SC, RespErr::OK));
 /// let fields = Fields {
 ///     tag: Some(TagState::Dirty),
 ///     tag_op: TagOp::Update,
 ///     ..Fields::new(Request::SnpCleanFwd, answer)
 /// };
-/// assert_eq!(fields.to_string(), "SnpCleanFwd,0,0,0,Dirty,SnpRespData_SC_PD_Fwded_SC,Update,OK,CompData_SC,?");
+/// assert_eq!(fields.to_string(), "SnpCleanFwd,0,0,0,Dirty,SnpRespData_SC_PD_Fwded_SC,Update,OK,CompData_SC,?,OK");
 /// assert_eq!(Event::from(fields).fields(), Some(fields));
 /// ```
 #[derive(Clone, Copy, Debug, PartialEq, Eq, Hash)]
@@ -44,11 +44,11 @@ pub struct Fields {
     pub excl: bool,
     /// The snoopee's tag state; `None` if it was not seen.
     pub tag: Option<TagState>,
-    /// The answer to Home, with what was forwarded.
+    /// The answer to Home, with what was forwarded and the error field of that.
     pub answer: Answer,
     /// The answer's TagOp.
     pub tag_op: TagOp,
-    /// The answer's RespErr.
+    /// The answer's RespErr, which is the one to Home.
     pub resp_err: RespErr,
     /// The snoopee's state after; `None` if it was not seen.
     pub state_after: Option<State>,
@@ -61,7 +61,7 @@ const STATE_NOT_SEEN: u8 = 7;
 
 impl Event {
     /// How many bytes an event has.
-    pub const BYTES: usize = 14;
+    pub const BYTES: usize = 15;
 
     /// Its bytes.
     pub const fn bytes(&self) -> &[u8; Event::BYTES] {
@@ -78,7 +78,7 @@ impl Event {
             excl: flag(bytes[3])?,
             tag: seen(bytes[4], TAG_NOT_SEEN)?,
             answer: Answer::from_wire([
-                bytes[5], bytes[6], bytes[7], bytes[8], bytes[11], bytes[12],
+                bytes[5], bytes[6], bytes[7], bytes[8], bytes[11], bytes[12], bytes[14],
             ])?,
             tag_op: TagOp::try_from(bytes[9]).ok()?,
             resp_err: RespErr::try_from(bytes[10]).ok()?,
@@ -135,7 +135,7 @@ impl From<Event> for [u8; Event::BYTES] {
 
 impl From<Fields> for Event {
     fn from(fields: Fields) -> Event {
-        let [channel, opcode, resp, fwd_state, present, its_resp] = fields.answer.wire();
+        let [channel, opcode, resp, fwd_state, present, its_resp, fwd_err] = fields.answer.wire();
         Event([
             fields.request.code(),
             u8::from(fields.ret_to_src),
@@ -151,6 +151,7 @@ impl From<Fields> for Event {
             present,
             its_resp,
             fields.state_after.map_or(STATE_NOT_SEEN, State::code),
+            fwd_err,
         ])
     }
 }
@@ -172,7 +173,7 @@ impl fmt::Display for Event {
 }
 
 impl fmt::Display for Fields {
-    /// Writes the ten fields that follow the pair on a line of the bench sheet.
+    /// Writes the eleven fields that follow the pair on a line of the bench sheet.
     fn fmt(&self, f: &mut fmt::Formatter<'_>) -> fmt::Result {
         let flags = [self.ret_to_src, self.do_not_go_to_sd, self.excl].map(u8::from);
         write!(
@@ -186,13 +187,13 @@ impl fmt::Display for Fields {
             self.tag.map_or("?", TagState::name),
             self.answer
         )?;
+        let forward = self.answer.forward();
+        write!(f, "{},{},{forward},", self.tag_op, self.resp_err)?;
         write!(
             f,
-            "{},{},{},",
-            self.tag_op,
-            self.resp_err,
-            self.answer.forward()
-        )?;
-        f.write_str(self.state_after.map_or("?", State::name))
+            "{},{}",
+            self.state_after.map_or("?", State::name),
+            forward.fwd_err_name()
+        )
     }
 }

@@ -61,7 +61,7 @@
 //!
 //! let answers = permitted_answers(Question::new(Request::SnpClean, State::UCE))?;
 //! let lines: Vec<String> = answers.iter().map(|answer| answer.to_string()).collect();
-//! assert_eq!(lines, ["SnpResp_I,Invalid,OK,-,I", "SnpResp_I,Invalid,NDERR,-,I"]);
+//! assert_eq!(lines, ["SnpResp_I,Invalid,OK,-,I,-", "SnpResp_I,Invalid,NDERR,-,I,-"]);
 //! # Ok::<(), Refusal>(())
 //! ```
 //!

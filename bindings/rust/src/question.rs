@@ -6,14 +6,14 @@ use crate::codes::{Request, RespErr, State, TagOp, TagState};
 use crate::refusal::Refusal;
 use std::fmt;
 
-/// How many bytes a listed answer has: bytes 5 to 13 of an event.
+/// How many bytes a listed answer has: bytes 5 to 14 of an event.
 ///
 /// ```
 /// use korehyumo::{Event, ANSWER_BYTES};
 ///
 /// assert_eq!(ANSWER_BYTES, Event::BYTES - 5);
 /// ```
-pub const ANSWER_BYTES: usize = 9;
+pub const ANSWER_BYTES: usize = 10;
 /// The most answers that a list has.
 ///
 /// ```
@@ -23,7 +23,7 @@ pub const ANSWER_BYTES: usize = 9;
 /// assert_eq!(list_answers([18, 1, 0, 0, 0, 3], &mut room)?, MOST_ANSWERS);
 /// # Ok::<(), Refusal>(())
 /// ```
-pub const MOST_ANSWERS: usize = 29;
+pub const MOST_ANSWERS: usize = 57;
 
 /// A snoop, the tag state and the state before: what an answer is permitted by.
 ///
@@ -55,28 +55,28 @@ pub struct Question {
 /// An answer that the rows permit, with its state after.
 ///
 /// ```
-/// use korehyumo::{Answer, Forward, Permitted, Resp, RespErr, State, TagOp};
+/// use korehyumo::{Answer, Forward, FwdState, Permitted, Resp, RespErr, State, TagOp};
 ///
 /// let permitted = Permitted::Named {
-///     answer: Answer::SnpRespData(Resp::SC_PD, Forward::NoForward),
+///     answer: Answer::SnpRespData(Resp::SC_PD, Forward::CompData(FwdState::SC, RespErr::DERR)),
 ///     tag_op: TagOp::Transfer,
 ///     resp_err: RespErr::OK,
-///     state_after: State::SC,
+///     state_after: State::I,
 /// };
-/// assert_eq!(permitted.to_string(), "SnpRespData_SC_PD,Transfer,OK,-,SC");
-/// assert_eq!(permitted.bytes(), [1, 1, 5, 0, 1, 0, 0, 0, 5]);
-/// assert_eq!(Permitted::from([1, 1, 5, 0, 1, 0, 0, 0, 5]), permitted);
+/// assert_eq!(permitted.to_string(), "SnpRespData_SC_PD_Fwded_SC,Transfer,OK,CompData_SC,I,DERR");
+/// assert_eq!(permitted.bytes(), [1, 6, 5, 1, 1, 0, 1, 1, 0, 2]);
+/// assert_eq!(Permitted::from([1, 6, 5, 1, 1, 0, 1, 1, 0, 2]), permitted);
 /// ```
 #[derive(Clone, Copy, Debug, PartialEq, Eq, Hash)]
 #[non_exhaustive]
 pub enum Permitted {
     /// An answer by name.
     Named {
-        /// The answer to Home, with what is forwarded.
+        /// The answer to Home, with what is forwarded and the error field of that.
         answer: Answer,
         /// The answer's TagOp.
         tag_op: TagOp,
-        /// The answer's RespErr.
+        /// The answer's RespErr, which is the one to Home.
         resp_err: RespErr,
         /// The snoopee's state after.
         state_after: State,
@@ -122,7 +122,7 @@ impl Question {
 }
 
 impl Permitted {
-    /// Its bytes: bytes 5 to 13 of an event.
+    /// Its bytes: bytes 5 to 14 of an event.
     pub const fn bytes(self) -> [u8; ANSWER_BYTES] {
         match self {
             Permitted::Named {
@@ -131,7 +131,7 @@ impl Permitted {
                 resp_err,
                 state_after,
             } => {
-                let [channel, opcode, resp, fwd_state, present, its_resp] = answer.wire();
+                let [channel, opcode, resp, fwd_state, present, its_resp, fwd_err] = answer.wire();
                 [
                     channel,
                     opcode,
@@ -142,6 +142,7 @@ impl Permitted {
                     present,
                     its_resp,
                     state_after.code(),
+                    fwd_err,
                 ]
             }
             Permitted::Other(bytes) => bytes,
@@ -150,10 +151,11 @@ impl Permitted {
 
     /// The answer with these bytes; `None` if some byte has no name.
     fn named(bytes: [u8; ANSWER_BYTES]) -> Option<Permitted> {
-        let [channel, opcode, resp, fwd_state, tag_op, resp_err, present, its_resp, state_after] =
+        let [channel, opcode, resp, fwd_state, tag_op, resp_err, present, its_resp, state_after, fwd_err] =
             bytes;
+        let wire = [channel, opcode, resp, fwd_state, present, its_resp, fwd_err];
         Some(Permitted::Named {
-            answer: Answer::from_wire([channel, opcode, resp, fwd_state, present, its_resp])?,
+            answer: Answer::from_wire(wire)?,
             tag_op: TagOp::try_from(tag_op).ok()?,
             resp_err: RespErr::try_from(resp_err).ok()?,
             state_after: State::try_from(state_after).ok()?,
@@ -169,7 +171,7 @@ impl From<[u8; ANSWER_BYTES]> for Permitted {
 }
 
 impl fmt::Display for Permitted {
-    /// Writes the last five fields of a line of the bench sheet, or its bytes as numbers if it has no name.
+    /// Writes the last six fields of a line of the bench sheet, or its bytes as numbers if it has no name.
     fn fmt(&self, f: &mut fmt::Formatter<'_>) -> fmt::Result {
         match self {
             Permitted::Named {
@@ -177,11 +179,11 @@ impl fmt::Display for Permitted {
                 tag_op,
                 resp_err,
                 state_after,
-            } => write!(
-                f,
-                "{answer},{tag_op},{resp_err},{},{state_after}",
-                answer.forward()
-            ),
+            } => {
+                let forward = answer.forward();
+                write!(f, "{answer},{tag_op},{resp_err},{forward},{state_after},")?;
+                f.write_str(forward.fwd_err_name())
+            }
             Permitted::Other(bytes) => write!(f, "{bytes:?}"),
         }
     }
@@ -198,9 +200,9 @@ impl fmt::Display for Permitted {
 /// assert_eq!(
 ///     lines,
 ///     [
-///         "SnpResp_I,Invalid,NDERR,-,I",
-///         "SnpRespDataPtl_I_PD,Invalid,OK,-,I",
-///         "SnpRespDataPtl_I_PD,Invalid,DERR,-,I",
+///         "SnpResp_I,Invalid,NDERR,-,I,-",
+///         "SnpRespDataPtl_I_PD,Invalid,OK,-,I,-",
+///         "SnpRespDataPtl_I_PD,Invalid,DERR,-,I,-",
 ///     ]
 /// );
 ///
@@ -235,13 +237,13 @@ pub fn permitted_answers(question: Question) -> Result<Vec<Permitted>, Refusal> 
 /// use korehyumo::{list_answers, Refusal};
 ///
 /// let snp_clean_to_i = [2, 0, 0, 0, 0, 0];
-/// let mut room = [99; 20];
+/// let mut room = [99; 22];
 /// assert_eq!(list_answers(snp_clean_to_i, &mut room)?, 2);
-/// assert_eq!(room[..9], [0, 1, 0, 0, 0, 0, 0, 0, 0]); // SnpResp_I
-/// assert_eq!(room[9..18], [0, 1, 0, 0, 0, 3, 0, 0, 0]); // SnpResp_I with NDERR
-/// assert_eq!(room[18..], [99; 2]);
+/// assert_eq!(room[..10], [0, 1, 0, 0, 0, 0, 0, 0, 0, 0]); // SnpResp_I
+/// assert_eq!(room[10..20], [0, 1, 0, 0, 0, 3, 0, 0, 0, 0]); // SnpResp_I with NDERR
+/// assert_eq!(room[20..], [99; 2]);
 ///
-/// assert_eq!(list_answers(snp_clean_to_i, &mut room[..17]), Err(Refusal::Room));
+/// assert_eq!(list_answers(snp_clean_to_i, &mut room[..19]), Err(Refusal::Room));
 /// # Ok::<(), Refusal>(())
 /// ```
 ///

@@ -122,8 +122,8 @@ mod tests {
         let read = Refusal::unless_accepted;
         assert_eq!(read(0), Ok(0));
         assert_eq!(read(4_096 * 256), Ok(4_096));
-        assert_eq!(read((29 << 32) + 256), Ok(1));
-        assert_eq!(read(29 << 32), Ok(0));
+        assert_eq!(read((57 << 32) + 256), Ok(1));
+        assert_eq!(read(57 << 32), Ok(0));
         assert_eq!(read(1), Err(Refusal::Lengths));
         assert_eq!(read(4_095 * 256 + 2), Err(Refusal::Set(PairNumber(4_095))));
         assert_eq!(

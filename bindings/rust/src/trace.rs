@@ -12,7 +12,7 @@ pub const MOST_PAIRS: usize = 4_096;
 ///
 /// | buffer | what it holds |
 /// |---|---|
-/// | `events` | 14 bytes for each event |
+/// | `events` | [`Event::BYTES`](crate::Event::BYTES) bytes for each event |
 /// | `pairs` | the pair number of each event |
 /// | `table` | the set of each pair, before the call and after it |
 /// | `verdicts`, `duties`, `afters` | after the call, a byte for each event |
@@ -23,8 +23,8 @@ pub const MOST_PAIRS: usize = 4_096;
 /// use korehyumo::{judge_trace, Refusal};
 ///
 /// let events = [
-///     1, 0, 0, 0, 0, 1, 1, 5, 0, 0, 0, 0, 0, 7, // SnpShared, SnpRespData_SC_PD
-///     2, 0, 0, 0, 0, 1, 1, 3, 0, 0, 0, 0, 0, 7, // SnpClean, SnpRespData_SD
+///     1, 0, 0, 0, 0, 1, 1, 5, 0, 0, 0, 0, 0, 7, 0, // SnpShared, SnpRespData_SC_PD
+///     2, 0, 0, 0, 0, 1, 1, 3, 0, 0, 0, 0, 0, 7, 0, // SnpClean, SnpRespData_SD
 /// ];
 /// let (mut table, mut verdicts, mut duties, mut afters) = ([127], [0; 2], [0; 2], [0; 2]);
 /// let n = judge_trace(&events, &[0, 0], &mut table, &mut verdicts, &mut duties, &mut afters)?;

@@ -2,23 +2,25 @@
 
 mod common;
 
-use common::{wire, Draw, Lent, HIGHEST, REQUESTS, RESPONSES};
+use common::{put_response, Bytes, Draw, Lent, HIGHEST, REQUESTS, RESPONSES};
 use korehyumo::{
     judge_event, Duty, Event, Finding, Judge, PairNumber, Refusal, State, StateSet, Verdict,
 };
 
 /// An event with every byte in its range. Three in four have an answer of the rows, so that many are explained.
-fn event(draw: &mut Draw) -> [u8; 14] {
+fn event(draw: &mut Draw) -> Bytes {
     let mut bytes = HIGHEST.map(|highest| draw.byte(highest));
     bytes[0] = REQUESTS[draw.below(10) as usize];
     if draw.below(4) == 0 {
         return bytes;
     }
+    let fwd_err = bytes[14];
     let (_, codes) = RESPONSES[draw.below(22) as usize];
-    let wire = wire(codes);
-    bytes[5..9].copy_from_slice(&wire[..4]);
-    bytes[11..13].copy_from_slice(&wire[4..]);
-    if draw.below(8) != 0 {
+    put_response(&mut bytes, codes);
+    if draw.below(8) == 0 {
+        bytes[14] = fwd_err;
+    } else {
+        bytes[14] = if codes[3] == 0 { 0 } else { fwd_err / 2 * 2 };
         bytes[9] = 0;
         bytes[10] = if draw.below(8) == 0 { 3 } else { 0 };
         bytes[13] = 7;
@@ -30,7 +32,7 @@ fn event(draw: &mut Draw) -> [u8; 14] {
 fn good(draw: &mut Draw) -> Lent {
     let pairs = draw.below(20) + 1;
     let n = draw.below(20);
-    let events: Vec<[u8; 14]> = (0..n).map(|_| event(draw)).collect();
+    let events: Vec<Bytes> = (0..n).map(|_| event(draw)).collect();
     let numbers: Vec<u16> = (0..n).map(|_| draw.below(pairs) as u16).collect();
     let table: Vec<u8> = (0..pairs).map(|_| draw.byte(127)).collect();
     Lent::new(&events, &numbers, &table)
@@ -62,7 +64,11 @@ fn any_bytes() {
         };
         let lengths = [any(60), any(5), any(5), any(5), any(5), any(5)];
         let before = Lent {
-            events: draw.bytes(if lengths[0] == n { 14 * n } else { lengths[0] }),
+            events: draw.bytes(if lengths[0] == n {
+                Event::BYTES * n
+            } else {
+                lengths[0]
+            }),
             pairs: (0..lengths[1]).map(|_| draw.below(65_536) as u16).collect(),
             table: draw.bytes(lengths[2]),
             verdicts: draw.bytes(lengths[3]),
@@ -86,21 +92,25 @@ fn any_event() {
     let mut draw = Draw(0x0fed_cba9_8765_4321);
     for _ in 0..20_000 {
         let length = if draw.below(2) == 0 {
-            14
+            Event::BYTES
         } else {
             draw.below(50) as usize
         };
         let bytes = draw.bytes(length);
         let refusal = judge_event(&bytes).err();
-        assert_eq!(refusal == Some(Refusal::Lengths), bytes.len() != 14);
+        assert_eq!(
+            refusal == Some(Refusal::Lengths),
+            bytes.len() != Event::BYTES
+        );
     }
 }
 
 /// A trace as pairs and events.
 fn named(lent: &Lent) -> Vec<(PairNumber, Event)> {
-    let event = |bytes: &[u8]| Event::from(<[u8; 14]>::try_from(bytes).unwrap());
+    let event = |bytes: &[u8]| Event::from(Bytes::try_from(bytes).unwrap());
     let pairs = lent.pairs.iter().map(|pair| PairNumber(*pair));
-    pairs.zip(lent.events.chunks_exact(14).map(event)).collect()
+    let events = lent.events.chunks_exact(Event::BYTES).map(event);
+    pairs.zip(events).collect()
 }
 
 /// A judge with the sets of a table.
@@ -191,5 +201,30 @@ fn duties_of_events_alone() -> Result<(), Refusal> {
         }
     }
     assert!(told.iter().all(|count| *count > 100), "{told:?}");
+    Ok(())
+}
+
+/// With forwarded data OK and DERR on it are judged alike, and EXOK and NDERR unexplained; without, all but 0 is unexplained.
+#[test]
+fn errors_on_forwarded_data() -> Result<(), Refusal> {
+    let mut draw = Draw(0x4669_2016_0910_2990);
+    let mut explained = [0; 2];
+    for _ in 0..20_000 {
+        let mut bytes = event(&mut draw);
+        let present = bytes[11];
+        let mut judged = |fwd_err: u8| {
+            bytes[14] = fwd_err;
+            judge_event(bytes)
+        };
+        let (ok, exok, derr, nderr) = (judged(0)?, judged(1)?, judged(2)?, judged(3)?);
+        assert!(exok.befores().is_empty() && nderr.befores().is_empty());
+        if present == 1 {
+            assert_eq!(derr, ok);
+        } else {
+            assert!(derr.befores().is_empty());
+        }
+        explained[usize::from(present)] += u32::from(!ok.befores().is_empty());
+    }
+    assert!(explained.iter().all(|count| *count > 500), "{explained:?}");
     Ok(())
 }

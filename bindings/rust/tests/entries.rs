@@ -66,8 +66,8 @@ fn plain_entries() -> Vec<Entry> {
 
 /// Entries e to h: SnpCleanFwd.
 fn forwarding_entries() -> Vec<Entry> {
-    let to_requester = Answer::SnpResp(Resp::SC, Forward::CompData(FwdState::SD_PD));
-    let to_home = Answer::SnpRespData(Resp::SC_PD, Forward::CompData(FwdState::SC));
+    let to_requester = Answer::SnpResp(Resp::SC, Forward::CompData(FwdState::SD_PD, RespErr::OK));
+    let to_home = Answer::SnpRespData(Resp::SC_PD, Forward::CompData(FwdState::SC, RespErr::OK));
     let e = Fields::new(Request::SnpCleanFwd, to_requester);
     let f = Fields {
         tag: Some(TagState::Dirty),
@@ -98,8 +98,8 @@ fn forwarding_entries() -> Vec<Entry> {
 
 /// Entries i to k: SnpPreferUniqueFwd.
 fn preferring_entries() -> Vec<Entry> {
-    let given_up = Answer::SnpResp(Resp::I, Forward::CompData(FwdState::UC));
-    let shared = Answer::SnpResp(Resp::SC, Forward::CompData(FwdState::SC));
+    let given_up = Answer::SnpResp(Resp::I, Forward::CompData(FwdState::UC, RespErr::OK));
+    let shared = Answer::SnpResp(Resp::SC, Forward::CompData(FwdState::SC, RespErr::OK));
     let i = Fields::new(Request::SnpPreferUniqueFwd, given_up);
     let j = Fields { excl: true, ..i };
     let k = Fields::new(Request::SnpPreferUniqueFwd, shared);

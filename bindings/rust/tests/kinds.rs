@@ -2,7 +2,7 @@
 
 mod common;
 
-use common::{all_answers, wire, FORWARDS, HIGHEST, REQUESTS, RESPONSES, SHEET};
+use common::{all_answers, wire, Bytes, FORWARDS, HIGHEST, REQUESTS, RESPONSES, SHEET};
 use korehyumo::{
     Answer, Duty, Event, EventNumber, Fields, Forward, FwdState, PairNumber, Request, Resp,
     RespErr, State, StateSet, TagOp, TagState, Verdict,
@@ -174,16 +174,35 @@ fn the_responses_of_the_rows() {
 
 #[test]
 fn answers_are_read_back() {
-    assert_eq!(all_answers().len(), 55);
+    assert_eq!(all_answers().len(), 175);
     for answer in all_answers() {
         assert_eq!(Answer::from_wire(answer.wire()), Some(answer));
+    }
+}
+
+/// The last byte of a response is read as the error field of its forwarded data; without a forward it is 0.
+#[test]
+fn errors_of_the_responses() {
+    for (name, codes) in RESPONSES {
+        for last in 0..=255 {
+            let mut wire = wire(codes);
+            wire[6] = last;
+            let fwd_err = RespErr::try_from(last).ok().filter(|_| codes[3] != 0);
+            let read = Answer::from_wire(wire);
+            assert_eq!(read.is_some(), fwd_err.is_some() || last == 0);
+            if let Some(answer) = read {
+                assert_eq!(answer.wire(), wire);
+                assert_eq!(answer.to_string(), name);
+                assert_eq!(answer.forward().fwd_err(), fwd_err);
+            }
+        }
     }
 }
 
 /// Of all bytes in range, only those of an answer are read as one.
 #[test]
 fn other_bytes_are_no_answer() {
-    let limits = [2, 32, 8, 8, 2, 8];
+    let limits = [2, 32, 8, 8, 2, 8, 4];
     let bytes = |number: u32| {
         let mut rest = number;
         limits.map(|limit| {
@@ -197,28 +216,47 @@ fn other_bytes_are_no_answer() {
     assert_eq!(read.count(), all_answers().len());
 }
 
+/// SnpCleanFwd answered by SnpResp_SC_Fwded_SD_PD, entry e of the notebook.
+const FORWARDED: Bytes = [18, 0, 0, 0, 0, 0, 9, 1, 7, 0, 0, 1, 7, 7, 0];
+
 /// Each field is written to its byte, and read back from it.
 #[test]
 fn fields_and_bytes() {
     let [shared, ..] = SHEET.map(|bytes| Event::from(bytes).fields().unwrap());
     assert_eq!(
         shared.to_string(),
-        "SnpShared,0,0,0,Invalid,SnpRespData_SC_PD,Invalid,OK,-,?"
+        "SnpShared,0,0,0,Invalid,SnpRespData_SC_PD,Invalid,OK,-,?,-"
     );
     assert_eq!(Event::from(shared).bytes(), &SHEET[0]);
-    for byte in [0, 1, 2, 3, 4, 9, 10, 13] {
+    for byte in [0, 1, 2, 3, 4, 9, 10, 13, 14] {
         for value in 0..=HIGHEST[byte] {
-            let mut bytes = SHEET[0];
+            let mut bytes = FORWARDED;
             bytes[byte] = value;
             let fields = Event::from(bytes).fields();
             assert_eq!(fields.is_some(), byte != 0 || REQUESTS.contains(&value));
             if let Some(fields) = fields {
-                assert_eq!(<[u8; 14]>::from(Event::from(fields)), bytes);
+                assert_eq!(Bytes::from(Event::from(fields)), bytes);
             }
         }
-        let mut bytes = SHEET[0];
+        let mut bytes = FORWARDED;
         bytes[byte] = HIGHEST[byte].saturating_add(1);
         assert_eq!(Event::from(bytes).fields(), None);
+    }
+}
+
+/// The error field of forwarded data is printed last, and without a forward only 0 has a name.
+#[test]
+fn errors_by_name() {
+    for (code, name) in [(0, "OK"), (1, "EXOK"), (2, "DERR"), (3, "NDERR")] {
+        let mut bytes = FORWARDED;
+        bytes[14] = code;
+        assert_eq!(
+            Event::from(bytes).to_string(),
+            format!("SnpCleanFwd,0,0,0,Invalid,SnpResp_SC_Fwded_SD_PD,Invalid,OK,CompData_SD_PD,?,{name}")
+        );
+        bytes = SHEET[0];
+        bytes[14] = code;
+        assert_eq!(Event::from(bytes).fields().is_some(), code == 0);
     }
 }
 
@@ -228,7 +266,7 @@ fn events_without_names() {
     let mut bytes = SHEET[0];
     bytes[6] = 31;
     let written = Event::from(bytes).to_string();
-    assert_eq!(written, "[1, 0, 0, 0, 0, 1, 31, 5, 0, 0, 0, 0, 0, 7]");
+    assert_eq!(written, "[1, 0, 0, 0, 0, 1, 31, 5, 0, 0, 0, 0, 0, 7, 0]");
 }
 
 /// The example's four lines, and one in which no field has its usual value.
@@ -238,10 +276,10 @@ fn fields_by_name() {
     assert_eq!(
         lines,
         [
-            "SnpShared,0,0,0,Invalid,SnpRespData_SC_PD,Invalid,OK,-,?",
-            "SnpShared,1,0,0,Invalid,SnpRespData_SC,Invalid,OK,-,?",
-            "SnpClean,0,0,0,Invalid,SnpRespData_SD,Invalid,OK,-,?",
-            "SnpClean,0,0,0,Invalid,SnpResp_I,Invalid,OK,-,I",
+            "SnpShared,0,0,0,Invalid,SnpRespData_SC_PD,Invalid,OK,-,?,-",
+            "SnpShared,1,0,0,Invalid,SnpRespData_SC,Invalid,OK,-,?,-",
+            "SnpClean,0,0,0,Invalid,SnpRespData_SD,Invalid,OK,-,?,-",
+            "SnpClean,0,0,0,Invalid,SnpResp_I,Invalid,OK,-,I,-",
         ]
     );
     let fields = Fields {
@@ -250,17 +288,20 @@ fn fields_by_name() {
         do_not_go_to_sd: true,
         excl: true,
         tag: None,
-        answer: Answer::SnpRespData(Resp::I_PD, Forward::CompData(FwdState::UD_PD)),
+        answer: Answer::SnpRespData(
+            Resp::I_PD,
+            Forward::CompData(FwdState::UD_PD, RespErr::NDERR),
+        ),
         tag_op: TagOp::Match,
         resp_err: RespErr::EXOK,
         state_after: Some(State::SD),
     };
     assert_eq!(
         fields.to_string(),
-        "SnpPreferUniqueFwd,1,1,1,?,SnpRespData_I_PD_Fwded_UD_PD,Match,EXOK,CompData_UD_PD,SD"
+        "SnpPreferUniqueFwd,1,1,1,?,SnpRespData_I_PD_Fwded_UD_PD,Match,EXOK,CompData_UD_PD,SD,NDERR"
     );
     assert_eq!(
         Event::from(fields).bytes(),
-        &[22, 1, 1, 1, 3, 1, 6, 4, 6, 3, 1, 1, 6, 6]
+        &[22, 1, 1, 1, 3, 1, 6, 4, 6, 3, 1, 1, 6, 6, 3]
     );
 }

@@ -9,17 +9,23 @@ use korehyumo::{
     MOST_ANSWERS,
 };
 
+/// The bytes of a listed answer.
+type AnswerBytes = [u8; ANSWER_BYTES];
+
 /// The byte that fills a room before a call; no answer has it.
 const LENT: u8 = 201;
+
+/// The bytes of a room that is larger than any list.
+const ENOUGH: usize = MOST_ANSWERS * ANSWER_BYTES + 30;
 
 /// SnpCleanFwd to a line in UDP.
 const PARTIAL: [u8; 6] = [18, 0, 0, 0, 0, 4];
 
 /// Its three answers.
-const PARTIAL_LIST: [u8; 27] = [
-    0, 1, 0, 0, 0, 3, 0, 0, 0, //
-    1, 5, 4, 0, 0, 0, 0, 0, 0, //
-    1, 5, 4, 0, 0, 2, 0, 0, 0,
+const PARTIAL_LIST: [u8; 3 * ANSWER_BYTES] = [
+    0, 1, 0, 0, 0, 3, 0, 0, 0, 0, //
+    1, 5, 4, 0, 0, 0, 0, 0, 0, 0, //
+    1, 5, 4, 0, 0, 2, 0, 0, 0, 0,
 ];
 
 /// Every question from a state before.
@@ -95,7 +101,7 @@ fn event(question: Question, permitted: Permitted) -> Event {
 #[test]
 fn every_question() -> Result<(), Refusal> {
     let all = all_named();
-    assert_eq!((questions().len(), all.len()), (1_680, 55 * 4 * 4 * 7));
+    assert_eq!((questions().len(), all.len()), (1_680, 175 * 4 * 4 * 7));
     for question in questions_from(State::I) {
         let mut lists = State::ALL.map(|_| Vec::new());
         for permitted in &all {
@@ -127,6 +133,28 @@ fn errors_and_dirty_tags() -> Result<(), Refusal> {
     Ok(())
 }
 
+/// In every list each answer that forwards stands with OK and with DERR on the forwarded data, whatever its RespErr.
+#[test]
+fn errors_on_forwarded_data() -> Result<(), Refusal> {
+    let mut forwards = 0;
+    for question in questions() {
+        let answers = permitted_answers(question)?;
+        for listed in &answers {
+            let mut other = listed.bytes();
+            match (other[6], other[9]) {
+                (0, 0) => continue,
+                (1, 0) => other[9] = 2,
+                (1, 2) => other[9] = 0,
+                _ => panic!("{listed}"),
+            }
+            assert!(answers.contains(&Permitted::from(other)), "{question:?}");
+            forwards += 1;
+        }
+    }
+    assert!(forwards > 1_000, "{forwards}");
+    Ok(())
+}
+
 /// The longest list has the most answers.
 #[test]
 fn the_longest_list() -> Result<(), Refusal> {
@@ -134,7 +162,7 @@ fn the_longest_list() -> Result<(), Refusal> {
     for question in questions() {
         longest = longest.max(permitted_answers(question)?.len());
     }
-    assert_eq!((longest, MOST_ANSWERS, ANSWER_BYTES), (29, 29, 9));
+    assert_eq!((longest, MOST_ANSWERS, ANSWER_BYTES), (57, 57, 10));
     Ok(())
 }
 
@@ -161,14 +189,17 @@ fn code_of(names: &[&str], word: &str) -> u8 {
     names.iter().position(|name| *name == word).unwrap() as u8
 }
 
-/// The nine bytes of a line of the bench sheet's last five fields.
-fn read(line: &str) -> [u8; 9] {
+/// The ten bytes of a line of the bench sheet's last six fields.
+fn read(line: &str) -> AnswerBytes {
+    let errors = ["OK", "EXOK", "DERR", "NDERR"];
     let words: Vec<&str> = line.split(',').collect();
-    let [response, tag_op, resp_err, forward, state_after] = <[&str; 5]>::try_from(words).unwrap();
+    let [response, tag_op, resp_err, forward, state_after, fwd_err] =
+        <[&str; 6]>::try_from(words).unwrap();
     let named = RESPONSES.iter().find(|(name, _)| *name == response);
-    let [channel, opcode, resp, fwd_state, present, its_resp] = wire(named.unwrap().1);
+    let [channel, opcode, resp, fwd_state, present, its_resp, without] = wire(named.unwrap().1);
     let forwarded = FORWARDS.iter().find(|(name, _)| *name == forward);
     assert_eq!(forwarded.is_none(), forward == "-");
+    assert_eq!(forwarded.is_none(), fwd_err == "-");
     assert_eq!(forwarded.map_or(0, |(_, code)| *code), its_resp);
     [
         channel,
@@ -176,10 +207,11 @@ fn read(line: &str) -> [u8; 9] {
         resp,
         fwd_state,
         code_of(&["Invalid", "Transfer", "Update", "Match"], tag_op),
-        code_of(&["OK", "EXOK", "DERR", "NDERR"], resp_err),
+        code_of(&errors, resp_err),
         present,
         its_resp,
         code_of(&["I", "UC", "UCE", "UD", "UDP", "SC", "SD"], state_after),
+        forwarded.map_or(without, |_| code_of(&errors, fwd_err)),
     ]
 }
 
@@ -201,7 +233,10 @@ fn names_and_bytes() {
     for permitted in all_named() {
         assert_eq!(Permitted::from(permitted.bytes()), permitted);
         let event = event(question, permitted);
-        assert_eq!(event.bytes()[5..], permitted.bytes());
+        assert_eq!(
+            event.bytes()[Event::BYTES - ANSWER_BYTES..],
+            permitted.bytes()
+        );
         assert_eq!(
             event.to_string(),
             format!("SnpShared,0,0,0,Invalid,{permitted}")
@@ -212,17 +247,22 @@ fn names_and_bytes() {
 /// Bytes without a name are kept and printed as numbers, and no byte is taken for another.
 #[test]
 fn bytes_without_names() {
-    let mut bytes = [1, 1, 5, 0, 1, 0, 0, 0, 5];
+    let mut bytes = [1, 1, 5, 0, 1, 0, 0, 0, 5, 0];
     assert!(matches!(Permitted::from(bytes), Permitted::Named { .. }));
     bytes[8] = 7;
     let other = Permitted::from(bytes);
     assert_eq!(other, Permitted::Other(bytes));
-    assert_eq!(other.to_string(), "[1, 1, 5, 0, 1, 0, 0, 0, 7]");
-    let named: Vec<[u8; 9]> = all_named().iter().map(|named| named.bytes()).collect();
+    assert_eq!(other.to_string(), "[1, 1, 5, 0, 1, 0, 0, 0, 7, 0]");
+    let without_forward = Permitted::from([1, 1, 5, 0, 1, 0, 0, 0, 5, 2]);
+    assert_eq!(
+        without_forward.to_string(),
+        "[1, 1, 5, 0, 1, 0, 0, 0, 5, 2]"
+    );
+    let named: Vec<AnswerBytes> = all_named().iter().map(|named| named.bytes()).collect();
     let mut draw = Draw(0x1618_0339_8874_9894);
     for _ in 0..20_000 {
         let mut bytes = named[draw.below(named.len() as u64) as usize];
-        bytes[draw.below(9) as usize] = draw.byte(255);
+        bytes[draw.below(ANSWER_BYTES as u64) as usize] = draw.byte(255);
         let read = Permitted::from(bytes);
         assert_eq!(read.bytes(), bytes);
         let known = named.binary_search(&bytes).is_ok();
@@ -242,14 +282,14 @@ fn refused(question: [u8; 6], room: usize, refusal: Refusal, number: u8) {
 #[test]
 fn ranges() {
     let highest = [22, 1, 1, 1, 2, 6];
-    assert!(list_answers(highest, &mut [0; 261]).is_ok());
+    assert!(list_answers(highest, &mut [0; MOST_ANSWERS * ANSWER_BYTES]).is_ok());
     for byte in 1..6 {
         for value in highest[byte] + 1..=255 {
             for request in [22, 3] {
                 let mut question = [request, 0, 0, 0, 0, 0];
                 question[byte] = value;
                 refused(question, 0, Refusal::Range(EventNumber(0)), 4);
-                refused(question, 300, Refusal::Range(EventNumber(0)), 4);
+                refused(question, ENOUGH, Refusal::Range(EventNumber(0)), 4);
             }
         }
     }
@@ -261,21 +301,22 @@ fn requests() {
     for request in (0..=255).filter(|request| !REQUESTS.contains(request)) {
         let question = [request, 0, 1, 0, 1, 3];
         refused(question, 0, Refusal::Request(EventNumber(0)), 5);
-        refused(question, 300, Refusal::Request(EventNumber(0)), 5);
+        refused(question, ENOUGH, Refusal::Request(EventNumber(0)), 5);
     }
 }
 
 /// A room that is too small is left as it was lent, and one that is large enough past the last answer.
 #[test]
 fn rooms() {
-    for room in 0..27 {
+    let needed = PARTIAL_LIST.len();
+    for room in 0..needed {
         refused(PARTIAL, room, Refusal::Room, 9);
     }
     for past in 0..300 {
-        let mut lent = vec![LENT; 27 + past];
+        let mut lent = vec![LENT; needed + past];
         assert_eq!(list_answers(PARTIAL, &mut lent), Ok(3));
-        assert_eq!(lent[..27], PARTIAL_LIST);
-        assert!(lent[27..].iter().all(|byte| *byte == LENT));
+        assert_eq!(lent[..needed], PARTIAL_LIST);
+        assert!(lent[needed..].iter().all(|byte| *byte == LENT));
     }
     let dirty_uc = [1, 0, 0, 0, 2, 1];
     assert_eq!(list_answers(dirty_uc, &mut []), Ok(0));
@@ -288,7 +329,7 @@ fn any_question() {
     for _ in 0..20_000 {
         let highest = if draw.below(4) == 0 { 255 } else { 2 };
         let question = [(); 6].map(|()| draw.byte(highest));
-        let length = draw.below(400) as usize;
+        let length = draw.below(ENOUGH as u64) as usize;
         let before = draw.bytes(length);
         let mut room = before.clone();
         let kept = match list_answers(question, &mut room) {

@@ -3,7 +3,12 @@
 mod common;
 
 use common::{Lent, HIGHEST, IN_ERROR, REQUESTS, SHEET};
-use korehyumo::{judge_event, Event, EventNumber, Judge, PairNumber, Refusal, StateSet};
+use korehyumo::{
+    judge_event, Event, EventNumber, Judge, PairNumber, Refusal, StateSet, MOST_EVENTS,
+};
+
+/// How many bytes an event had before its last byte was added.
+const OLD_BYTES: usize = 14;
 
 /// The definition's example with a table of five pairs.
 fn example() -> Lent {
@@ -18,7 +23,7 @@ fn refused_for_lengths(lent: &Lent) {
 /// A wrong length of each buffer with an element for each event, alone and before other faults.
 #[test]
 fn lengths() {
-    for length in [0, 1, 3, 5, 8, 56, 4_096, 5_000] {
+    for length in [0, 1, 3, 5, 8, 4 * Event::BYTES, 4_096, 5_000] {
         let mut wrong = [example(), example(), example(), example()];
         wrong[0].pairs.resize(length, 4);
         wrong[1].verdicts.resize(length, 9);
@@ -37,9 +42,20 @@ fn lengths() {
 /// Event bytes that are not whole events, or events of another number than the other buffers have.
 #[test]
 fn lengths_of_events() {
-    for bytes in (0..=70).filter(|bytes| *bytes != 56) {
+    for bytes in (0..=5 * Event::BYTES).filter(|bytes| *bytes != 4 * Event::BYTES) {
         let mut lent = example();
         lent.events.resize(bytes, 0);
+        refused_for_lengths(&lent);
+    }
+}
+
+/// Traces of old events, one byte shorter each: refused whatever their number.
+#[test]
+fn lengths_of_old_events() {
+    let old = IN_ERROR[..OLD_BYTES].repeat(MOST_EVENTS);
+    for n in 1..=MOST_EVENTS {
+        let mut lent = Lent::new(&vec![IN_ERROR; n], &vec![0; n], &[127]);
+        lent.events = old[..n * OLD_BYTES].to_vec();
         refused_for_lengths(&lent);
     }
 }
@@ -105,8 +121,8 @@ fn pairs() {
             let mut lent = example();
             lent.pairs[event] = pair;
             lent.refused(refusal, 3, event as u64);
-            lent.events[event * 14] = 0;
-            lent.events[event * 14 + 13] = 8;
+            lent.events[event * Event::BYTES] = 0;
+            lent.events[event * Event::BYTES + 13] = 8;
             lent.pairs[3] = pair;
             lent.refused(refusal, 3, event as u64);
         }
@@ -120,11 +136,11 @@ fn ranges() {
         let refusal = Refusal::Range(EventNumber(event as u64));
         for (byte, highest) in HIGHEST.iter().enumerate().skip(1) {
             let mut lent = example();
-            lent.events[event * 14 + byte] = *highest;
+            lent.events[event * Event::BYTES + byte] = *highest;
             assert_eq!(lent.clone().judge(), Ok(4));
-            lent.events[event * 14 + byte] = highest + 1;
+            lent.events[event * Event::BYTES + byte] = highest + 1;
             lent.refused(refusal, 4, event as u64);
-            lent.events[event * 14] = 0;
+            lent.events[event * Event::BYTES] = 0;
             if event < 3 {
                 lent.pairs[event + 1] = 5;
             }
@@ -139,7 +155,7 @@ fn requests() {
     for event in 0..4 {
         for request in 0..=255 {
             let mut lent = example();
-            lent.events[event * 14] = request;
+            lent.events[event * Event::BYTES] = request;
             if REQUESTS.contains(&request) {
                 assert_eq!(lent.judge(), Ok(4));
                 continue;
@@ -157,9 +173,9 @@ fn requests() {
 fn last_event() {
     let last = EventNumber(4_095);
     let mut lent = Lent::new(&[IN_ERROR; 4_096], &[0; 4_096], &[127]);
-    lent.events[4_095 * 14] = 3;
+    lent.events[4_095 * Event::BYTES] = 3;
     lent.refused(Refusal::Request(last), 5, 4_095);
-    lent.events[4_095 * 14 + 4] = 4;
+    lent.events[4_095 * Event::BYTES + 14] = 4;
     lent.refused(Refusal::Range(last), 4, 4_095);
     lent.pairs[4_095] = 1;
     lent.refused(Refusal::Pair(last), 3, 4_095);
@@ -172,10 +188,13 @@ fn alone() {
         assert_eq!(judge_event(bytes), Err(refusal));
         assert_eq!((refusal.number(), refusal.place()), (number, 0));
     };
-    for length in (0..40).filter(|length| *length != 14) {
+    for length in (0..40).filter(|length| *length != Event::BYTES) {
         refused(&vec![1; length], Refusal::Lengths, 1);
     }
     refused(&[0; 70_000], Refusal::Lengths, 1);
+    for event in SHEET {
+        refused(&event[..OLD_BYTES], Refusal::Lengths, 1);
+    }
     let first = EventNumber(0);
     for (byte, highest) in HIGHEST.iter().enumerate().skip(1) {
         let mut event = SHEET[0];

@@ -3,21 +3,24 @@
 // Each test uses a part of it.
 #![allow(dead_code)]
 
-use korehyumo::{judge_trace, Answer, Forward, FwdState, Refusal, Resp};
+use korehyumo::{judge_trace, Answer, Event, Forward, FwdState, Refusal, Resp, RespErr};
+
+/// The bytes of an event.
+pub type Bytes = [u8; Event::BYTES];
 
 /// The four events of the definition's example sheet.
-pub const SHEET: [[u8; 14]; 4] = [
-    [1, 0, 0, 0, 0, 1, 1, 5, 0, 0, 0, 0, 0, 7],
-    [1, 1, 0, 0, 0, 1, 1, 1, 0, 0, 0, 0, 0, 7],
-    [2, 0, 0, 0, 0, 1, 1, 3, 0, 0, 0, 0, 0, 7],
-    [2, 0, 0, 0, 0, 0, 1, 0, 0, 0, 0, 0, 0, 0],
+pub const SHEET: [Bytes; 4] = [
+    [1, 0, 0, 0, 0, 1, 1, 5, 0, 0, 0, 0, 0, 7, 0],
+    [1, 1, 0, 0, 0, 1, 1, 1, 0, 0, 0, 0, 0, 7, 0],
+    [2, 0, 0, 0, 0, 1, 1, 3, 0, 0, 0, 0, 0, 7, 0],
+    [2, 0, 0, 0, 0, 0, 1, 0, 0, 0, 0, 0, 0, 0, 0],
 ];
 
 /// SnpShared answered by SnpResp_I with NDERR, entry m of the notebook.
-pub const IN_ERROR: [u8; 14] = [1, 0, 0, 0, 0, 0, 1, 0, 0, 0, 3, 0, 0, 7];
+pub const IN_ERROR: Bytes = [1, 0, 0, 0, 0, 0, 1, 0, 0, 0, 3, 0, 0, 7, 0];
 
 /// The highest value of each byte of an event. Of the request only the ten codes are judged.
-pub const HIGHEST: [u8; 14] = [255, 1, 1, 1, 3, 1, 31, 7, 7, 3, 3, 1, 7, 7];
+pub const HIGHEST: Bytes = [255, 1, 1, 1, 3, 1, 31, 7, 7, 3, 3, 1, 7, 7, 3];
 
 /// The codes of the ten requests.
 pub const REQUESTS: [u8; 10] = [1, 2, 4, 7, 9, 10, 18, 20, 21, 22];
@@ -56,8 +59,8 @@ pub const FORWARDS: [(&str, u8); 4] = [
     ("CompData_SD_PD", 7),
 ];
 
-/// The six bytes of a response and of the forwarded data that its row has.
-pub fn wire(codes: [u8; 4]) -> [u8; 6] {
+/// The seven bytes of a response and of the forwarded data that its row has, without an error on that.
+pub fn wire(codes: [u8; 4]) -> [u8; 7] {
     let [channel, opcode, resp, fwd_state] = codes;
     [
         channel,
@@ -66,13 +69,24 @@ pub fn wire(codes: [u8; 4]) -> [u8; 6] {
         fwd_state,
         u8::from(fwd_state != 0),
         fwd_state,
+        0,
     ]
+}
+
+/// Puts a response into an event, with the forwarded data that its row has and without an error on that.
+pub fn put_response(event: &mut Bytes, codes: [u8; 4]) {
+    let wire = wire(codes);
+    event[5..9].copy_from_slice(&wire[..4]);
+    event[11..13].copy_from_slice(&wire[4..6]);
+    event[14] = wire[6];
 }
 
 /// Every value of `Answer`.
 pub fn all_answers() -> Vec<Answer> {
     let mut forwards = vec![Forward::NoForward];
-    forwards.extend(FwdState::ALL.map(Forward::CompData));
+    for state in FwdState::ALL {
+        forwards.extend(RespErr::ALL.map(|fwd_err| Forward::CompData(state, fwd_err)));
+    }
     let mut answers: Vec<Answer> = Resp::ALL.map(Answer::SnpRespDataPtl).to_vec();
     for resp in Resp::ALL {
         answers.extend(
@@ -102,7 +116,7 @@ pub struct Lent {
 
 impl Lent {
     /// A trace and a table. The answers are filled with bytes that no answer has.
-    pub fn new(events: &[[u8; 14]], pairs: &[u16], table: &[u8]) -> Lent {
+    pub fn new(events: &[Bytes], pairs: &[u16], table: &[u8]) -> Lent {
         let n = events.len();
         Lent {
             events: events.concat(),
