@@ -2,16 +2,26 @@
  *
  *   capture [FILE]
  *
- * A capture has a record of 16 bytes for each event: the pair number in two bytes, low byte first, then the 14 bytes of the
- * event. Without FILE it is read from standard input. There are 4,096 pairs, and each starts with all seven states possible.
+ * A capture starts with a mark of four bytes: 'C', 'H', 'I' and the length of an event, 15. Then comes a record of 17 bytes for
+ * each event: the pair number in two bytes, low byte first, and the 15 bytes of the event. Without FILE it is read from standard
+ * input. There are 4,096 pairs, and each starts with all seven states possible.
  *
  * The capture may have any length. It is judged 4,096 events at a time, and the table of sets goes from each part to the
- * next. */
+ * next.
+ *
+ * Records grew by one byte. An old capture has records of 16 bytes and no mark. Put the mark in front and a byte 0 behind each
+ * record, and it is a new one. An input that does not start with the whole mark is refused with 1 at event 0 before anything is
+ * judged: 17 records of the old format have the length of 16 new ones, so the length alone would not tell. An old program judges
+ * nothing of a new capture. It refuses the mark, which reads as a pair above 4,095, with 3 at event 0, or says that the capture
+ * ends within an event. */
 
 #include <errno.h>
 #include <stdio.h>
 #include <string.h>
 #include "korehyumo.h"
+
+/* How a capture starts: three letters and the length of an event. */
+static const uint8_t mark[4] = {'C', 'H', 'I', KOREHYUMO_EVENT_BYTES};
 
 /* How many bytes a record has. */
 #define RECORD_BYTES (2 + KOREHYUMO_EVENT_BYTES)
@@ -38,15 +48,36 @@ static unsigned long long events_known(const struct known *known)
     return known->verdicts[KOREHYUMO_EXPLAINED] + known->verdicts[KOREHYUMO_UNEXPLAINED] + known->verdicts[KOREHYUMO_NOT_JUDGED];
 }
 
+/* Reads up to so many bytes of a capture, fewer only at its end. Returns 0, with a message on standard error, if it can't. */
+static int read_bytes(FILE *capture, uint8_t *bytes, size_t most, size_t *came)
+{
+    *came = fread(bytes, 1, most, capture);
+    if (!ferror(capture))
+        return 1;
+    fprintf(stderr, "capture: it can't be read: %s\n", strerror(errno));
+    return 0;
+}
+
+/* Reads the mark of a capture. Returns 0, with a message on standard error, if it can't or if there is none. */
+static int read_mark(FILE *capture)
+{
+    uint8_t start[sizeof mark];
+    size_t bytes;
+    if (!read_bytes(capture, start, sizeof start, &bytes))
+        return 0;
+    if (bytes == sizeof mark && memcmp(start, mark, sizeof mark) == 0)
+        return 1;
+    fprintf(stderr, "capture: refused with %d at event 0\n", KOREHYUMO_LENGTHS);
+    return 0;
+}
+
 /* Reads the next part of a capture. Returns 0, with a message on standard error, if it can't. */
 static int read_part(FILE *capture, const struct known *known, struct part *part)
 {
     static uint8_t records[KOREHYUMO_MOST_EVENTS * RECORD_BYTES];
-    size_t bytes = fread(records, 1, sizeof records, capture);
-    if (ferror(capture)) {
-        fprintf(stderr, "capture: it can't be read: %s\n", strerror(errno));
+    size_t bytes;
+    if (!read_bytes(capture, records, sizeof records, &bytes))
         return 0;
-    }
     part->count = bytes / RECORD_BYTES;
     if (bytes % RECORD_BYTES != 0) {
         fprintf(stderr, "capture: it ends within event %llu\n", events_known(known) + part->count);
@@ -75,7 +106,8 @@ static int judge_part(struct known *known, struct part *part)
 /* Prints the findings of a judged part, and counts its verdicts. */
 static void tell_part(struct known *known, const struct part *part)
 {
-    static const char *const duties[] = {0, "Home holds the duty", "the Requester holds the duty", "the duty is lost", "the line is discarded"};
+    static const char *const duties[] = {0, "Home holds the duty", "the Requester holds the duty", "the duty is lost",
+                                         "the line is discarded"};
     unsigned long long first = events_known(known);
     for (size_t k = 0; k < part->count; k++) {
         const char *told = part->verdicts[k] == KOREHYUMO_UNEXPLAINED ? "unexplained" : duties[part->duties[k]];
@@ -90,6 +122,8 @@ static int judge_capture(FILE *capture)
 {
     static struct known known;
     static struct part part;
+    if (!read_mark(capture))
+        return 1;
     memset(known.table, KOREHYUMO_ALL_STATES, sizeof known.table);
     do {
         if (!read_part(capture, &known, &part) || !judge_part(&known, &part))

@@ -2,10 +2,17 @@
 //!
 //!     capture [FILE]
 //!
-//! A capture has a record of 16 bytes for each event: the pair number in two bytes, low byte first, then the 14 bytes of the
-//! event. Without FILE it is read from standard input. There are 4,096 pairs, and each starts with all seven states possible.
+//! A capture starts with a mark of four bytes: 'C', 'H', 'I' and the length of an event, 15. Then comes a record of 17 bytes for
+//! each event: the pair number in two bytes, low byte first, and the 15 bytes of the event. Without FILE it is read from standard
+//! input. There are 4,096 pairs, and each starts with all seven states possible.
 //!
 //! The capture may have any length. It is judged 4,096 events at a time, and the judge keeps the sets from each part to the next.
+//!
+//! Records grew by one byte. An old capture has records of 16 bytes and no mark. Put the mark in front and a byte 0 behind each
+//! record, and it is a new one. An input that does not start with the whole mark is refused with 1 at event 0 before anything is
+//! judged: 17 records of the old format have the length of 16 new ones, so the length alone would not tell. An old program judges
+//! nothing of a new capture. It refuses the mark, which reads as a pair above 4,095, with 3 at event 0, or says that the capture
+//! ends within an event.
 
 use korehyumo::{
     Duty, Event, EventNumber, Finding, Judge, PairNumber, Refusal, Verdict, MOST_EVENTS, MOST_PAIRS,
@@ -16,6 +23,8 @@ use std::fs::File;
 use std::io::{self, BufWriter, Read, Write};
 use std::process::ExitCode;
 
+/// How a capture starts: three letters and the length of an event.
+const MARK: [u8; 4] = [b'C', b'H', b'I', Event::BYTES as u8];
 /// How many bytes a record has.
 const RECORD: usize = 2 + Event::BYTES;
 /// How many bytes of a capture are judged at a time.
@@ -37,7 +46,7 @@ enum Stop {
     NotWritten(io::Error),
     /// The input ends within a record.
     EndsWithin(EventNumber),
-    /// The judge refuses an event with this number.
+    /// The judge refuses an event with this number; a capture without the mark is refused like wrong lengths.
     Refused(u8, EventNumber),
 }
 
@@ -126,19 +135,27 @@ fn input() -> Result<Box<dyn Read>, Stop> {
 
 /// Judges a capture part by part, and prints what it finds.
 fn judge_capture(mut input: impl Read, out: &mut impl Write) -> Result<(), Stop> {
-    let mut judge =
-        Judge::new(MOST_PAIRS).map_err(|refusal| refused(refusal, &Counts::default()))?;
     let mut counts = Counts::default();
     let mut part = Vec::with_capacity(PART);
+    read_bytes(&mut input, MARK.len(), &mut part)?;
+    if part != MARK {
+        return Err(refused(Refusal::Lengths, &counts));
+    }
+    let mut judge = Judge::new(MOST_PAIRS).map_err(|refusal| refused(refusal, &counts))?;
     loop {
-        part.clear();
-        let read = input.by_ref().take(PART as u64).read_to_end(&mut part);
-        read.map_err(Stop::NotRead)?;
+        read_bytes(&mut input, PART, &mut part)?;
         judge_part(&mut judge, &part, &mut counts, out)?;
         if part.len() < PART {
             return writeln!(out, "{counts}").map_err(Stop::NotWritten);
         }
     }
+}
+
+/// Reads so many bytes of a capture in place of those before, fewer only at its end.
+fn read_bytes(input: &mut impl Read, most: usize, bytes: &mut Vec<u8>) -> Result<(), Stop> {
+    bytes.clear();
+    let read = input.take(most as u64).read_to_end(bytes);
+    read.map(|_| ()).map_err(Stop::NotRead)
 }
 
 /// Judges one part of a capture, and prints what it finds.
@@ -207,29 +224,47 @@ fn tell(
 mod tests {
     use super::*;
 
+    /// The bytes of an event.
+    type Bytes = [u8; Event::BYTES];
+
     /// SnpShared answered by SnpRespData_SC_PD.
-    const GAVE_UP: [u8; 14] = [1, 0, 0, 0, 0, 1, 1, 5, 0, 0, 0, 0, 0, 7];
+    const GAVE_UP: Bytes = [1, 0, 0, 0, 0, 1, 1, 5, 0, 0, 0, 0, 0, 7, 0];
     /// SnpClean answered by SnpRespData_SD.
-    const KEPT: [u8; 14] = [2, 0, 0, 0, 0, 1, 1, 3, 0, 0, 0, 0, 0, 7];
+    const KEPT: Bytes = [2, 0, 0, 0, 0, 1, 1, 3, 0, 0, 0, 0, 0, 7, 0];
     /// SnpCleanFwd answered by SnpResp_SC_Fwded_SD_PD, entry e of the notebook.
-    const PASSED_ON: [u8; 14] = [18, 0, 0, 0, 0, 0, 9, 1, 7, 0, 0, 1, 7, 7];
+    const PASSED_ON: Bytes = [18, 0, 0, 0, 0, 0, 9, 1, 7, 0, 0, 1, 7, 7, 0];
+    /// The same with DERR on the forwarded data.
+    const PASSED_ON_DERR: Bytes = [18, 0, 0, 0, 0, 0, 9, 1, 7, 0, 0, 1, 7, 7, 2];
+    /// The same with NDERR on the forwarded data, which no row has.
+    const PASSED_ON_NDERR: Bytes = [18, 0, 0, 0, 0, 0, 9, 1, 7, 0, 0, 1, 7, 7, 3];
     /// SnpShared answered by SnpResp_I with NDERR, entry m of the notebook.
-    const IN_ERROR: [u8; 14] = [1, 0, 0, 0, 0, 0, 1, 0, 0, 0, 3, 0, 0, 7];
+    const IN_ERROR: Bytes = [1, 0, 0, 0, 0, 0, 1, 0, 0, 0, 3, 0, 0, 7, 0];
 
     /// The records of some events, each with its pair.
-    fn records(events: &[(u16, [u8; 14])]) -> Vec<u8> {
-        let record = |(pair, event): &(u16, [u8; 14])| [&pair.to_le_bytes()[..], event].concat();
+    fn records(events: &[(u16, Bytes)]) -> Vec<u8> {
+        let record = |(pair, event): &(u16, Bytes)| [&pair.to_le_bytes()[..], event].concat();
         events.iter().flat_map(record).collect()
     }
 
-    /// What is printed for a capture, and why the program stops early if it does.
-    fn told(capture: &[u8]) -> (String, Option<String>) {
+    /// What is printed for an input, and why the program stops early if it does.
+    fn told_of(input: &[u8]) -> (String, Option<String>) {
         let mut out = Vec::new();
-        let judged = judge_capture(capture, &mut out);
+        let judged = judge_capture(input, &mut out);
         (
             String::from_utf8(out).unwrap(),
             judged.err().map(|stop| stop.to_string()),
         )
+    }
+
+    /// The same for the mark and these records.
+    fn told(records: &[u8]) -> (String, Option<String>) {
+        told_of(&[&MARK[..], records].concat())
+    }
+
+    /// Asserts that an input is refused for its start, and nothing is printed.
+    fn refused_at_once(input: &[u8]) {
+        let stop = "refused with 1 at event 0".to_string();
+        assert_eq!(told_of(input), (String::new(), Some(stop)));
     }
 
     /// Each line that can be printed, and the counts.
@@ -251,11 +286,63 @@ mod tests {
         assert_eq!(told(&capture), (lines.to_string(), None));
     }
 
-    /// A capture without events.
+    /// An error on the forwarded data: DERR changes nothing, and NDERR is unexplained.
+    #[test]
+    fn errors_on_forwarded_data() {
+        let capture = records(&[(5, PASSED_ON_DERR), (6, PASSED_ON_NDERR)]);
+        let lines = "event 0, pair 5: the Requester holds the duty\n\
+                     event 1, pair 6: unexplained\n\
+                     2 events: 1 explained, 1 unexplained, 0 not judged\n";
+        assert_eq!(told(&capture), (lines.to_string(), None));
+    }
+
+    /// A capture without events is the mark alone.
     #[test]
     fn empty() {
         let line = "0 events: 0 explained, 0 unexplained, 0 not judged\n";
-        assert_eq!(told(&[]), (line.to_string(), None));
+        assert_eq!(told_of(b"CHI\x0f"), (line.to_string(), None));
+    }
+
+    /// Records without a mark, with a cut one, and with another one: refused before anything is judged.
+    #[test]
+    fn other_starts() {
+        let records = records(&[(7, GAVE_UP), (7, KEPT)]);
+        refused_at_once(&[]);
+        refused_at_once(&records);
+        for cut in 0..MARK.len() {
+            refused_at_once(&MARK[..cut]);
+            refused_at_once(&[&MARK[..cut], &records].concat());
+        }
+        for at in 0..MARK.len() {
+            for other in (0..=255).filter(|byte| *byte != MARK[at]) {
+                let mut start = MARK;
+                start[at] = other;
+                refused_at_once(&[&start[..], &records].concat());
+            }
+        }
+    }
+
+    /// Old captures of up to 40 records of 16 bytes: refused, even where they have the length of new records.
+    #[test]
+    fn old_captures() {
+        let mut record = records(&[(7, GAVE_UP)]);
+        record.pop();
+        for count in 1..=40 {
+            refused_at_once(&record.repeat(count));
+        }
+        assert_eq!(record.repeat(17).len(), 16 * RECORD);
+    }
+
+    /// An old capture becomes a new one with the mark in front and a byte 0 behind each record.
+    #[test]
+    fn old_captures_made_new() {
+        let capture = records(&[(7, GAVE_UP), (9, PASSED_ON), (7, KEPT)]);
+        let old: Vec<&[u8]> = capture
+            .chunks_exact(RECORD)
+            .map(|record| &record[..RECORD - 1])
+            .collect();
+        let made_new = [&b"CHI\x0f"[..], &old.join(&0), &[0]].concat();
+        assert_eq!(told_of(&made_new), told(&capture));
     }
 
     /// Sets are kept from part to part, and events are numbered over the whole capture.
@@ -284,7 +371,7 @@ mod tests {
         let event = MOST_EVENTS * RECORD + 2;
         capture[event] = 3;
         refused(&capture, "refused with 5 at event 4096");
-        capture[event + 13] = 8;
+        capture[event + Event::BYTES - 1] = 4;
         refused(&capture, "refused with 4 at event 4096");
     }
 
@@ -332,12 +419,14 @@ mod tests {
     /// A failed read and a failed write are told apart, and no counts are printed.
     #[test]
     fn broken_files() {
-        let mut out = Vec::new();
-        let unread = records(&[(7, GAVE_UP)]);
-        let stop = judge_capture(unread.chain(Broken), &mut out).unwrap_err();
-        assert!(matches!(stop, Stop::NotRead(_)));
-        assert_eq!(out, b"");
-        let stop = judge_capture(&unread[..], &mut Broken).unwrap_err();
+        let capture = [&MARK[..], &records(&[(7, GAVE_UP)])].concat();
+        for bytes in 0..=capture.len() {
+            let mut out = Vec::new();
+            let stop = judge_capture(capture[..bytes].chain(Broken), &mut out).unwrap_err();
+            assert!(matches!(stop, Stop::NotRead(_)));
+            assert_eq!(out, b"");
+        }
+        let stop = judge_capture(&capture[..], &mut Broken).unwrap_err();
         assert!(matches!(stop, Stop::NotWritten(_)));
     }
 }
