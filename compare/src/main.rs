@@ -269,19 +269,22 @@ mod tests {
             let well = answer(call(name).unwrap(), &definition, &mut &input[..], &mut output);
             well.map(|well| (output, well))
         };
-        let record = [&[14, 2, 0, 0, 0, 0, 0, 1, 1, 0, 0, 0, 0, 0, 7][..], &[9; 26]].concat();
+        let record = [&[15, 2, 0, 0, 0, 0, 0, 1, 1, 0, 0, 0, 0, 0, 7, 0][..], &[9; 25]].concat();
         let told = vec![0, 1, 0, 33, 0, 0, 0, 33, 0, 0, 0, 0, 0, 0, 0, 0];
         assert_eq!(answered("event", &[&record[..], &record].concat()).unwrap(), (told.repeat(2), true));
         assert!(answered("event", &record[..40]).is_err());
-        let lengths: Vec<u8> = [14, 1, 2, 1, 1, 1].iter().flat_map(|length| [*length, 0, 0, 0]).collect();
-        let case = [&lengths[..], &record[1..15], &[1, 0, 5, 127, 91, 92, 93]].concat();
+        let lengths: Vec<u8> = [15, 1, 2, 1, 1, 1].iter().flat_map(|length| [*length, 0, 0, 0]).collect();
+        let case = [&lengths[..], &record[1..16], &[1, 0, 5, 127, 91, 92, 93]].concat();
         assert_eq!(answered("trace", &case).unwrap(), (vec![0, 1, 0, 0, 0, 5, 33, 0, 0, 33], true));
         let told = b"event,verdict,duty,states\r\nrefused,6,1\r\n".to_vec();
         assert_eq!(answered("sheet", b"").unwrap(), (told, true));
         assert_eq!(answered("capture", &[0; 17]).unwrap(), (vec![], false));
-        let record = [&[1, 0, 0, 0, 0, 0, 19, 0][..], &[9; 640]].concat();
-        let list = [0, 1, 0, 0, 0, 0, 0, 0, 0, 0, 1, 0, 0, 0, 3, 0, 0, 0];
-        let told = [&[0, 0, 0, 0, 2, 0, 0, 0][..], &list, &[9; 622]].concat();
+        let told = b"0 events: 0 explained, 0 unexplained, 0 not judged\n".to_vec();
+        assert_eq!(answered("capture", b"CHI\x0f").unwrap(), (told, true));
+        assert_eq!(answered("capture", b"CHI\x0f\x00").unwrap(), (vec![], false));
+        let record = [&[1, 0, 0, 0, 0, 0, 21, 0][..], &[9; 640]].concat();
+        let list = [0, 1, 0, 0, 0, 0, 0, 0, 0, 0, 0, 1, 0, 0, 0, 3, 0, 0, 0, 0];
+        let told = [&[0, 0, 0, 0, 2, 0, 0, 0][..], &list, &[9; 620]].concat();
         assert_eq!(answered("answers", &[&record[..], &record].concat()).unwrap(), (told.repeat(2), true));
         assert!(answered("answers", &record[..647]).is_err());
     }

@@ -34,7 +34,7 @@ fn right(definition: &Definition, record: &[u8]) -> Right {
 /// The bytes handed over, each with its name, and what they say where they are an event.
 fn given(definition: &Definition, record: &[u8]) -> Vec<String> {
     let bytes = handed_over(record);
-    let name = |n: usize| byte::NAMES.get(n).copied().unwrap_or("past an event");
+    let name = |n: usize| byte::NAMES[..definition.event_bytes()].get(n).copied().unwrap_or("past an event");
     let mut lines: Vec<String> = bytes.iter().enumerate().map(|(n, byte)| format!("byte {n} {}: {byte}", name(n))).collect();
     if bytes.len() == definition.event_bytes() {
         lines.push(names_of(definition, bytes));

@@ -5,8 +5,8 @@ use crate::calls::{answers, capture, event, sheet, trace};
 use crate::cases::kinds::{Case, Cases};
 use crate::cases::wire::{event_record, handed_over, lent_in, question_in, question_record, trace_case, trace_rooms};
 use crate::definition;
-use crate::definition::answers::list;
-use crate::definition::codes::{byte, EXPLAINED};
+use crate::definition::answers::{list, list_in_words, question_in_words};
+use crate::definition::codes::{byte, DERR, EXPLAINED};
 use crate::definition::event::{alone, has_a_step};
 use crate::definition::sheet::{each_event, lines};
 use crate::definition::trace::{event_of, judge, Lent};
@@ -15,12 +15,17 @@ use crate::running::arrival::Arrival;
 use crate::running::call::{Answer, Call, Feeding};
 use crate::running::report::{difference, Outcome};
 use std::collections::BTreeSet;
+use std::fs;
+use std::path::{Path, PathBuf};
 
 /// What the cases of a kind come to: columns, each with how many cases have it at least, in so many of a hundred.
 #[rustfmt::skip]
 const MIX: &[(&str, &str, &[(&str, u64)])] = &[
     ("event", "combinations", &[("accepted", 100)]),
     ("event", "tags and TagOps", &[("accepted", 100), ("with a step", 5)]),
+    ("event", "DERR on its forward", &[("accepted", 100), ("with a step", 0)]),
+    ("event", "DERR on any forward", &[("accepted", 100)]),
+    ("event", "both error fields", &[("accepted", 100)]),
     ("event", "single-byte sweeps", &[("with a step", 0), ("refused 4", 80), ("refused 5", 6)]),
     ("event", "both forward codes", &[("accepted", 100), ("with a step", 1)]),
     ("event", "mutated", &[("accepted", 100), ("with a step", 30)]),
@@ -30,7 +35,9 @@ const MIX: &[(&str, &str, &[(&str, u64)])] = &[
     ("event", "lengths 0 to 40", &[("refused 1", 95), ("with a step", 1)]),
     ("event", "near a row", &[("accepted", 100), ("with a step", 0)]),
     ("trace", "every set", &[("accepted", 100), ("by histories", 100), ("lost", 15), ("discarded", 3)]),
+    ("trace", "every forward error", &[("accepted", 100), ("by histories", 100), ("explained", 20), ("Requester", 3), ("Home", 2)]),
     ("trace", "many lengths", &[("refused 1", 100)]),
+    ("trace", "other event lengths", &[("refused 1", 100)]),
     ("trace", "at the limits", &[("accepted", 20), ("refused 1", 45), ("refused 2", 6), ("refused 3", 10), ("refused 4", 2)]),
     ("trace", "up to 64 events", &[("accepted", 100), ("explained", 1_900), ("unexplained", 60), ("lost", 20), ("discarded", 10)]),
     ("trace", "up to 4 events", &[("accepted", 100), ("by histories", 100), ("unexplained", 15), ("Requester", 5), ("discarded", 4)]),
@@ -41,10 +48,13 @@ const MIX: &[(&str, &str, &[(&str, u64)])] = &[
     ("trace", "several damages", &[("refused 1", 15), ("refused 2", 7), ("refused 3", 30), ("refused 4", 12), ("refused 5", 5)]),
     ("trace", "bad lengths", &[("refused 1", 100)]),
     ("trace", "anything", &[("accepted", 15), ("refused 1", 5), ("refused 2", 5), ("refused 3", 30), ("refused 4", 8)]),
-    ("sheet", "known names", &[("accepted", 100), ("explained", 1_000), ("unexplained", 10_000), ("discarded", 10)]),
+    ("sheet", "known names", &[("accepted", 100), ("explained", 900), ("unexplained", 10_000), ("discarded", 7)]),
+    ("sheet", "from one state", &[("accepted", 100), ("explained", 30_000), ("unexplained", 30_000), ("Home", 100), ("Requester", 100)]),
     ("sheet", "names not known", &[("accepted", 1), ("refused 8", 95)]),
     ("sheet", "each byte value", &[("accepted", 0), ("refused 8", 98)]),
     ("sheet", "pair fields", &[("accepted", 10), ("refused 3", 7), ("refused 7", 9), ("refused 8", 65)]),
+    ("sheet", "forward and fwdErr", &[("accepted", 5), ("refused 3", 3), ("refused 7", 5), ("refused 8", 70), ("unexplained", 5)]),
+    ("sheet", "other columns", &[("refused 6", 45), ("refused 8", 45)]),
     ("sheet", "ends of lines", &[("accepted", 0), ("refused 6", 6), ("refused 8", 90)]),
     ("sheet", "first and last", &[("accepted", 1), ("refused 6", 35), ("refused 8", 55)]),
     ("sheet", "headers", &[("refused 6", 98), ("refused 8", 0)]),
@@ -57,12 +67,14 @@ const MIX: &[(&str, &str, &[(&str, u64)])] = &[
         ("discarded", 50)]),
     ("sheet", "drawn, damaged", &[("accepted", 2), ("refused 3", 1), ("refused 6", 8), ("refused 7", 4), ("refused 8", 60)]),
     ("sheet", "anything", &[("accepted", 5), ("refused 6", 20), ("refused 8", 20)]),
+    ("capture", "marks", &[("refused 1", 80), ("refused 4", 1), ("cut", 5), ("accepted", 0)]),
+    ("capture", "both error fields", &[("accepted", 100), ("explained", 5_000), ("unexplained", 50_000), ("Requester", 500)]),
     ("capture", "refusals", &[("refused 3", 20), ("refused 4", 35), ("refused 5", 40), ("explained", 1_000)]),
     ("capture", "cut records", &[("cut", 90), ("explained", 1_000)]),
     ("capture", "drawn", &[("accepted", 100), ("explained", 1_000), ("discarded", 10)]),
     ("capture", "drawn, damaged", &[("refused 3", 10), ("refused 4", 10), ("refused 5", 5), ("explained", 1_000)]),
     ("capture", "drawn, cut", &[("cut", 70), ("explained", 1_000)]),
-    ("answers", "every question", &[("accepted", 75), ("refused 9", 15), ("answers", 490), ("empty", 20)]),
+    ("answers", "every question", &[("accepted", 60), ("refused 9", 35), ("answers", 300), ("empty", 20)]),
     ("answers", "each byte value", &[("refused 4", 80), ("refused 5", 15), ("accepted", 0), ("refused 9", 0)]),
     ("answers", "several outside", &[("refused 4", 95), ("refused 5", 1), ("accepted", 0), ("refused 9", 0)]),
     ("answers", "each length of room", &[("accepted", 60), ("refused 9", 29), ("empty", 25)]),
@@ -73,7 +85,7 @@ const MIX: &[(&str, &str, &[(&str, u64)])] = &[
 
 /// The cases of a call with fewer random ones than are usual, where these are many.
 fn few(call: &Call, seed: u64) -> Cases {
-    (call.cases)(&Definition::now(), seed, call.random.min(60_000))
+    (call.cases)(&Definition::now(), seed, call.random.min(160_000))
 }
 
 /// The cases of a kind come to what they are made for, and what is counted has a column.
@@ -118,7 +130,8 @@ fn requests_and_duties(definition: &Definition, call: &str, input: &[u8]) -> Vec
         }
         _ => {
             let record = definition::capture::record_bytes(definition);
-            requests.extend(input.chunks_exact(record).map(|record| record[2 + byte::REQUEST]));
+            let records = definition::capture::records_in(definition, input).unwrap();
+            requests.extend(records.chunks_exact(record).map(|record| record[2 + byte::REQUEST]));
             definition::capture::answer(definition, input).told
         }
     };
@@ -178,7 +191,10 @@ fn requests_outside_come_up() {
                 (refusal == 5).then(|| event_of(definition, &lent, place)[byte::REQUEST])
             }
             _ => match definition::capture::answer(definition, &case.input).stop {
-                Some((5, event)) => Some(case.input[event * definition::capture::record_bytes(definition) + 2]),
+                Some((5, event)) => {
+                    let record = definition.capture_mark.len() + event * definition::capture::record_bytes(definition);
+                    Some(case.input[record + 2])
+                }
                 _ => None,
             },
         };
@@ -211,25 +227,149 @@ fn sweeps_are_whole() {
     let combinations: BTreeSet<Vec<u8>> = events.of_kind("combinations").step_by(10).map(|case| case.input).collect();
     assert_eq!((events.kinds[0].count, combinations.len()), (4_505_600, 450_560));
     let values: BTreeSet<(usize, u8)> =
-        events.of_kind("single-byte sweeps").take(3_584).enumerate().map(|(n, case)| (n / 256, case.input[1 + n / 256])).collect();
-    assert_eq!(values.len(), 14 * 256);
+        events.of_kind("single-byte sweeps").take(3_840).enumerate().map(|(n, case)| (n / 256, case.input[1 + n / 256])).collect();
+    assert_eq!(values.len(), 15 * 256);
     let lengths: BTreeSet<u8> = events.of_kind("lengths 0 to 40").take(41).map(|case| case.input[0]).collect();
     assert_eq!(lengths, (0..=40).collect());
     let rooms = trace_rooms(&traces.definition);
-    for case in (0..traces.first(6)).map(|number| traces.case(number)) {
+    for case in (0..traces.first(8)).map(|number| traces.case(number)) {
         let lent = lent_in(&case.input);
         let fits = |(n, part): (usize, &Vec<u8>)| part.len() <= rooms[n] * Lent::PARTS[n].1;
         assert!(lent.parts().into_iter().enumerate().all(fits));
     }
     let questions = few(&answers::CALL, 1);
     let asked: BTreeSet<Vec<u8>> = questions.of_kind("every question").map(|case| case.input[..6].to_vec()).collect();
-    assert_eq!((questions.kinds[0].count, asked.len()), (8 * 1_680, 1_680));
+    assert_eq!((questions.kinds[0].count, asked.len()), (12 * 1_680, 1_680));
     let values: BTreeSet<(usize, u8)> =
         questions.of_kind("each byte value").enumerate().map(|(n, case)| (n / 256 % 6, case.input[n / 256 % 6])).collect();
     assert_eq!(values.len(), 6 * 256);
     let lengths = questions.of_kind("each length of room").map(|case| question_in(&case.input).1.len());
-    assert_eq!(lengths.collect::<BTreeSet<usize>>(), (0..=300).collect());
+    assert_eq!(lengths.collect::<BTreeSet<usize>>(), (0..=609).collect());
     assert!((0..questions.total()).step_by(7).all(|number| questions.case(number).input.len() == 648));
+}
+
+/// Single events go through both error fields together, with each request, response, TagOp and forward, and DERR on a response's own
+/// forward through all that the columns name.
+#[test]
+fn error_fields_are_swept() {
+    let events = few(&event::CALL, 1);
+    let places = |event: &[u8], places: &[usize]| places.iter().map(|place| event[1 + place]).collect::<Vec<u8>>();
+    let named = [0, 5, 6, 7, 8, 9, 10, 11, 12, 14];
+    let came: BTreeSet<Vec<u8>> = events.of_kind("both error fields").map(|case| places(&case.input, &named)).collect();
+    // Requests, responses, TagOps, RespErrs, forwards and errors of the forward.
+    assert_eq!(came.len(), 10 * 22 * 4 * 4 * 5 * 4);
+    for (kind, count) in [("DERR on its forward", 10 * 8 * 4 * 14 * 4 * 4 * 8), ("DERR on any forward", 10 * 8 * 4 * 22 * 4 * 4 * 4)] {
+        let came: BTreeSet<Vec<u8>> = events.of_kind(kind).map(|case| handed_over(&case.input).to_vec()).collect();
+        assert_eq!(came.len(), count, "{kind}");
+        assert!(came.iter().all(|event| event[byte::FORWARDED] == 1 && event[byte::FWD_ERR] == DERR), "{kind}");
+    }
+    let near: BTreeSet<Vec<u8>> = events.of_kind("near a row").map(|case| places(&case.input, &[0, 1, 2, 3, 4, 11, 14])).collect();
+    // For each request, flags and tags that are seen: each error with a forward and without.
+    assert_eq!(near.len(), 10 * 8 * 3 * 2 * 4);
+}
+
+/// Each call has cases with DERR on forwarded data that is explained, and with other errors that are not.
+#[test]
+fn errors_come_up() {
+    let mut expected: BTreeSet<(u8, u8, bool)> = (0..4).map(|error| (1, error, false)).collect();
+    expected.extend([(0, 0, true), (0, 0, false), (0, 1, false), (0, 2, false), (0, 3, false), (1, 0, true), (1, 2, true)]);
+    let definition = Definition::now();
+    for (name, kinds) in [("trace", &["up to 64 events", "up to 4 events"][..]), ("capture", &["whole parts"]), ("sheet", &["known names"])]
+    {
+        for kind in kinds {
+            let mut came = BTreeSet::new();
+            for case in few(call(name).unwrap(), 1).of_kind(kind).take(3_000) {
+                came.extend(forwards_and_errors(&definition, name, &case.input));
+            }
+            // On a sheet there is no error without a forward.
+            let expected = expected.iter().filter(|(forward, error, _)| name != "sheet" || *forward == 1 || *error == 0).copied();
+            assert_eq!(came, expected.collect(), "{name}, {kind}");
+        }
+    }
+}
+
+/// Whether each event of an accepted trace, sheet or capture forwards, the error byte that it has, and whether it is explained.
+fn forwards_and_errors(definition: &Definition, call: &str, input: &[u8]) -> Vec<(u8, u8, bool)> {
+    let mut events: Vec<Vec<u8>> = Vec::new();
+    let told: Vec<(u8, u8)> = match call {
+        "trace" => {
+            let judged = judge(definition, &lent_in(input));
+            events.extend((0..judged.place).map(|n| event_of(definition, &judged.lent, n).to_vec()));
+            judged.lent.verdicts.into_iter().zip(judged.lent.duties).collect()
+        }
+        "sheet" => {
+            each_event(definition, &lines(input), |_, event| events.push(event.to_vec()));
+            definition::sheet::answer(definition, input).told
+        }
+        _ => {
+            let records = definition::capture::records_in(definition, input).unwrap();
+            events.extend(records.chunks_exact(definition::capture::record_bytes(definition)).map(|record| record[2..].to_vec()));
+            definition::capture::answer(definition, input).told
+        }
+    };
+    let judged = events.iter().zip(told).filter(|(_, (verdict, _))| *verdict <= 1);
+    judged.map(|(event, (verdict, _))| (event[byte::FORWARDED], event[byte::FWD_ERR], verdict == EXPLAINED)).collect()
+}
+
+/// The path of a sample.
+fn sample(name: &str) -> PathBuf {
+    Path::new(env!("CARGO_MANIFEST_DIR")).join("../samples").join(name)
+}
+
+/// Every sample has the answer that stands beside it, and every capture is that of the sheet of its name.
+#[test]
+fn samples_have_their_answers() {
+    let definition = Definition::now();
+    let read = |name: &str| fs::read(sample(name)).unwrap_or_else(|_| panic!("there is a sample {name}"));
+    let (mut sheets, mut captures) = (0, 0);
+    for file in fs::read_dir(sample("")).unwrap() {
+        let name = file.unwrap().file_name().into_string().unwrap();
+        match name.split_once('.') {
+            Some((_, "csv")) => {
+                let told = definition::sheet::answer(&definition, &read(&name)).output;
+                assert_eq!(told, read(&format!("answers/{name}")), "{name}");
+                sheets += 1;
+            }
+            Some((stem, "capture")) => {
+                let told = definition::capture::answer(&definition, &read(&name));
+                assert_eq!((told.output, told.stop), (read(&format!("answers/{stem}.txt")), None), "{name}");
+                let made = definition::capture::of_sheet(&definition, &read(&format!("{stem}.csv")));
+                assert_eq!(made, (read(&name), None), "{name}");
+                captures += 1;
+            }
+            _ => {}
+        }
+    }
+    assert!(sheets >= 12 && captures >= 4, "{sheets} sheets and {captures} captures");
+    let asked = String::from_utf8(read("questions.txt")).unwrap();
+    let question = |line: &str| question_in_words(&definition, &line.split(' ').collect::<Vec<&str>>()).unwrap();
+    let told: String = asked.lines().map(|line| list_in_words(&definition, &question(line))).collect();
+    assert_eq!(told.into_bytes(), read("answers/questions.txt"));
+}
+
+/// The samples of single events, of a trace and of questions say what they are for.
+#[test]
+fn samples_in_one_run() {
+    let definition = Definition::now();
+    let told = |name: &str, file: &str| -> Vec<Vec<u8>> {
+        let call = call(name).unwrap();
+        let Feeding::OneRun(next) = call.feeding else { panic!("one run") };
+        let (input, mut cases) = (fs::read(sample(file)).unwrap(), Vec::new());
+        let mut rest = &input[..];
+        while let Some(case) = next(&definition, &mut rest).unwrap() {
+            cases.push((call.right)(&definition, &case).answer.output);
+        }
+        cases
+    };
+    // The notebook's entries a to n, each from the state before that it names.
+    let before = [1, 5, 3, 3, 3, 3, 6, 6, 1, 1, 1, 3, 3, 1];
+    let entries = told("event", "notebook.events");
+    let sets: Vec<u8> = entries.iter().zip(before).map(|(output, before): (&Vec<u8>, usize)| output[2 + before]).collect();
+    assert_eq!(sets, [33, 0, 64, 0, 33, 0, 33, 0, 1, 0, 32, 0, 1, 0]);
+    assert!(entries.iter().all(|output| output[..2] == [0, 1]));
+    assert_eq!(told("trace", "example.traces"), [[0, 4, 0, 0, 0, 0, 0, 0, 1, 2, 1, 0, 0, 0, 33, 33, 0, 0]]);
+    let lists: Vec<(u8, u8)> = told("answers", "odd.questions").iter().map(|output| (output[0], output[4])).collect();
+    assert_eq!(lists, [(0, 57), (9, 0), (0, 0), (0, 5), (4, 0), (5, 0)]);
 }
 
 /// Sheets that are to be run once take turns, but those about borders come out of a file; an empty capture arrives in every way.
@@ -256,24 +396,26 @@ fn ways_to_arrive() {
 #[test]
 fn differences_are_shown() {
     let definition = Definition::now();
-    let event = [2, 0, 0, 0, 3, 0, 1, 1, 0, 0, 0, 0, 0, 7];
+    let event = [2, 0, 0, 0, 3, 0, 1, 1, 0, 0, 0, 0, 0, 7, 0];
     let mut lent = Lent { table: vec![127], ..Lent::default() };
     lent.push(0, &event, [9; 3]);
-    let record = [&[0, 0][..], &event].concat();
-    let line = "0,SnpClean,0,0,0,?,SnpResp_SC,Invalid,OK,-,?";
-    let question = question_record(&[1, 0, 0, 0, 0, 0], 20, &[9; 640]);
+    let capture = [definition.capture_mark, &[0, 0], &event].concat();
+    let line = "0,SnpClean,0,0,0,?,SnpResp_SC,Invalid,OK,-,?,-";
+    let question = question_record(&[1, 0, 0, 0, 0, 0], 22, &[9; 640]);
     let cases = [
-        ("event", event_record(14, &event), 12, "  duty from UD: compare has 0 none, program has 1 Home\n"),
-        ("event", event_record(14, &event), 3, "  set from UC: compare has 33 {I SC}, program has 32 {SC}\n"),
+        ("event", event_record(15, &event), 12, "  duty from UD: compare has 0 none, program has 1 Home\n"),
+        ("event", event_record(15, &event), 3, "  set from UC: compare has 33 {I SC}, program has 32 {SC}\n"),
+        ("event", event_record(15, &event), 0, "  byte 14 error of the forwarded data: 0\n"),
+        ("event", event_record(15, &event), 0, ", forward -, final ?, fwdErr -\n"),
         ("trace", trace_case(&lent), 6, "  verdicts at 0: compare has 0 explained, program has 1 unexplained\n"),
         ("trace", trace_case(&lent), 8, "  after-sets at 0: compare has 33 {I SC}, program has 32 {SC}\n"),
         ("sheet", format!("{}\r\n{line}", definition.header).into(), 27, "  line 2, to \"0,SnpClean,"),
-        ("capture", record, 9, "  line 1: compare has \"1 events: 1 explained"),
+        ("capture", capture, 9, "  line 1: compare has \"1 events: 1 explained"),
         ("answers", question.clone(), 3, "  place: compare has 0, program has 65536\n"),
         ("answers", question.clone(), 4, "  count: compare has 2, program has 3\n"),
-        ("answers", question.clone(), 22, "  answer 1: compare has [0, 1, 0, 0, 0, 3, 0, 0, 0] request SnpShared, "),
-        ("answers", question.clone(), 26, "  room at 18: compare has 9, program has 8\n"),
-        ("answers", question, 28, "  past the room at 20: compare has 9, program has 8\n"),
+        ("answers", question.clone(), 22, "  answer 1: compare has [0, 1, 0, 0, 0, 3, 0, 0, 0, 0] request SnpShared, "),
+        ("answers", question.clone(), 28, "  room at 20: compare has 9, program has 8\n"),
+        ("answers", question, 30, "  past the room at 22: compare has 9, program has 8\n"),
     ];
     for (name, input, place, text) in cases {
         let call = call(name).unwrap();

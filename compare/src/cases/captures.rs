@@ -1,31 +1,45 @@
-//! Captures that go through lengths, pair numbers, parts, refusals and cuts, and captures drawn with and without damage.
+//! Captures that go through marks, lengths, pair numbers, parts, refusals and cuts, and captures drawn with and without damage.
 
 use crate::cases::damage::{cut, damage, requests_just_outside, Damage};
 use crate::cases::draw::Draw;
+use crate::cases::drawn::event_by_row;
 use crate::cases::kinds::{share, Cases, Gathered, Kind, Made};
 use crate::cases::traces::{any_events, some_pairs, trace_from, Shape};
-use crate::definition::capture::{of_sheet, record_bytes, records};
-use crate::definition::codes::{byte, ALL_STATES};
+use crate::definition::capture::{of_sheet, of_trace, record_bytes};
+use crate::definition::codes::{byte, ALL_STATES, RESP_ERRS, STATE_NOT_SEEN, TAG_NOT_SEEN};
 use crate::definition::trace::Lent;
 use crate::definition::values::Definition;
 
 /// The sheets of the samples, by name.
-const SAMPLES: [(&str, &[u8]); 9] = [
+const SAMPLES: [(&str, &[u8]); 11] = [
     ("example.csv", include_bytes!("../../../samples/example.csv")),
     ("morning.csv", include_bytes!("../../../samples/morning.csv")),
     ("lost_year.csv", include_bytes!("../../../samples/lost_year.csv")),
     ("discarded.csv", include_bytes!("../../../samples/discarded.csv")),
     ("lost.csv", include_bytes!("../../../samples/lost.csv")),
+    ("dirty_tags.csv", include_bytes!("../../../samples/dirty_tags.csv")),
+    ("forwarded_error.csv", include_bytes!("../../../samples/forwarded_error.csv")),
     ("refused-3.csv", include_bytes!("../../../samples/refused-3.csv")),
     ("refused-6.csv", include_bytes!("../../../samples/refused-6.csv")),
     ("refused-7.csv", include_bytes!("../../../samples/refused-7.csv")),
     ("refused-8.csv", include_bytes!("../../../samples/refused-8.csv")),
 ];
 
-/// The example's event that hands the duty to Home.
+/// The example's event that hands the duty to Home, as it was before Q-5.
 const TO_HOME: [u8; 14] = [1, 0, 0, 0, 0, 1, 1, 5, 0, 0, 0, 0, 0, 7];
-/// The example's event that is unexplained after that one.
+/// The example's event that is unexplained after that one, as it was before Q-5.
 const UNEXPLAINED: [u8; 14] = [2, 0, 0, 0, 0, 1, 1, 3, 0, 0, 0, 0, 0, 7];
+
+/// How many bytes an event had before Q-5.
+const OLD_BYTES: usize = 14;
+/// How many records old captures have: of 17 with 16 bytes each, the length is a multiple of 17 too.
+const OLD_COUNTS: [usize; 10] = [1, 2, 3, 15, 16, 17, 18, 34, 51, 4_097];
+/// Marks that are no mark, whatever follows.
+#[rustfmt::skip]
+const OTHER_MARKS: [&[u8]; 18] = [
+    b"CHI\x0e", b"CHI\x10", b"CHI\x11", b"CHI\x00", b"CHI\x8f", b"CHI\xf0", b"CHI15", b"CHIF", b"CHI ", b"CHI\n",
+    b"chi\x0f", b"IHC\x0f", b"\x0fIHC", b"CHIE\x0f", b"\0CHI\x0f", b"\nCHI\x0f", b"\xef\xbb\xbfCHI\x0f", b"CCHI\x0f",
+];
 
 /// Pair numbers that a table of 4,096 has, and that it does not have.
 #[rustfmt::skip]
@@ -73,10 +87,12 @@ struct Sweeping {
 type Sweep = fn(&mut Sweeping);
 
 /// The kinds whose captures are gathered one after another.
-const SWEEPS: [(&str, Sweep); 7] = [
+const SWEEPS: [(&str, Sweep); 9] = [
     ("the samples", Sweeping::samples),
+    ("marks", Sweeping::marks),
     ("0 to 40 bytes", Sweeping::lengths),
     ("pair numbers", Sweeping::pair_numbers),
+    ("both error fields", Sweeping::error_fields),
     ("whole parts", Sweeping::whole_parts),
     ("refusals", Sweeping::refusals),
     ("cut records", Sweeping::cuts),
@@ -99,9 +115,9 @@ impl Sweeping {
             damage(&self.definition, &mut self.draw, &mut lent, *event, *what);
             how += &format!(", damage of event {event}: {what:?}");
         }
-        let mut capture = records(&self.definition, &lent);
+        let mut capture = of_trace(&self.definition, &lent);
         if let Some(bytes) = cut_at {
-            capture.truncate((events - 1) * record_bytes(&self.definition) + bytes);
+            capture.truncate(self.definition.capture_mark.len() + (events - 1) * record_bytes(&self.definition) + bytes);
             how += &format!(", the last one cut after {bytes} bytes");
         }
         self.captures.add(how, capture);
@@ -112,22 +128,100 @@ impl Sweeping {
         SAMPLES.iter().for_each(|(name, sheet)| self.captures.add(*name, of_sheet(&self.definition, sheet).0));
     }
 
-    /// Adds the first bytes of three records.
+    /// Adds captures with another mark, a cut one or none, old ones, and inputs of other kinds.
+    fn marks(&mut self) {
+        let mark = self.definition.capture_mark;
+        let whole = of_trace(&self.definition, &self.first(3));
+        let records = &whole[mark.len()..];
+        for end in 0..=mark.len() {
+            self.captures.add(format!("the first {end} bytes of the mark"), mark[..end].to_vec());
+            self.captures.add(format!("the first {end} bytes of the mark and records"), [&mark[..end], records].concat());
+            self.captures.add(format!("the mark without its first {end} bytes and records"), whole[end..].to_vec());
+        }
+        for (place, right) in mark.iter().enumerate() {
+            for other in [0, 255, right ^ 1, right ^ 32, right ^ 128, right + 1, right - 1] {
+                let mut other_mark = mark.to_vec();
+                other_mark[place] = other;
+                self.captures.add(format!("byte {place} of the mark is {other}"), [&other_mark[..], records].concat());
+            }
+        }
+        for other in OTHER_MARKS {
+            self.captures.add(format!("\"{}\" for the mark", other.escape_ascii()), [other, records].concat());
+            self.captures.add(format!("\"{}\" alone", other.escape_ascii()), other.to_vec());
+        }
+        self.captures.add("the mark twice", [mark, &whole].concat());
+        self.captures.add("the mark after the records", [records, mark].concat());
+        self.captures.add("the mark again after the records", [&whole, mark].concat());
+        self.captures.add("a sheet for a capture", SAMPLES[0].1.to_vec());
+        self.old_captures();
+    }
+
+    /// Adds captures of records as they were before Q-5, without a mark, behind the right one, and behind one of their own length.
+    fn old_captures(&mut self) {
+        for count in OLD_COUNTS {
+            let lent = self.first(count);
+            let pairs = lent.pairs.chunks(2);
+            let events = lent.events.chunks(self.definition.event_bytes());
+            let old: Vec<u8> = pairs.zip(events).flat_map(|(pair, event)| [pair, &event[..OLD_BYTES]].concat()).collect();
+            for mark in [&b""[..], self.definition.capture_mark, &[b'C', b'H', b'I', OLD_BYTES as u8]] {
+                self.captures.add(format!("{count} old records behind \"{}\"", mark.escape_ascii()), [mark, &old].concat());
+            }
+        }
+    }
+
+    /// The first events of the whole trace.
+    fn first(&self, events: usize) -> Lent {
+        let mut lent = self.whole.clone();
+        lent.pairs.truncate(2 * events);
+        lent.events.truncate(events * self.definition.event_bytes());
+        lent
+    }
+
+    /// The capture of some records.
+    fn capture_of(&self, records: Vec<u8>) -> Vec<u8> {
+        [self.definition.capture_mark, &records].concat()
+    }
+
+    /// A record of a pair's event, which has bytes of 0 behind those of before Q-5.
+    fn record_of(&self, pair: u16, event: &[u8]) -> Vec<u8> {
+        let mut record = [&pair.to_le_bytes()[..], event].concat();
+        record.resize(record_bytes(&self.definition), 0);
+        record
+    }
+
+    /// Adds the first bytes of the mark and three records.
     fn lengths(&mut self) {
-        let three = [TO_HOME, UNEXPLAINED, TO_HOME].map(|event| record_of(7, &event)).concat();
+        let three = self.capture_of([TO_HOME, UNEXPLAINED, TO_HOME].map(|event| self.record_of(7, &event)).concat());
         (0..=40).for_each(|length| self.captures.add(format!("{length} bytes"), three[..length].to_vec()));
     }
 
     /// Adds captures in which a pair comes between others that share a byte with it, and one of all pairs.
     fn pair_numbers(&mut self) {
         for pair in PAIRS {
-            let before = [pair & 255, pair >> 8, pair, pair & 4_095].map(|pair| record_of(pair, &TO_HOME)).concat();
-            self.captures.add(format!("pair {pair}"), [before, record_of(pair, &UNEXPLAINED)].concat());
+            let before = [pair & 255, pair >> 8, pair, pair & 4_095].map(|pair| self.record_of(pair, &TO_HOME)).concat();
+            let capture = self.capture_of([before, self.record_of(pair, &UNEXPLAINED)].concat());
+            self.captures.add(format!("pair {pair}"), capture);
         }
         let pairs = || (0..self.definition.most_pairs).map(|pair| pair as u16);
-        let there = pairs().flat_map(|pair| record_of(pair, &TO_HOME));
-        let back = pairs().rev().flat_map(|pair| record_of(pair, &UNEXPLAINED));
-        self.captures.add("all pairs, there and back", there.chain(back).collect());
+        let there = pairs().flat_map(|pair| self.record_of(pair, &TO_HOME));
+        let back = pairs().rev().flat_map(|pair| self.record_of(pair, &UNEXPLAINED));
+        let capture = self.capture_of(there.chain(back).collect());
+        self.captures.add("all pairs, there and back", capture);
+    }
+
+    /// Adds a capture in which both error fields of each row's answer go through their values together, each time for a pair of its
+    /// own; tags and state after were not seen.
+    fn error_fields(&mut self) {
+        let (rows, errors) = (self.definition.rows.clone(), RESP_ERRS.len());
+        let mut records = Vec::new();
+        for n in 0..usize::from(self.definition.has_fwd_err()) * rows.len() * errors * errors {
+            let mut event = event_by_row(&self.definition, &mut self.draw, &rows[n / (errors * errors)], false);
+            (event[byte::TAG], event[byte::AFTER]) = (TAG_NOT_SEEN, STATE_NOT_SEEN);
+            (event[byte::RESP_ERR], event[byte::FWD_ERR]) = ((n / errors % errors) as u8, (n % errors) as u8);
+            records.extend(self.record_of(n as u16, &event));
+        }
+        let capture = self.capture_of(records);
+        self.captures.add("every row with every error", capture);
     }
 
     /// Adds captures of as many events as fill a part or several, or one fewer or more.
@@ -151,11 +245,11 @@ impl Sweeping {
                 self.add(second + 2, &damages, None);
             }
         }
-        let record = record_bytes(&self.definition);
-        let whole = records(&self.definition, &self.whole);
+        let five = of_trace(&self.definition, &self.first(5));
+        let event_3 = self.definition.capture_mark.len() + 3 * record_bytes(&self.definition) + 2;
         let with = |n: usize, value: u8| {
-            let mut capture = whole[..5 * record].to_vec();
-            capture[3 * record + 2 + n] = value;
+            let mut capture = five.clone();
+            capture[event_3 + n] = value;
             capture
         };
         for (n, limit) in self.definition.limits.iter().enumerate().skip(1) {
@@ -183,7 +277,7 @@ impl Sweeping {
         for (events, count, strays) in LONG {
             let used = some_pairs(&mut self.draw, self.definition.most_pairs, count);
             let lent = good(&self.definition, &mut self.draw, events, &used, strays, 900);
-            self.captures.add(format!("{events} events of up to {count} pairs"), records(&self.definition, &lent));
+            self.captures.add(format!("{events} events of up to {count} pairs"), of_trace(&self.definition, &lent));
         }
     }
 }
@@ -192,11 +286,6 @@ impl Sweeping {
 fn good(definition: &Definition, draw: &mut Draw, events: usize, used: &[usize], strays: u64, keeping: u64) -> Lent {
     let table = vec![ALL_STATES; definition.most_pairs];
     trace_from(definition, draw, &Shape { events, used, strays, keeping }, table)
-}
-
-/// A record of a pair's event.
-fn record_of(pair: u16, event: &[u8]) -> Vec<u8> {
-    [&pair.to_le_bytes()[..], event].concat()
 }
 
 /// A capture drawn at random, with damage or cut if that is asked for, one of several parts among many short ones.
@@ -210,25 +299,29 @@ fn drawn(definition: &Definition, draw: &mut Draw, n: u64, damaged: bool, is_cut
     let mut lent = good(definition, draw, events, &used, strays, 500);
     let mut how = format!("{events} events");
     // Half of the long ones are damaged in a later part alone.
-    let first = if is_long && draw.one_in(2) { part } else { 0 };
+    let first = if n % 24 == 5 { part } else { 0 };
     for _ in 0..usize::from(damaged) * draw.one_of(&[1, 1, 2, 3]) {
         let (event, what) = (first + draw.place(events - first), draw.one_of(&Damage::TO_EVENT));
         damage(definition, draw, &mut lent, event, what);
         how += &format!(", damage of event {event}: {what:?}");
     }
-    let mut capture = records(definition, &lent);
+    let mut capture = of_trace(definition, &lent);
     if is_cut {
         how += &format!(", cut by {} bytes", cut(draw, &mut capture, record_bytes(definition)));
     }
     (how, capture)
 }
 
-/// A few records that hold any event in range, or any bytes, with some bytes more in a quarter of the cases.
+/// A few records that hold any event in range, or any bytes, with some bytes more in a quarter of the cases, and with anything for a
+/// byte of the mark in a sixth.
 fn few_of_anything(definition: &Definition, draw: &mut Draw) -> Made {
-    let mut capture = records(definition, &any_events(definition, draw, 8, 3));
+    let mut capture = of_trace(definition, &any_events(definition, draw, 8, 3));
     if draw.one_in(4) {
         let more = draw.place(record_bytes(definition));
         capture.extend(draw.bytes(more));
+    }
+    if draw.one_in(6) && !definition.capture_mark.is_empty() {
+        capture[draw.place(definition.capture_mark.len())] = draw.byte();
     }
     (String::new(), capture)
 }

@@ -38,6 +38,9 @@ pub fn event_by_row(definition: &Definition, draw: &mut Draw, row: &Row, keeping
         0 => draw.one_of(&row.after),
         _ => STATE_NOT_SEEN,
     };
+    if definition.has_fwd_err() && row.forward.present == 1 {
+        event[byte::FWD_ERR] = draw.one_of(&definition.forwarded_errors);
+    }
     event
 }
 

@@ -1,5 +1,5 @@
-//! Single events: every combination of the codes that the definition names, events drawn with and without damage, and events
-//! near the rows.
+//! Single events: every combination of the codes that the definition names, those of the two error fields apart, events drawn with
+//! and without damage, and events near the rows.
 
 use crate::cases::damage::{byte_outside, request_outside};
 use crate::cases::draw::Draw;
@@ -7,7 +7,7 @@ use crate::cases::drawn::{any_in_range, byte_in_range, event_by_row, permitted_e
 use crate::cases::kinds::{share, Cases, Kind, Made};
 use crate::cases::near::{beginnings, near_rows};
 use crate::cases::wire::{event_record, EVENT_ROOM};
-use crate::definition::codes::{byte, STATE_NOT_SEEN};
+use crate::definition::codes::{byte, DERR, STATE_NOT_SEEN};
 use crate::definition::columns::{columns, Column};
 use crate::definition::rows::Row;
 use crate::definition::values::Definition;
@@ -17,17 +17,16 @@ type Choice = (usize, Vec<Vec<u8>>);
 
 /// The cases of one event alone.
 pub fn events(definition: &Definition, seed: u64, random: u64) -> Cases {
-    let choices = choices(definition);
-    let combinations = combinations(&choices);
     let sweep = definition.event_bytes() as u64 * 256;
     let swept = random / (4 * sweep) * sweep;
     let tenths = |tenths| share(random - swept, tenths, 10);
     let forwarding = definition.rows.iter().filter(|row| row.forward.present == 1).count();
     let kinds = vec![
-        Kind::new("combinations", combinations, move |d, _, n| {
-            (String::new(), event_record(d.event_bytes(), &combination(d, &choices, n)))
-        }),
+        all_combinations(definition),
         tags_and_tag_ops(definition),
+        derr_on_its_forward(definition),
+        derr_on_any_forward(definition),
+        both_error_fields(definition),
         Kind::new("single-byte sweeps", swept, single_byte).alike(sweep),
         Kind::new("both forward codes", forwarding as u64 * 64, both_forward_codes).alike(64),
         drawn("mutated", tenths(3), mutated),
@@ -68,24 +67,84 @@ fn near_a_row(definition: &Definition) -> Kind {
     })
 }
 
-/// What the combinations go through: the bytes of every name of every column of a sheet.
-fn choices(definition: &Definition) -> Vec<Choice> {
-    let bytes = |column: Column| column.names.into_iter().map(|(_, bytes)| bytes).collect();
-    columns(definition).into_iter().map(|column| (column.place, bytes(column))).collect()
+/// What combinations go through: the bytes of every name of a sheet's columns at some places, each once.
+fn choices(definition: &Definition, is_chosen: impl Fn(usize) -> bool) -> Vec<Choice> {
+    let bytes = |column: Column| {
+        let mut values: Vec<Vec<u8>> = column.names.into_iter().map(|(_, bytes)| bytes).collect();
+        values.dedup();
+        values
+    };
+    let chosen = columns(definition).into_iter().filter(|column| is_chosen(column.place));
+    chosen.map(|column| (column.place, bytes(column))).collect()
+}
+
+/// Every combination of what the columns name, the forwarded data's error field apart, which is 0.
+fn all_combinations(definition: &Definition) -> Kind {
+    let choices = choices(definition, |place| place != byte::FWD_ERR);
+    Kind::new("combinations", combinations(&choices), move |d, _, n| {
+        (String::new(), event_record(d.event_bytes(), &combination(d, &choices, n)))
+    })
 }
 
 /// Every request, RetToSrc, tag state, response with its own forward, and TagOp together, without an error; the state after was
 /// not seen.
 fn tags_and_tag_ops(definition: &Definition) -> Kind {
     let places = [byte::REQUEST, byte::RET_TO_SRC, byte::TAG, byte::CHANNEL, byte::TAG_OP];
-    let choices: Vec<Choice> = choices(definition).into_iter().filter(|(place, _)| places.contains(place)).collect();
+    let choices = choices(definition, |place| places.contains(&place));
     Kind::new("tags and TagOps", combinations(&choices), move |definition, draw, n| {
         let mut event = combination(definition, &choices, n);
-        let fwd_state = event[byte::FWD_STATE];
-        (event[byte::FORWARDED], event[byte::FORWARDED_RESP]) = (u8::from(fwd_state != 0), fwd_state);
+        forward_as_said(&mut event);
         event[byte::AFTER] = STATE_NOT_SEEN;
         whole(event, draw)
     })
+}
+
+/// Lets an event forward what its FwdState says.
+fn forward_as_said(event: &mut [u8]) {
+    let fwd_state = event[byte::FWD_STATE];
+    (event[byte::FORWARDED], event[byte::FORWARDED_RESP]) = (u8::from(fwd_state != 0), fwd_state);
+}
+
+/// Every combination of a response that forwards with its own forward, which has DERR.
+fn derr_on_its_forward(definition: &Definition) -> Kind {
+    let mut choices = choices(definition, |place| place != byte::FWD_ERR && place != byte::FORWARDED);
+    let responses = choices.iter_mut().filter(|(place, _)| *place == byte::CHANNEL);
+    responses.for_each(|(_, responses)| responses.retain(|response| response[byte::FWD_STATE - byte::CHANNEL] != 0));
+    Kind::new("DERR on its forward", with_fwd_err(definition, &choices), move |definition, draw, n| {
+        let mut event = combination(definition, &choices, n);
+        forward_as_said(&mut event);
+        event[byte::FWD_ERR] = DERR;
+        whole(event, draw)
+    })
+}
+
+/// Every combination of a response with any forward, which has DERR; the state after was not seen.
+fn derr_on_any_forward(definition: &Definition) -> Kind {
+    let mut choices = choices(definition, |place| place != byte::FWD_ERR && place != byte::AFTER);
+    let forwards = choices.iter_mut().filter(|(place, _)| *place == byte::FORWARDED);
+    forwards.for_each(|(_, forwards)| forwards.retain(|forward| forward[0] == 1));
+    Kind::new("DERR on any forward", with_fwd_err(definition, &choices), move |definition, draw, n| {
+        let mut event = combination(definition, &choices, n);
+        (event[byte::AFTER], event[byte::FWD_ERR]) = (STATE_NOT_SEEN, DERR);
+        whole(event, draw)
+    })
+}
+
+/// Every request, RetToSrc, tag state, response, TagOp, RespErr, forward and error of the forward together, the other flags being 0;
+/// the state after was not seen.
+fn both_error_fields(definition: &Definition) -> Kind {
+    let others = [byte::DO_NOT_GO_TO_SD, byte::EXCL, byte::AFTER];
+    let choices = choices(definition, |place| !others.contains(&place));
+    Kind::new("both error fields", with_fwd_err(definition, &choices), move |definition, draw, n| {
+        let mut event = combination(definition, &choices, n);
+        event[byte::AFTER] = STATE_NOT_SEEN;
+        whole(event, draw)
+    })
+}
+
+/// How many combinations there are where an event has a byte for the error of the forwarded data, and else none.
+fn with_fwd_err(definition: &Definition, choices: &[Choice]) -> u64 {
+    u64::from(definition.has_fwd_err()) * combinations(choices)
 }
 
 /// How many combinations there are.
@@ -132,10 +191,10 @@ fn mutated(definition: &Definition, draw: &mut Draw) -> Vec<u8> {
     event
 }
 
-/// A permitted event of which channel, opcode, Resp, FwdState and the forward hold anything in range.
+/// A permitted event of which channel, opcode, Resp, FwdState and all bytes about the forward hold anything in range.
 fn any_message(definition: &Definition, draw: &mut Draw) -> Vec<u8> {
     let mut event = permitted_event(definition, draw);
-    for n in (byte::CHANNEL..=byte::FWD_STATE).chain([byte::FORWARDED, byte::FORWARDED_RESP]) {
+    for n in (byte::CHANNEL..=byte::FWD_STATE).chain(byte::FORWARDED..event.len()).filter(|n| *n != byte::AFTER) {
         event[n] = byte_in_range(definition, draw, n);
     }
     event

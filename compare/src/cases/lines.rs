@@ -1,6 +1,7 @@
 //! The lines that bench sheets are made of.
 
 use crate::cases::text::{line_of, Fields};
+use crate::definition::codes::NOTHING;
 use crate::definition::columns::{columns, Column};
 use crate::definition::sheet::CRLF;
 use crate::definition::values::Definition;
@@ -55,6 +56,13 @@ impl<'a> Form<'a> {
         }
     }
 
+    /// The names that forwarded data's errors have in the column fwdErr, if there is one.
+    pub fn forward_errors(&self) -> Vec<&'static str> {
+        let column = self.columns.iter().find(|column| column.name == "fwdErr");
+        let names = column.map_or(vec![], |_| self.names("fwdErr"));
+        names.into_iter().filter(|name| *name != NOTHING).collect()
+    }
+
     /// The fields of a line about a pair's event, whose bytes have names.
     pub fn event_fields(&self, pair: usize, event: &[u8]) -> Fields {
         let names = self.columns.iter().map(|column| column.name_in(event).expect("an event's bytes have names").into());
@@ -66,14 +74,30 @@ impl<'a> Form<'a> {
         self.plain_with(&[])
     }
 
-    /// The plain line with other fields in some columns.
+    /// The plain line with other fields in some columns; of the two about the forward, one that is not changed follows the other.
     pub fn plain_with(&self, changes: &Changes) -> Vec<u8> {
-        let field = |column: &str| match changes.iter().rfind(|(changed, _)| *changed == column) {
-            Some((_, field)) => field.to_vec(),
+        let changed = |column: &str| changes.iter().rfind(|(changed, _)| *changed == column).map(|(_, field)| *field);
+        let is_something = |column: &str| changed(column).is_some_and(|field| field != NOTHING.as_bytes());
+        let field = |column: &str| match changed(column) {
+            Some(field) => field.to_vec(),
             None if column == "final" => b"?".to_vec(),
+            None if column == "forward" && is_something("fwdErr") => b"CompData_SC".to_vec(),
+            None if column == "fwdErr" && is_something("forward") => b"OK".to_vec(),
             None => self.names(column)[0].into(),
         };
         line_of(&self.columns().into_iter().map(field).collect::<Fields>())
+    }
+
+    /// Lets the column fwdErr of a line's fields, if there is one, agree with the column forward on whether there is a forward.
+    pub fn agree_on_forward(&self, fields: &mut Fields) {
+        let place = |name: &str| self.columns().iter().position(|column| *column == name);
+        if let (Some(forward), Some(fwd_err)) = (place("forward"), place("fwdErr")) {
+            match [forward, fwd_err].map(|place| fields[place] == NOTHING.as_bytes()) {
+                [true, false] => fields[fwd_err] = NOTHING.into(),
+                [false, true] => fields[fwd_err] = b"OK".to_vec(),
+                _ => {}
+            }
+        }
     }
 
     /// A line that leaves pair 1 in I or SC, with the duty to Home.
@@ -87,20 +111,32 @@ impl<'a> Form<'a> {
         self.plain_with(&[("pair", b"1"), ("tag", b"?"), ("response", b"SnpResp_SC"), ("final", b"SC")])
     }
 
-    /// A line of known names that has this length, which is not more than the longest has.
+    /// A line of known names that has this length, which is not more than the longest has, and no forward if it can.
     pub fn of_length(&self, length: usize) -> Vec<u8> {
+        let line = self.with_length(length, false);
+        match line.len() < length {
+            true => self.with_length(length, true),
+            false => line,
+        }
+    }
+
+    /// A line of known names that has at most this length if it can, with a forward or without.
+    fn with_length(&self, length: usize, forwards: bool) -> Vec<u8> {
         let columns = self.columns();
-        let mut fields: Vec<&str> = columns.iter().map(|column| self.longest(column, 0)).collect();
+        let mut fields: Vec<&str> = columns.iter().map(|column| self.longest(column, 0, forwards)).collect();
         for n in (0..columns.len()).rev() {
             let missing = length.saturating_sub(fields.join(",").len());
-            fields[n] = self.longest(columns[n], fields[n].len() + missing);
+            fields[n] = self.longest(columns[n], fields[n].len() + missing, forwards);
         }
         fields.join(",").into_bytes()
     }
 
-    /// The longest name of a column that has not more bytes than this, or else its shortest.
-    fn longest(&self, column: &str, most: usize) -> &'static str {
-        let names = self.names(column);
+    /// The longest name of a column that has not more bytes than this, or else its shortest, with a forward or without.
+    fn longest(&self, column: &str, most: usize, forwards: bool) -> &'static str {
+        let mut names = self.names(column);
+        if names.contains(&NOTHING) {
+            names.retain(|name| (*name != NOTHING) == forwards);
+        }
         let longest = names.iter().filter(|name| name.len() <= most).max_by_key(|name| name.len());
         longest.or(names.iter().min_by_key(|name| name.len())).expect("a column has names")
     }

@@ -12,7 +12,7 @@ use std::collections::BTreeSet;
 use std::sync::Arc;
 
 /// How many rooms every question is tried with.
-const ROOMS: usize = 8;
+const ROOMS: usize = 12;
 /// How often each byte goes through all its values.
 const SWEEPS: usize = 8;
 /// How often each choice of bytes is outside range together.
@@ -59,11 +59,16 @@ fn any_length(draw: &mut Draw) -> usize {
     draw.place(LIST_ROOM + 1)
 }
 
-/// Every question with no room, a byte too little, just enough, and more up to all there is.
+/// Every question with no room, a byte too little, just enough, more up to all there is, and about a byte too little for each answer.
 fn every_question(definition: &Definition, draw: &mut Draw, known: &[Known], n: usize) -> (Vec<u8>, usize) {
     let (question, bytes) = known[n / ROOMS].clone();
     let (one, any) = (answer_bytes(definition), draw.place(LIST_ROOM - bytes));
-    let rooms: [usize; ROOMS] = [0, bytes.saturating_sub(1), bytes, bytes + 1, bytes + one - 1, bytes + one, bytes + any, LIST_ROOM];
+    let (shorter, less) = (bytes - bytes / one, bytes.saturating_sub(1));
+    #[rustfmt::skip]
+    let rooms: [usize; ROOMS] = [
+        0, less, bytes, bytes + 1, bytes + one - 1, bytes + one, bytes + any, LIST_ROOM, shorter.saturating_sub(1), shorter, shorter + 1,
+        shorter + draw.place(less.saturating_sub(shorter) + 1),
+    ];
     (question, rooms[n % ROOMS])
 }
 

@@ -51,6 +51,7 @@ fn any_line(form: &Form, draw: &mut Draw, pair: usize, set: u8, strays: u64) -> 
             let n = 1 + draw.place(fields.len() - 1);
             fields[n] = draw.one_of(&form.names(form.columns()[n])).into();
         }
+        form.agree_on_forward(&mut fields);
     }
     line_of(&fields)
 }
@@ -197,7 +198,7 @@ pub fn anything(definition: &Definition, draw: &mut Draw) -> Made {
 }
 
 /// How many bytes the lines of the sheets about borders have, CRLF included.
-const WIDTH: usize = 56;
+const WIDTH: usize = 58;
 /// The borders that are tried one by one.
 const BORDERS: [usize; 9] = [512, 1_024, 2_048, SMALL_BORDER, 8_192, 16_384, 32_768, 65_536, LAST_BORDER];
 /// The border up to which all is tried.
@@ -316,7 +317,7 @@ pub fn most_lines(definition: &Definition, number: u64) -> Made {
     let form = Form::new(definition);
     let rest = |changes: &[(&str, &[u8])]| form.plain_with(&[&[("pair", &b""[..]), ("tag", b"?")], changes].concat());
     let clean: (&str, &[u8]) = ("request", b"SnpClean");
-    let forwarded: [(&str, &[u8]); 2] = [("response", b"SnpResp_SD_Fwded_SC"), ("forward", b"CompData_SC")];
+    let forwarded: [(&str, &[u8]); 3] = [("response", b"SnpResp_SD_Fwded_SC"), ("forward", b"CompData_SC"), ("fwdErr", b"DERR")];
     // Most pairs are never lost.
     let [to_i, to_sc, to_sd, dirty, nderr] = [
         rest(&[clean]),

@@ -4,6 +4,7 @@ use crate::cases::kinds::{share, Cases, Gathered, Kind};
 use crate::cases::lines::{without_crlf, Form, OTHER_ENDS, OTHER_REQUESTS, PAIR_FIELDS};
 use crate::cases::sheet_draws::{anything, borders, damaged, good, many_pairs, most_lines, MOST};
 use crate::cases::text::{fields_of, line_of, spoiled, spoiled_fields};
+use crate::definition::codes::NOTHING;
 use crate::definition::sheet::{CRLF, OUTPUT_HEADER};
 use crate::definition::values::Definition;
 
@@ -11,13 +12,16 @@ use crate::definition::values::Definition;
 type Sweep = fn(&Form, &mut Gathered, u64);
 
 /// The kinds whose sheets are gathered one after another.
-const SWEEPS: [(&str, Sweep); 13] = [
+const SWEEPS: [(&str, Sweep); 16] = [
     ("the example", example),
     ("known names", known_names),
+    ("from one state", from_one_state),
     ("names not known", names_not_known),
     ("each byte value", each_byte),
     ("pair fields", pair_fields),
     ("other fields", other_fields),
+    ("forward and fwdErr", forward_and_error),
+    ("other columns", other_columns),
     ("ends of lines", ends_of_lines),
     ("first and last", first_and_last),
     ("headers", headers),
@@ -89,6 +93,7 @@ fn product(form: &Form, varies: &Varies) -> Vec<u8> {
 /// Adds sheets of lines with known names: what varies, and through which names.
 fn known_names(form: &Form, sheets: &mut Gathered, _: u64) {
     let all = |column: &'static str| (column, form.names(column));
+    let errors = form.forward_errors();
     for column in form.columns().into_iter().skip(1) {
         sheets.add(format!("every name of {column} in plain lines"), product(form, &vec![all(column)]));
     }
@@ -96,14 +101,20 @@ fn known_names(form: &Form, sheets: &mut Gathered, _: u64) {
         for flags in 0..8 {
             let flag = |n: usize| vec![["0", "1"][flags >> n & 1]];
             let flags_vary = [("RetToSrc", flag(0)), ("DoNotGoToSD", flag(1)), ("excl", flag(2))];
-            let varies = [&[("request", vec![*request])], &flags_vary[..], &[all("response"), all("forward")]].concat();
+            let begin = [&[("request", vec![*request])], &flags_vary[..], &[all("response")]].concat();
+            let varies = [&begin[..], &[all("forward")]].concat();
             sheets.add(format!("{request} with every answer, flags {flags:03b}"), product(form, &varies));
+            if !errors.is_empty() {
+                let forwards = form.names("forward").into_iter().filter(|name| *name != NOTHING).collect();
+                let varies = [&begin[..], &[("forward", forwards), ("fwdErr", errors.clone())]].concat();
+                sheets.add(format!("{request} with every answer and forward error, flags {flags:03b}"), product(form, &varies));
+            }
         }
     }
     for row in &form.definition.rows {
         let code = form.definition.requests_of(row.table).pop();
         let request = form.definition.requests.iter().find(|(_, request)| Some(*request) == code);
-        let varies = vec![
+        let mut varies = vec![
             ("request", vec![request.expect("a table is for a request").0]),
             ("RetToSrc", vec![if row.ret_to_src == Some(1) { "1" } else { "0" }]),
             ("response", vec![row.response.name]),
@@ -113,14 +124,51 @@ fn known_names(form: &Form, sheets: &mut Gathered, _: u64) {
             all("RespErr"),
             ("final", vec!["I", "SC", "SD", "UD", "?"]),
         ];
-        let how = format!("{} {} with every tag, TagOp and RespErr", row.table, row.response.name);
+        if row.forward.present == 1 && !errors.is_empty() {
+            varies.push(("fwdErr", errors.clone()));
+        }
+        let how = format!("{} {} with every tag, TagOp and error", row.table, row.response.name);
         sheets.add(how, product(form, &varies));
+    }
+}
+
+/// Answers that leave a pair of any state in one state, which is seen after them.
+const TO_ONE_STATE: [(&str, &str); 3] = [("SnpResp_I", "I"), ("SnpResp_SC", "SC"), ("SnpRespData_SD", "SD")];
+
+/// Adds for each request a sheet in which pairs are left in one state first, and then give each answer with its own forward, which
+/// has every error.
+fn from_one_state(form: &Form, sheets: &mut Gathered, _: u64) {
+    let forwards = form.definition.forwards();
+    let own = |fwd_state: u8| forwards.iter().find(|forward| forward.resp == fwd_state).expect("a response has its forward").name;
+    for (request, _) in &form.definition.requests {
+        let mut lines: Vec<Vec<u8>> = Vec::new();
+        for (answer, last) in TO_ONE_STATE {
+            for (response, ret_to_src) in form.definition.responses().iter().flat_map(|response| [(response, "0"), (response, "1")]) {
+                let forward = own(response.fwd_state);
+                let errors = match form.forward_errors() {
+                    errors if forward != NOTHING && !errors.is_empty() => errors,
+                    // A field of a column that is not there stands nowhere.
+                    _ => vec![NOTHING],
+                };
+                for error in &errors {
+                    let pair = (lines.len() / 2).to_string();
+                    let of_pair = |fields: &[(&str, &str)]| {
+                        let both = [&[("pair", &pair[..]), ("tag", "?")], fields].concat();
+                        form.plain_with(&both.iter().map(|(column, field)| (*column, field.as_bytes())).collect::<Vec<_>>())
+                    };
+                    lines.push(of_pair(&[("response", answer), ("final", last)]));
+                    let named = [("response", response.name), ("forward", forward), ("fwdErr", *error)];
+                    lines.push(of_pair(&[&[("request", *request), ("RetToSrc", ret_to_src)], &named[..]].concat()));
+                }
+            }
+        }
+        sheets.add(format!("{request} with every answer from I, SC and SD"), form.sheet(&lines));
     }
 }
 
 /// Fields that a column doesn't know, though somebody might write them there; a semicolon parts them.
 #[rustfmt::skip]
-const STRANGE: [(&str, &str); 10] = [
+const STRANGE: [(&str, &str); 11] = [
     ("request", "-;?;1;SnpShared ; SnpShared;SnpClean_"),
     ("RetToSrc", ";2;00;01;10;-;?;true;O;l;0 ; 0;-0;+1;0.0"),
     ("DoNotGoToSD", ";2;00;11;-;?;x;1 ; 1"),
@@ -132,6 +180,7 @@ const STRANGE: [(&str, &str); 10] = [
     ("forward", ";--;?;SC;CompData;CompData_;Comp_SC;CompData_I;CompData_SD;CompData_UD;CompData_UCE;CompData_SC_PD;\
          CompData_UC_PD;CompAck;SnpResp_SC_Fwded_SC"),
     ("final", ";-;??;SCE;UDE;M;O;E;S;U;0;7;I SC;I|SC;UC UD;not seen"),
+    ("fwdErr", ";--;?;OKAY;EXOKAY;SLVERR;DECERR;ERR;0;2;Ok;None;CompData_SC;OK DERR;NDERR_PD"),
 ];
 
 /// Adds sheets with one line of which a name is cut, changed or strange, and so mostly not known.
@@ -253,6 +302,82 @@ fn other_fields(form: &Form, sheets: &mut Gathered, _: u64) {
     }
 }
 
+/// Fields for the columns about the forward that are not known there; a semicolon parts them.
+const NO_FORWARDS: &str = ";--;?;OK;CompData";
+/// Fields for the column fwdErr that are not known there; a semicolon parts them.
+const NO_ERRORS: &str = ";--;?;- ; -;Ok;OKAY;0;I;CompData_SC";
+
+/// Adds sheets with one line that has every field of forward with every one of fwdErr, and so often - in one of the two alone.
+fn forward_and_error(form: &Form, sheets: &mut Gathered, _: u64) {
+    let fwded: [(&str, &[u8]); 3] = [("request", b"SnpCleanFwd"), ("tag", b"?"), ("response", b"SnpResp_SC_Fwded_SC")];
+    let long = "?".repeat(form.definition.longest_line);
+    let forwards = [&form.names("forward")[..], &NO_FORWARDS.split(';').collect::<Vec<&str>>()].concat();
+    let errors = [&[NOTHING][..], &form.forward_errors(), &NO_ERRORS.split(';').collect::<Vec<&str>>()].concat();
+    for forward in forwards {
+        for error in &errors {
+            let about: [(&str, &[u8]); 2] = [("forward", forward.as_bytes()), ("fwdErr", error.as_bytes())];
+            let how = format!("forward is \"{forward}\" and fwdErr is \"{error}\"");
+            sheets.add(how.clone(), form.between(&form.plain_with(&about)));
+            sheets.add(format!("{how} with SnpCleanFwd"), form.between(&form.plain_with(&[&fwded[..], &about].concat())));
+            let both_known = form.names("forward").contains(&forward) && form.names("fwdErr").contains(error);
+            for (besides, column, field) in [("no such pair", "pair", &b"4096"[..]), ("a long line", "final", long.as_bytes())] {
+                if both_known {
+                    let line = form.plain_with(&[&about[..], &[(column, field)]].concat());
+                    sheets.add(format!("{how}, and {besides}"), form.between(&line));
+                }
+            }
+        }
+    }
+}
+
+/// Places of columns in other orders than their own, with one fewer, one more, or the last one elsewhere, each with what was done.
+fn other_orders(columns: &[&str]) -> Vec<(String, Vec<usize>)> {
+    let last = columns.len() - 1;
+    let mut orders: Vec<(String, Vec<usize>)> = Vec::new();
+    for (place, column) in columns.iter().enumerate() {
+        let elsewhere = (0..place).chain([last]).chain(place..last).collect();
+        orders.push((format!("without {column}"), (0..=last).filter(|other| *other != place).collect()));
+        orders.push((format!("with {} in the place of {column}", columns[last]), elsewhere));
+    }
+    for place in [last - 1, last] {
+        orders.push((format!("with {} again at the end", columns[place]), (0..=last).chain([place]).collect()));
+    }
+    orders.retain(|(_, order)| *order != (0..=last).collect::<Vec<usize>>());
+    orders
+}
+
+/// Adds sheets with a column fewer or more in the header, in lines or in both, or with a column at another place.
+fn other_columns(form: &Form, sheets: &mut Gathered, _: u64) {
+    let header = form.definition.header.as_bytes().to_vec();
+    let fwded: [(&str, &[u8]); 2] = [("request", b"SnpCleanFwd"), ("response", b"SnpResp_SC_Fwded_SC")];
+    let forwarding = form.plain_with(&[&fwded[..], &[("forward", &b"CompData_SC"[..])]].concat());
+    let lines = [form.before(), forwarding, form.plain(), form.after()];
+    let sheet = |header: &[u8], lines: &[Vec<u8>]| {
+        let all = [&[header.to_vec()][..], lines].concat();
+        all.iter().flat_map(|line| [line, CRLF].concat()).collect::<Vec<u8>>()
+    };
+    for (how, order) in other_orders(&form.columns()) {
+        let changed = |line: &Vec<u8>| {
+            let fields = fields_of(line);
+            line_of(&order.iter().map(|place| fields[*place].clone()).collect::<Vec<_>>())
+        };
+        let (other_header, other_lines) = (changed(&header), lines.each_ref().map(changed));
+        sheets.add(format!("header and lines {how}"), sheet(&other_header, &other_lines));
+        sheets.add(format!("the header {how}"), sheet(&other_header, &lines));
+        sheets.add(format!("the header {how}, alone"), sheet(&other_header, &[]));
+        sheets.add(format!("the lines {how}"), sheet(&header, &other_lines));
+        // The line that forwards, and the plain one.
+        for n in [1, 2] {
+            let mut mixed = lines.clone();
+            mixed[n].clone_from(&other_lines[n]);
+            sheets.add(format!("line {} {how}", n + 2), sheet(&header, &mixed));
+        }
+        sheets.add(format!("the header {how} after the header"), sheet(&header, &[other_header.clone(), form.before()]));
+        sheets.add(format!("the header after the header {how}"), sheet(&other_header, &[header.clone(), form.before()]));
+    }
+    sheets.add("the sample before_fwd_err.csv", include_bytes!("../../../samples/before_fwd_err.csv").to_vec());
+}
+
 /// Adds sheets with CR and LF alone at each place of a line, and with other ends of lines.
 fn ends_of_lines(form: &Form, sheets: &mut Gathered, _: u64) {
     let lines = [form.before(), form.plain(), form.after()];
@@ -314,8 +439,8 @@ fn first_and_last(form: &Form, sheets: &mut Gathered, _: u64) {
 
 /// What is tried before the header and after it.
 #[rustfmt::skip]
-const HEADER_BITS: [&[u8]; 13] = [
-    b",", b" ", b"\0", b"x", b",x", b",final", b"\t", b"\r", b"\n", b"\xef\xbb\xbf", b"\xfe\xff", b"#", b"\"",
+const HEADER_BITS: [&[u8]; 15] = [
+    b",", b" ", b"\0", b"x", b",x", b",final", b",fwdErr", b",fwderr", b"\t", b"\r", b"\n", b"\xef\xbb\xbf", b"\xfe\xff", b"#", b"\"",
 ];
 
 /// Adds sheets with another header.

@@ -6,7 +6,7 @@ use crate::cases::drawn::{any_in_range, event_by_row, explained_event, lively_pa
 use crate::cases::kinds::{share, Cases, Kind, Made};
 use crate::cases::wire::{trace_case, trace_rooms};
 use crate::definition::codes::{byte, ALL_STATES, RESP_ERRS};
-use crate::definition::rows::NDERR_ROW;
+use crate::definition::rows::{Row, NDERR_ROW};
 use crate::definition::steps::step;
 use crate::definition::trace::Lent;
 use crate::definition::values::Definition;
@@ -19,6 +19,7 @@ pub fn traces(definition: &Definition, seed: u64, random: u64) -> Cases {
     let all: Vec<u16> = (0..256).collect();
     let lengths = wrong_lengths(bytes);
     let limits = limits(definition);
+    let forward_errors = usize::from(definition.has_fwd_err()) * forwarding_rows(definition).len() * RESP_ERRS.len() * SETS;
     let twentieths = |parts| share(random, parts, 20);
     let kinds = vec![
         // What varies in a small trace, its number of events, its number of pairs, the places, the values.
@@ -28,8 +29,10 @@ pub fn traces(definition: &Definition, seed: u64, random: u64) -> Cases {
         .alike(256),
         sweep("each set value", 2, 3..4, 3, all, |_, lent, _, place, value| lent.table[place] = value as u8).alike(256),
         Kind::new("every set", (definition.requests.len() * RESP_ERRS.len() * SETS) as u64, every_set),
+        Kind::new("every forward error", forward_errors as u64, every_forward_error),
         sweep("many pair numbers", 2, 0..10, 2, PAIRS_TRIED.to_vec(), |_, lent, _, place, value| lent.set_pair(place, value)),
         Kind::new("many lengths", lengths.len() as u64, move |d, draw, n| length_case(d, draw, n, &lengths[n as usize])),
+        Kind::new("other event lengths", 2 * MOST_OTHERS, other_event_length),
         Kind::new("at the limits", limits.len() as u64, move |d, draw, n| limit_case(d, draw, &limits[n as usize])),
         drawn("up to 64 events", twentieths(6), long),
         drawn("up to 4 events", twentieths(7), short),
@@ -80,6 +83,37 @@ fn every_set(definition: &Definition, draw: &mut Draw, n: u64) -> Made {
     event[byte::RESP_ERR] = (rest % RESP_ERRS.len()) as u8;
     let mut lent = Lent { table: vec![set as u8], ..Lent::default() };
     (0..2).for_each(|_| lent.push(0, &event, [draw.byte(), draw.byte(), draw.byte()]));
+    (String::new(), trace_case(&lent))
+}
+
+/// The rows that forward data.
+fn forwarding_rows(definition: &Definition) -> Vec<&Row> {
+    definition.rows.iter().filter(|row| row.forward.present == 1).collect()
+}
+
+/// A trace in which a pair of any set gives an answer with a forward twice, the forward having any error.
+fn every_forward_error(definition: &Definition, draw: &mut Draw, n: u64) -> Made {
+    let (rows, errors) = (forwarding_rows(definition), RESP_ERRS.len());
+    let (rest, row) = (n as usize / rows.len(), n as usize % rows.len());
+    let mut event = event_by_row(definition, draw, rows[row], false);
+    event[byte::FWD_ERR] = (rest % errors) as u8;
+    let mut lent = Lent { table: vec![(rest / errors) as u8], ..Lent::default() };
+    (0..2).for_each(|_| lent.push(0, &event, [draw.byte(), draw.byte(), draw.byte()]));
+    (String::new(), trace_case(&lent))
+}
+
+/// The most events of a trace whose events have a byte fewer or more than they should.
+const MOST_OTHERS: u64 = 48;
+
+/// A trace without damage but for its events, which have a byte fewer each, or a byte more.
+fn other_event_length(definition: &Definition, draw: &mut Draw, n: u64) -> Made {
+    let (events, bytes) = (1 + n as usize / 2, definition.event_bytes());
+    let mut lent = small_trace(definition, draw, events, 3);
+    let others = lent.events.chunks(bytes).map(|event| match n % 2 {
+        0 => event[..bytes - 1].to_vec(),
+        _ => [event, &[0]].concat(),
+    });
+    lent.events = others.collect::<Vec<Vec<u8>>>().concat();
     (String::new(), trace_case(&lent))
 }
 

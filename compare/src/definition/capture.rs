@@ -1,7 +1,7 @@
 //! A binary capture answered part by part, as the examples of the archive answer it: docs/API.md has their words.
 
 use crate::definition::codes::{ALL_STATES, UNEXPLAINED};
-use crate::definition::event::ACCEPTED;
+use crate::definition::event::{ACCEPTED, WRONG_LENGTH};
 use crate::definition::sheet::{each_event, lines};
 use crate::definition::trace::{event_of, judge, Lent};
 use crate::definition::values::Definition;
@@ -33,12 +33,22 @@ pub fn record_bytes(definition: &Definition) -> usize {
     2 + definition.event_bytes()
 }
 
+/// The records of a capture, the last of which may be cut, if the capture begins with the whole mark.
+pub fn records_in<'a>(definition: &Definition, capture: &'a [u8]) -> Option<&'a [u8]> {
+    capture.strip_prefix(definition.capture_mark)
+}
+
 /// The answer to a whole capture, of which as many events as a trace can have are judged at a time.
 pub fn answer(definition: &Definition, capture: &[u8]) -> Answered {
     let mut answered = Answered::default();
+    let Some(records) = records_in(definition, capture) else {
+        // What has no mark, or another, may hold events of another length.
+        answered.stop = Some((WRONG_LENGTH, 0));
+        return answered;
+    };
     let mut table = vec![ALL_STATES; definition.most_pairs];
     let record = record_bytes(definition);
-    for part in capture.chunks(definition.most_events * record) {
+    for part in records.chunks(definition.most_events * record) {
         let first = answered.told.len();
         if part.len() % record != 0 {
             answered.stop = Some((0, first + part.len() / record));
@@ -87,20 +97,19 @@ fn lent(part: &[u8], record: usize, table: Vec<u8>) -> Lent {
     lent
 }
 
-/// The records of a trace's events.
-pub fn records(definition: &Definition, lent: &Lent) -> Vec<u8> {
-    let n = lent.pairs.len() / 2;
-    let mut records = Vec::with_capacity(n * record_bytes(definition));
-    for n in 0..n {
-        records.extend(&lent.pairs[2 * n..2 * n + 2]);
-        records.extend(event_of(definition, lent, n));
+/// The capture of a trace's events.
+pub fn of_trace(definition: &Definition, lent: &Lent) -> Vec<u8> {
+    let mut capture = definition.capture_mark.to_vec();
+    for n in 0..lent.pairs.len() / 2 {
+        capture.extend(&lent.pairs[2 * n..2 * n + 2]);
+        capture.extend(event_of(definition, lent, n));
     }
-    records
+    capture
 }
 
 /// The capture of a bench sheet's lines up to the first that is refused, and the number and line of its refusal.
 pub fn of_sheet(definition: &Definition, sheet: &[u8]) -> (Vec<u8>, Option<(u8, usize)>) {
-    let mut capture = Vec::new();
+    let mut capture = definition.capture_mark.to_vec();
     let refusal = each_event(definition, &lines(sheet), |pair, event| {
         capture.extend((pair as u16).to_le_bytes());
         capture.extend(event);

@@ -16,12 +16,14 @@ pub mod byte {
     pub const FORWARDED: usize = 11;
     pub const FORWARDED_RESP: usize = 12;
     pub const AFTER: usize = 13;
+    /// An event has this byte since Q-5.
+    pub const FWD_ERR: usize = 14;
 
     /// What each byte is, for a reader.
     #[rustfmt::skip]
-    pub const NAMES: [&str; 14] = [
+    pub const NAMES: [&str; 15] = [
         "request", "RetToSrc", "DoNotGoToSD", "excl", "tag state", "channel", "opcode", "Resp", "FwdState", "TagOp",
-        "RespErr", "forwarded data present", "its Resp", "state after",
+        "RespErr", "forwarded data present", "its Resp", "state after", "error of the forwarded data",
     ];
 }
 
@@ -71,14 +73,19 @@ pub const TRANSFER: u8 = 1;
 /// The TagOp of tags that were changed.
 pub const UPDATE: u8 = 2;
 
-/// The values of RespErr, each at its code.
+/// The values of RespErr, and of the forwarded data's own error field, each at its code.
 pub const RESP_ERRS: [&str; 4] = ["OK", "EXOK", "DERR", "NDERR"];
 /// No error.
 pub const OK: u8 = 0;
+/// An exclusive access succeeded.
+pub const EXOK: u8 = 1;
 /// The data is bad.
 pub const DERR: u8 = 2;
 /// The snoop failed, without data.
 pub const NDERR: u8 = 3;
+
+/// How a sheet writes that nothing is forwarded.
+pub const NOTHING: &str = "-";
 
 /// The verdicts, each at its byte.
 pub const VERDICTS: [&str; 3] = ["explained", "unexplained", "not judged"];
@@ -172,7 +179,7 @@ pub struct Forward {
 impl Forward {
     /// The forward that a name spells, which is - for none.
     pub fn named(name: &'static str) -> Option<Forward> {
-        if name == "-" {
+        if name == NOTHING {
             return Some(Forward { name, present: 0, resp: 0 });
         }
         let resp = code_of(&FWD_STATES, name.strip_prefix("CompData_")?)?;

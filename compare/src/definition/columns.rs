@@ -25,8 +25,24 @@ impl Column {
 
     /// The name of what an event has in the column's bytes, if there is one.
     pub fn name_in(&self, event: &[u8]) -> Option<&'static str> {
-        self.names.iter().find(|(_, bytes)| event[self.place..].starts_with(bytes)).map(|(name, _)| *name)
+        let forwards = event[byte::FORWARDED] != 0;
+        let agrees = |name: &str| !self.is_about_forward() || (name != NOTHING) == forwards;
+        let mut names = self.names.iter().filter(|(name, bytes)| event[self.place..].starts_with(bytes) && agrees(name));
+        names.next().map(|(name, _)| *name)
     }
+
+    /// Whether it says of the forwarded data something, or that there is none.
+    pub fn is_about_forward(&self) -> bool {
+        self.bytes(NOTHING).is_some()
+    }
+}
+
+/// Whether the fields of a line agree on whether there is forwarded data: - stands in all columns about it, or in none.
+pub fn agree_on_forward(columns: &[Column], fields: &[&str]) -> bool {
+    let about = columns.iter().zip(fields).filter(|(column, _)| column.is_about_forward());
+    let mut nothing = about.map(|(_, field)| *field == NOTHING);
+    let first = nothing.next();
+    nothing.all(|other| Some(other) == first)
 }
 
 /// The columns after the pair's, in the order of the header.
@@ -55,6 +71,8 @@ fn column(definition: &Definition, name: &'static str) -> Column {
         "RespErr" => (byte::RESP_ERR, at_codes(&RESP_ERRS)),
         "forward" => (byte::FORWARDED, forwards()),
         "final" => (byte::AFTER, at_codes(&[&STATES[..], &[NOT_SEEN]].concat())),
+        // Where nothing is forwarded the byte is 0, as it is with OK.
+        "fwdErr" => (byte::FWD_ERR, [vec![(NOTHING, vec![0])], at_codes(&RESP_ERRS)].concat()),
         other => panic!("no column is named {other}"),
     };
     Column { name, place, names }

@@ -1,7 +1,7 @@
 //! A bench sheet answered, line by line.
 
 use crate::definition::codes::{states_of, ALL_STATES, DUTIES, VERDICTS};
-use crate::definition::columns::{columns, Column};
+use crate::definition::columns::{agree_on_forward, columns, Column};
 use crate::definition::trace::{judge_event, NO_PAIR};
 use crate::definition::values::Definition;
 
@@ -107,12 +107,16 @@ impl<'a> Reader<'a> {
     pub fn fields(&self, line: &[u8]) -> Option<(usize, Vec<u8>)> {
         let mut fields = std::str::from_utf8(line).ok()?.split(',');
         let pair = self.pair_number(fields.next()?)?;
+        let fields: Vec<&str> = fields.collect();
+        if fields.len() != self.columns.len() || !agree_on_forward(&self.columns, &fields) {
+            return None;
+        }
         let mut event = vec![0; self.definition.event_bytes()];
-        for column in &self.columns {
-            let bytes = column.bytes(fields.next()?)?;
+        for (column, field) in self.columns.iter().zip(fields) {
+            let bytes = column.bytes(field)?;
             event[column.place..column.place + bytes.len()].copy_from_slice(bytes);
         }
-        fields.next().is_none().then_some((pair, event))
+        Some((pair, event))
     }
 
     /// The number that a pair's field is, be there such a pair or not.

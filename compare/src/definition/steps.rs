@@ -46,6 +46,7 @@ fn agrees(definition: &Definition, row: &Row, event: &[u8]) -> bool {
         && !(row.not_with_do_not_go_to_sd && event[byte::DO_NOT_GO_TO_SD] == 1)
         && !(row.table == B4_60 && event[byte::EXCL] == 1)
         && resp_err_fits(row, event[byte::RESP_ERR])
+        && fwd_err_fits(definition, row, event.get(byte::FWD_ERR).copied())
         && is_for(definition, row.table, event[byte::REQUEST])
 }
 
@@ -72,6 +73,15 @@ fn resp_err_fits(row: &Row, resp_err: u8) -> bool {
         resp_err == OK || resp_err == DERR
     } else {
         resp_err == OK
+    }
+}
+
+/// Whether a row takes this error of the forwarded data, for which an event may have no byte.
+fn fwd_err_fits(definition: &Definition, row: &Row, fwd_err: Option<u8>) -> bool {
+    match fwd_err {
+        None => true,
+        Some(fwd_err) if row.forward.present == 1 => definition.forwarded_errors.contains(&fwd_err),
+        Some(fwd_err) => fwd_err == 0,
     }
 }
 

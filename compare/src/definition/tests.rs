@@ -23,7 +23,16 @@ fn from(definition: &Definition, before: &str, line: &str) -> (String, &'static 
     (states_of(answer.sets[before]).join(" "), DUTIES[usize::from(answer.duties[before])])
 }
 
-/// The entries of the notebook, and two of the wrong readings, which stay true with Q-2 and Q-4.
+/// A line of before Q-5 as a definition has it, with this error of its forward where there is a column for it.
+fn line_at(definition: &Definition, line: &str, error: &str) -> String {
+    match (definition.has_fwd_err(), line.contains(",CompData_")) {
+        (false, _) => line.to_string(),
+        (true, true) => format!("{line},{error}"),
+        (true, false) => format!("{line},-"),
+    }
+}
+
+/// The entries of the notebook, and two of the wrong readings, which stay true with Q-2, Q-4 and Q-5.
 #[test]
 #[rustfmt::skip]
 fn notebook() {
@@ -45,14 +54,16 @@ fn notebook() {
         ("data", "UD", "0,SnpCleanFwd,1,0,0,?,SnpRespData_SC_Fwded_SD_PD,Invalid,OK,CompData_SD_PD,?", "I SC", "Requester"),
         ("both", "SC", "0,SnpPreferUniqueFwd,0,0,1,?,SnpResp_SC_Fwded_SC,Invalid,OK,CompData_SC,?", "SC", "none"),
     ] {
-        for stage in 0..=4 {
+        for stage in 0..=5 {
             let definition = Definition::at_stage(stage).unwrap();
-            assert_eq!(from(&definition, before, line), (states.to_string(), duty), "entry {entry} at stage {stage}");
+            let told = from(&definition, before, &line_at(&definition, line, "OK"));
+            assert_eq!(told, (states.to_string(), duty), "entry {entry} at stage {stage}");
         }
     }
 }
 
-/// All events of the codes that rows name, of any flags, tag state, TagOp and RespErr, the state after not seen.
+/// All events of the codes that rows name, of any flags, tag state, TagOp and RespErr, the state after not seen and any byte behind
+/// it 0.
 fn events_of_rows(definition: &Definition) -> Vec<Vec<u8>> {
     let mut events = vec![vec![]];
     let below = |bound: u8| (0..bound).map(|value| vec![value]).collect::<Vec<_>>();
@@ -62,7 +73,16 @@ fn events_of_rows(definition: &Definition) -> Vec<Vec<u8>> {
     for next in [requests, below(2), below(2), below(2), below(4), responses, below(4), below(4), forwards] {
         events = events.iter().flat_map(|event| next.iter().map(|next| [&event[..], next].concat())).collect();
     }
-    events.iter().map(|event| [&event[..], &[STATE_NOT_SEEN]].concat()).collect()
+    let behind = vec![0; definition.event_bytes() - byte::AFTER - 1];
+    events.iter().map(|event| [&event[..], &[STATE_NOT_SEEN], &behind].concat()).collect()
+}
+
+/// An event with every error of the forwarded data, where there is a byte for it.
+fn with_each_error(definition: &Definition, event: &[u8]) -> Vec<Vec<u8>> {
+    match definition.has_fwd_err() {
+        true => (0..4).map(|error| changed(event, byte::FWD_ERR, error)).collect(),
+        false => vec![event.to_vec()],
+    }
 }
 
 /// Facts about the rows that others computed: see docs/DECISIONS.md for those that the judge rests on.
@@ -83,10 +103,16 @@ fn facts_with_q4() {
     facts_at(&Definition::at_stage(4).unwrap());
 }
 
+/// The facts about the rows stay with Q-5, and no fact hangs on the error of the forwarded data.
+#[test]
+fn facts_with_q5() {
+    facts_at(&Definition::at_stage(5).unwrap());
+}
+
 /// Asserts the facts about the rows.
 fn facts_at(definition: &Definition) {
     let mut seen = BTreeSet::new();
-    for event in events_of_rows(definition) {
+    for event in events_of_rows(definition).iter().flat_map(|event| with_each_error(definition, event)) {
         let Alone { sets, duties, .. } = alone(definition, &event);
         let with = |place: usize, value: u8| {
             let mut other = event.clone();
@@ -115,6 +141,7 @@ fn facts_at(definition: &Definition) {
         }
         if sets != [0; 7] {
             assert!(event[byte::RESP_ERR] != 1 && event[byte::TAG_OP] != 3, "EXOK and Match fit no row");
+            assert!(event.get(byte::FWD_ERR).is_none_or(|error| [0, 2 * event[byte::FORWARDED]].contains(error)), "{event:?}");
             for after in 0..=STATE_NOT_SEEN {
                 let some = with(byte::AFTER, after);
                 let before: u8 = (0..7).filter(|n| some[*n] != 0).map(|n| 1 << n).sum();
@@ -130,20 +157,31 @@ fn facts_at(definition: &Definition) {
 /// One event alone is refused for its length, then for a byte outside its range, then for its request, which Q-4 may have added.
 #[test]
 fn events_refused() {
-    events_refused_but(&Definition::base(), &[1, 2, 4, 18, 20, 21, 22]);
-    events_refused_but(&Definition::at_stage(3).unwrap(), &[1, 2, 4, 18, 20, 21, 22]);
-    events_refused_but(&Definition::at_stage(4).unwrap(), &[1, 2, 4, 7, 9, 10, 18, 20, 21, 22]);
+    let good = [2, 0, 0, 0, 0, 0, 1, 1, 0, 0, 0, 0, 0, 7];
+    let limits = [255, 1, 1, 1, 3, 1, 31, 7, 7, 3, 3, 1, 7, 7];
+    events_refused_but(&Definition::base(), good, limits, &[1, 2, 4, 18, 20, 21, 22]);
+    events_refused_but(&Definition::at_stage(3).unwrap(), good, limits, &[1, 2, 4, 18, 20, 21, 22]);
+    events_refused_but(&Definition::at_stage(4).unwrap(), good, limits, &[1, 2, 4, 7, 9, 10, 18, 20, 21, 22]);
 }
 
-/// Asserts what one event alone is refused for where these requests are judged.
-fn events_refused_but(definition: &Definition, requests: &[u8]) {
-    let good = [2, 0, 0, 0, 0, 0, 1, 1, 0, 0, 0, 0, 0, 7];
+/// With Q-5 an event has 15 bytes, and the last one a range too.
+#[test]
+fn events_refused_with_q5() {
+    let good = [2, 0, 0, 0, 0, 0, 1, 1, 0, 0, 0, 0, 0, 7, 0];
+    let limits = [255, 1, 1, 1, 3, 1, 31, 7, 7, 3, 3, 1, 7, 7, 3];
+    events_refused_but(&Definition::at_stage(5).unwrap(), good, limits, &[1, 2, 4, 7, 9, 10, 18, 20, 21, 22]);
+}
+
+/// Asserts what one event alone is refused for where a good one, the limits of its bytes and the requests that are judged are these.
+fn events_refused_but<const BYTES: usize>(definition: &Definition, good: [u8; BYTES], limits: [u8; BYTES], requests: &[u8]) {
     let refused = |bytes: &[u8], refusal: u8| {
         let expected = Alone { refusal, ..Alone::default() };
         assert_eq!(alone(definition, bytes), expected, "{bytes:?}");
     };
-    [&[][..], &good[..13], &[good, good].concat(), &[255; 13]].iter().for_each(|bytes| refused(bytes, 1));
-    for (n, limit) in [255, 1, 1, 1, 3, 1, 31, 7, 7, 3, 3, 1, 7, 7].into_iter().enumerate().skip(1) {
+    let lengths = (0..=2 * BYTES).filter(|length| *length != BYTES);
+    lengths.for_each(|length| refused(&[good, good].concat()[..length], 1));
+    refused(&[255; BYTES][1..], 1);
+    for (n, limit) in limits.into_iter().enumerate().skip(1) {
         let mut bytes = good;
         bytes[n] = limit;
         assert_eq!(alone(definition, &bytes).refusal, 0);
@@ -168,11 +206,19 @@ fn listed(definition: &Definition, question: &str, answers: &str) {
     let words: Vec<&str> = question.split(' ').collect();
     let text = list_in_words(definition, &question_in_words(definition, &words).unwrap());
     let lines: Vec<&str> = text.lines().collect();
-    assert_eq!((lines[0], &lines[1..].join(" ")[..]), ("response,TagOp,RespErr,forward,final", answers), "{question}");
+    let header = ["response,TagOp,RespErr,forward,final", "response,TagOp,RespErr,forward,final,fwdErr"];
+    assert_eq!((lines[0], &lines[1..].join(" ")[..]), (header[usize::from(definition.has_fwd_err())], answers), "{question}");
     assert!(text.ends_with('\n'));
 }
 
-/// Lists worked out by hand, which Q-2 and Q-4 leave as they are.
+/// Answers of before Q-5 in words, with OK and with DERR on forwarded data.
+fn with_errors(answers: &str) -> String {
+    let errors = |answer: &str| if answer.contains(",CompData_") { vec!["OK", "DERR"] } else { vec!["-"] };
+    let each = answers.split_whitespace().flat_map(|answer| errors(answer).into_iter().map(move |error| format!("{answer},{error}")));
+    each.collect::<Vec<String>>().join(" ")
+}
+
+/// Lists worked out by hand, which Q-2 and Q-4 leave as they are, and to which Q-5 adds DERR on forwarded data.
 #[test]
 fn lists() {
     for (question, answers) in [
@@ -205,6 +251,7 @@ fn lists() {
         for stage in 1..=4 {
             listed(&Definition::at_stage(stage).unwrap(), question, answers);
         }
+        listed(&Definition::at_stage(5).unwrap(), question, &with_errors(answers));
     }
 }
 
@@ -238,29 +285,33 @@ fn lists_with_q2() {
         ),
     ] {
         [2, 3, 4].iter().for_each(|stage| listed(&Definition::at_stage(*stage).unwrap(), question, answers));
+        listed(&Definition::at_stage(5).unwrap(), question, &with_errors(answers));
     }
 }
 
 /// Every list has what the judgment of one event permits among all events of names, each answer once and in ascending order.
 #[test]
 fn lists_by_judgment() {
-    for (stage, questions) in [(1, 1_176), (2, 1_176), (4, 1_680)] {
-        lists_by_judgment_of(&Definition::at_stage(stage).unwrap(), questions);
+    for (stage, questions, longest) in [(1, 1_176, 29), (2, 1_176, 29), (4, 1_680, 29), (5, 1_680, 57)] {
+        lists_by_judgment_of(&Definition::at_stage(stage).unwrap(), questions, longest);
     }
 }
 
-/// Asserts that every list has what the judgment of one event permits, that there are so many, and that the longest has 29 answers.
-fn lists_by_judgment_of(definition: &Definition, questions: usize) {
+/// Asserts that every list has what the judgment of one event permits, that there are so many, and that the longest has so many
+/// answers.
+fn lists_by_judgment_of(definition: &Definition, questions: usize, longest: usize) {
     let mut lists: BTreeMap<Vec<u8>, BTreeSet<Vec<u8>>> = BTreeMap::new();
-    for event in events_of_rows(definition).iter().filter(|event| event[byte::TAG] != TAG_NOT_SEEN) {
-        for (before, set) in (0..).zip(alone(definition, event).sets) {
+    let events = events_of_rows(definition);
+    let seen = events.iter().filter(|event| event[byte::TAG] != TAG_NOT_SEEN);
+    for event in seen.flat_map(|event| with_each_error(definition, event)) {
+        for (before, set) in (0..).zip(alone(definition, &event).sets) {
             let list = lists.entry([&event[..BEFORE], &[before]].concat()).or_default();
             let after = (0..7).filter(|after| holds(set, *after));
-            list.extend(after.map(|after| [&event[BEFORE..byte::AFTER], &[after]].concat()));
+            list.extend(after.map(|after| changed(&event, byte::AFTER, after)[BEFORE..].to_vec()));
         }
     }
     assert_eq!(all_questions(definition), lists.keys().cloned().collect::<Vec<_>>());
-    assert_eq!((lists.len(), lists.values().map(BTreeSet::len).max()), (questions, Some(29)));
+    assert_eq!((lists.len(), lists.values().map(BTreeSet::len).max()), (questions, Some(longest)));
     for (question, list) in lists {
         assert_eq!(answers(definition, &question), list.into_iter().collect::<Vec<_>>(), "{question:?}");
     }
@@ -396,8 +447,9 @@ fn plain_column_follows_the_others() {
 #[test]
 fn sample_of_dropped_tags() {
     let sample = include_bytes!("../../../samples/dirty_tags.csv");
-    let told = |stage: usize| String::from_utf8(sheet::answer(&Definition::at_stage(stage).unwrap(), sample).output).unwrap();
-    let (before, after) = (told(1), told(2));
+    let told = |stage: usize, sheet: &[u8]| String::from_utf8(sheet::answer(&Definition::at_stage(stage).unwrap(), sheet).output).unwrap();
+    let (before, after) = (told(1, &before_q5(sample)), told(2, &before_q5(sample)));
+    assert_eq!(told(5, sample), after);
     let differ: Vec<(&str, &str)> = before.lines().zip(after.lines()).filter(|(old, new)| old != new).collect();
     assert_eq!(differ, [("1,explained,Home,I", "1,unexplained,none,"), ("2,explained,none,I", "2,not judged,none,")]);
     assert_eq!((before.lines().count(), after.lines().count()), (8, 8));
@@ -593,6 +645,7 @@ fn lists_with_q4() {
         ("SnpMakeInvalid 0 0 0 Dirty I", ""),
     ] {
         listed(&definition, question, answers);
+        listed(&Definition::at_stage(5).unwrap(), question, &with_errors(answers));
     }
 }
 
@@ -618,7 +671,9 @@ fn q4_only_adds_lists() {
 /// Every permitted step under tags that were seen: an event, the state before and the state after.
 fn permitted_steps(definition: &Definition) -> Vec<(Vec<u8>, u8, u8)> {
     let mut steps = Vec::new();
-    for event in events_of_rows(definition).into_iter().filter(|event| event[byte::TAG] != TAG_NOT_SEEN && has_a_step(definition, event)) {
+    let events = events_of_rows(definition);
+    let each = events.iter().flat_map(|event| with_each_error(definition, event));
+    for event in each.filter(|event| event[byte::TAG] != TAG_NOT_SEEN && has_a_step(definition, event)) {
         for (before, after) in (0..49).map(|n| (n / 7, n % 7)) {
             if permitted(definition, &event, event[byte::TAG], before, after) {
                 steps.push((event.clone(), before, after));
@@ -632,14 +687,18 @@ fn permitted_steps(definition: &Definition) -> Vec<(Vec<u8>, u8, u8)> {
 /// Home and the Requester is told.
 #[test]
 fn duty_clause() {
-    let definition = Definition::at_stage(4).unwrap();
+    [4, 5].iter().for_each(|stage| duty_clause_at(&Definition::at_stage(*stage).unwrap()));
+}
+
+/// Asserts the duty clause.
+fn duty_clause_at(definition: &Definition) {
     let mut passed_on = BTreeSet::new();
-    for (event, before, after) in permitted_steps(&definition) {
+    for (event, before, after) in permitted_steps(definition) {
         let (to_home, to_requester) = ([4, 5].contains(&event[byte::RESP]), [6, 7].contains(&event[byte::FWD_STATE]));
         let ends = holds_dirty(1 << before) && !holds_dirty(1 << after);
         if ends && event[byte::RESP_ERR] != NDERR && event[byte::REQUEST] != 10 {
             assert!(to_home != to_requester, "{event:?} from {before} to {after}");
-            let told = duty(&definition, &event, 1 << before);
+            let told = duty(definition, &event, 1 << before);
             assert_eq!(told, if to_home { 1 } else { 2 }, "{event:?} from {before} to {after}");
             passed_on.insert(event[byte::REQUEST]);
         } else {
@@ -652,26 +711,31 @@ fn duty_clause() {
 /// SnpMakeInvalid is answered with SnpResp_I alone: no permitted answer has PD, data or a forward.
 #[test]
 fn make_invalid_gives_nothing() {
-    let steps = permitted_steps(&Definition::at_stage(4).unwrap());
-    let own: Vec<_> = steps.into_iter().filter(|(event, _, _)| event[byte::REQUEST] == 10).collect();
-    // For 8 flags and 2 RespErrs: 7 states with Invalid and with Clean tags, 2 with Dirty ones.
-    assert_eq!(own.len(), 8 * 2 * (7 + 7 + 2));
-    for (event, _, after) in own {
-        assert_eq!(
-            (&event[byte::CHANNEL..=byte::TAG_OP], &event[byte::FORWARDED..=byte::FORWARDED_RESP]),
-            (&[0, 1, 0, 0, 0][..], &[0, 0][..])
-        );
-        assert_eq!(after, I);
+    for definition in [4, 5].map(|stage| Definition::at_stage(stage).unwrap()) {
+        let own: Vec<_> = permitted_steps(&definition).into_iter().filter(|(event, _, _)| event[byte::REQUEST] == 10).collect();
+        // For 8 flags and 2 RespErrs: 7 states with Invalid and with Clean tags, 2 with Dirty ones.
+        assert_eq!(own.len(), 8 * 2 * (7 + 7 + 2));
+        for (event, _, after) in own {
+            assert_eq!(
+                (&event[byte::CHANNEL..=byte::TAG_OP], &event[byte::FORWARDED..=byte::FORWARDED_RESP]),
+                (&[0, 1, 0, 0, 0][..], &[0, 0][..])
+            );
+            assert!(after == I && event.get(byte::FWD_ERR).is_none_or(|error| *error == 0));
+        }
     }
 }
 
 /// The row law: a line is Dirty after a step as it was before, or it was and no longer is, and the step has one of the four duties.
 #[test]
 fn row_law() {
-    let definition = Definition::at_stage(4).unwrap();
+    [4, 5].iter().for_each(|stage| row_law_at(&Definition::at_stage(*stage).unwrap()));
+}
+
+/// Asserts the row law.
+fn row_law_at(definition: &Definition) {
     let mut duties = BTreeSet::new();
-    for (event, before, after) in permitted_steps(&definition) {
-        let told = duty(&definition, &event, 1 << before);
+    for (event, before, after) in permitted_steps(definition) {
+        let told = duty(definition, &event, 1 << before);
         let [was, is] = [before, after].map(|state| u8::from(holds_dirty(1 << state)));
         assert_eq!(was, is + u8::from([1, 2, 3, 4].contains(&told)), "{event:?} from {before} to {after}");
         assert!(told != 4 || event[byte::REQUEST] == 10 && event[byte::RESP_ERR] == OK, "{event:?}");
@@ -701,12 +765,21 @@ const SAMPLES_OF_Q4: [Sample; 2] = [
     ),
 ];
 
+/// A sheet without its last column, which it has since Q-5.
+fn before_q5(sheet: &[u8]) -> Vec<u8> {
+    let text = String::from_utf8_lossy(sheet).to_string();
+    let lines = text.split_terminator("\r\n").map(|line| line.rsplit_once(',').map_or(line, |(line, _)| line));
+    lines.flat_map(|line| format!("{line}\r\n").into_bytes()).collect()
+}
+
 /// The samples of Q-4 are answered as they are by hand, and before it refused at the first of its names.
 #[test]
 fn samples_of_q4() {
     for (sample, answer, told) in SAMPLES_OF_Q4 {
-        answered(&Definition::at_stage(4).unwrap(), sample, told);
-        answered(&Definition::at_stage(3).unwrap(), sample, "0,explained,none,SD\r\nrefused,8,3\r\n");
+        let before = before_q5(sample);
+        answered(&Definition::at_stage(5).unwrap(), sample, told);
+        answered(&Definition::at_stage(4).unwrap(), &before, told);
+        answered(&Definition::at_stage(3).unwrap(), &before, "0,explained,none,SD\r\nrefused,8,3\r\n");
         assert_eq!(String::from_utf8_lossy(answer), format!("event,verdict,duty,states\r\n{told}"));
     }
 }
@@ -742,19 +815,27 @@ const WITH_NDERR: [u8; 14] = [2, 0, 0, 0, 3, 0, 1, 0, 0, 0, 3, 0, 0, 7];
 const TO_REQUESTER: [u8; 14] = [18, 0, 0, 0, 3, 0, 9, 1, 7, 0, 0, 1, 7, 7];
 
 /// A trace of some events, whose three other buffers hold bytes that no answer has.
-fn lent(events: &[[u8; 14]], pairs: &[u16], table: &[u8]) -> Lent {
+fn lent<const BYTES: usize>(events: &[[u8; BYTES]], pairs: &[u16], table: &[u8]) -> Lent {
     let mut lent = Lent { table: table.to_vec(), ..Lent::default() };
     events.iter().zip(pairs).for_each(|(event, pair)| lent.push(*pair, event, [201, 202, 203]));
     lent
 }
 
-/// A trace by hand: events, pairs and table, then verdicts, duties, after-sets and the table.
-type ByHand<'a> = (&'a [[u8; 14]], &'a [u16], &'a [u8], [&'a [u8]; 4]);
+/// A trace by hand: events of so many bytes, pairs and table, then verdicts, duties, after-sets and the table.
+type ByHand<'a, const BYTES: usize = 14> = (&'a [[u8; BYTES]], &'a [u16], &'a [u8], [&'a [u8]; 4]);
 
-/// Asserts that traces are judged as they are by hand, and that their histories say the same.
-fn judged_by_hand(definition: &Definition, traces: &[ByHand]) {
+/// An event with 0 for the bytes that it lacks.
+fn event_at(definition: &Definition, event: &[u8]) -> Vec<u8> {
+    let mut event = event.to_vec();
+    event.resize(definition.event_bytes(), 0);
+    event
+}
+
+/// Asserts that traces are judged as they are by hand, and that their histories say the same; events have 0 for bytes that they lack.
+fn judged_by_hand<const BYTES: usize>(definition: &Definition, traces: &[ByHand<BYTES>]) {
     for (events, pairs, table, [verdicts, duties, after_sets, table_after]) in traces {
-        let lent = lent(events, pairs, table);
+        let mut lent = lent(events, pairs, table);
+        lent.events = events.iter().flat_map(|event| event_at(definition, event)).collect();
         let mut after = lent.clone();
         [&mut after.verdicts, &mut after.duties, &mut after.after_sets, &mut after.table]
             .into_iter()
@@ -766,7 +847,7 @@ fn judged_by_hand(definition: &Definition, traces: &[ByHand]) {
     }
 }
 
-/// Traces worked out by hand, which requests up to Q-4 leave as they are.
+/// Traces worked out by hand, which requests up to Q-5 leave as they are.
 #[test]
 fn traces() {
     let traces: [ByHand; 9] = [
@@ -780,7 +861,7 @@ fn traces() {
         (&[], &[], &[0, 5, 127], [&[], &[], &[], &[0, 5, 127]]),
         (&[], &[], &[], [&[]; 4]),
     ];
-    [0, 1, 2, 3, 4].iter().for_each(|stage| judged_by_hand(&Definition::at_stage(*stage).unwrap(), &traces));
+    (0..=5).for_each(|stage| judged_by_hand(&Definition::at_stage(stage).unwrap(), &traces));
 }
 
 /// SnpMakeInvalid answered with SnpResp_I, tags and state after not seen.
@@ -832,7 +913,7 @@ fn traces_with_q4() {
             [&[0, 0, 0, 1], &[0, 3, 0, 0], &[64, 1, 1, 0], &[0, 0]],
         ),
     ];
-    judged_by_hand(&Definition::at_stage(4).unwrap(), &traces);
+    [4, 5].iter().for_each(|stage| judged_by_hand(&Definition::at_stage(*stage).unwrap(), &traces));
 }
 
 /// Refused traces: what is changed in the example over five pairs, and the refusal with its place; nothing lent changes.
@@ -1082,4 +1163,426 @@ fn captures_with_q4() {
         let before = capture::answer(&three, &records);
         assert_eq!((before.output, before.stop), (vec![], Some((5, 1))), "capture {n}");
     }
+}
+
+/// Events with errors on forwarded data, worked out by hand: the state before, the line, the states after and the duty.
+#[test]
+#[rustfmt::skip]
+fn errors_of_forwarded_data() {
+    let definition = Definition::at_stage(5).unwrap();
+    for (before, line, states, duty) in [
+        // Entry e with each error: DERR changes nothing, and the others fit no row.
+        ("UD", "0,SnpCleanFwd,0,0,0,Invalid,SnpResp_SC_Fwded_SD_PD,Invalid,OK,CompData_SD_PD,?,OK", "I SC", "Requester"),
+        ("UD", "0,SnpCleanFwd,0,0,0,Invalid,SnpResp_SC_Fwded_SD_PD,Invalid,OK,CompData_SD_PD,?,DERR", "I SC", "Requester"),
+        ("UD", "0,SnpCleanFwd,0,0,0,Invalid,SnpResp_SC_Fwded_SD_PD,Invalid,OK,CompData_SD_PD,?,EXOK", "", "none"),
+        ("UD", "0,SnpCleanFwd,0,0,0,Invalid,SnpResp_SC_Fwded_SD_PD,Invalid,OK,CompData_SD_PD,?,NDERR", "", "none"),
+        // Home gets no data, and so no DERR.
+        ("UD", "0,SnpCleanFwd,0,0,0,Invalid,SnpResp_SC_Fwded_SD_PD,Invalid,DERR,CompData_SD_PD,?,OK", "", "none"),
+        ("UD", "0,SnpCleanFwd,0,0,0,Invalid,SnpResp_SC_Fwded_SD_PD,Invalid,DERR,CompData_SD_PD,?,DERR", "", "none"),
+        // Home gets data too: either has DERR, or both, or none.
+        ("SD", "0,SnpNotSharedDirtyFwd,1,0,1,Clean,SnpRespData_SC_Fwded_SD_PD,Transfer,OK,CompData_SD_PD,SC,OK", "SC", "Requester"),
+        ("SD", "0,SnpNotSharedDirtyFwd,1,0,1,Clean,SnpRespData_SC_Fwded_SD_PD,Transfer,OK,CompData_SD_PD,SC,DERR", "SC", "Requester"),
+        ("SD", "0,SnpNotSharedDirtyFwd,1,0,1,Clean,SnpRespData_SC_Fwded_SD_PD,Transfer,DERR,CompData_SD_PD,SC,OK", "SC", "Requester"),
+        ("SD", "0,SnpNotSharedDirtyFwd,1,0,1,Clean,SnpRespData_SC_Fwded_SD_PD,Transfer,DERR,CompData_SD_PD,SC,DERR", "SC", "Requester"),
+        ("SD", "0,SnpNotSharedDirtyFwd,1,0,1,Clean,SnpRespData_SC_Fwded_SD_PD,Transfer,EXOK,CompData_SD_PD,SC,DERR", "", "none"),
+        ("SD", "0,SnpNotSharedDirtyFwd,1,0,1,Clean,SnpRespData_SC_Fwded_SD_PD,Transfer,NDERR,CompData_SD_PD,SC,DERR", "", "none"),
+        ("SD", "0,SnpNotSharedDirtyFwd,1,0,1,Clean,SnpRespData_SC_Fwded_SD_PD,Transfer,DERR,CompData_SD_PD,SC,NDERR", "", "none"),
+        // Entries g to k with DERR.
+        ("SD", "0,SnpCleanFwd,0,0,0,Dirty,SnpRespData_SC_PD_Fwded_SC,Update,OK,CompData_SC,?,DERR", "I SC", "Home"),
+        ("SD", "0,SnpCleanFwd,0,0,0,Dirty,SnpRespData_SC_PD_Fwded_SC,Update,DERR,CompData_SC,?,DERR", "I SC", "Home"),
+        ("SD", "0,SnpCleanFwd,0,0,0,Dirty,SnpRespData_SC_PD_Fwded_SC,Transfer,OK,CompData_SC,?,DERR", "", "none"),
+        ("UC", "0,SnpPreferUniqueFwd,0,0,0,Invalid,SnpResp_I_Fwded_UC,Invalid,OK,CompData_UC,?,DERR", "I", "none"),
+        ("UC", "0,SnpPreferUniqueFwd,0,0,1,Invalid,SnpResp_I_Fwded_UC,Invalid,OK,CompData_UC,?,DERR", "", "none"),
+        ("UC", "0,SnpPreferUniqueFwd,0,0,0,Invalid,SnpResp_SC_Fwded_SC,Invalid,OK,CompData_SC,?,DERR", "SC", "none"),
+        ("UD", "0,SnpPreferUniqueFwd,1,1,0,Clean,SnpResp_I_Fwded_UD_PD,Invalid,OK,CompData_UD_PD,I,DERR", "I", "Requester"),
+        // DERR makes no other CompData good, and needs one.
+        ("UD", "0,SnpCleanFwd,0,0,0,Invalid,SnpResp_SC_Fwded_SD_PD,Invalid,OK,CompData_SC,?,DERR", "", "none"),
+        ("UD", "0,SnpShared,0,0,0,Invalid,SnpResp_I,Invalid,NDERR,-,?,-", "I", "lost"),
+        ("UD", "0,SnpShared,0,0,0,Invalid,SnpResp_I,Invalid,NDERR,CompData_SC,?,DERR", "", "none"),
+    ] {
+        assert_eq!(from(&definition, before, line), (states.to_string(), duty), "{line} from {before}");
+    }
+}
+
+/// Without a forward the byte of its error is 0; any other in range is accepted and has no step, and what is past it is refused.
+#[test]
+fn no_forward_has_no_error() {
+    let definition = Definition::at_stage(5).unwrap();
+    let [to_sc, nderr, data] = [[0, 1, 1, 0, 0, 0], [0, 1, 0, 0, 0, 3], [1, 1, 5, 0, 2, 2]];
+    for (answer, sets, duties) in [
+        (to_sc, [0, 33, 0, 0, 0, 33, 0], [0; 7]),
+        (nderr, [1; 7], [0, 0, 0, 3, 3, 0, 3]),
+        (data, [0, 0, 0, 33, 0, 0, 33], [0, 0, 0, 1, 0, 0, 1]),
+    ] {
+        let told = |error: u8| alone(&definition, &[&[2, 0, 0, 0, 3][..], &answer, &[0, 0, 7, error]].concat());
+        assert_eq!(told(0), Alone { refusal: 0, place: 1, sets, duties });
+        [1, 2, 3].iter().for_each(|error| assert_eq!(told(*error), Alone { place: 1, ..Alone::default() }));
+        [4, 5, 128, 255].iter().for_each(|error| assert_eq!(told(*error), Alone { refusal: 4, ..Alone::default() }));
+    }
+}
+
+/// Over the whole sweep an event with 0 for the new byte is judged as its 14 bytes are before Q-5, one with DERR on forwarded data as
+/// with OK, and one with any other error in range is accepted and has no step.
+#[test]
+fn q5_judges_as_before() {
+    let [four, five] = [4, 5].map(|stage| Definition::at_stage(stage).unwrap());
+    let no_step = Alone { place: 1, ..Alone::default() };
+    let mut with_derr = 0;
+    for event in events_of_rows(&four) {
+        for after in 0..=STATE_NOT_SEEN {
+            let event = changed(&event, byte::AFTER, after);
+            let old = alone(&four, &event);
+            let derr = if event[byte::FORWARDED] == 1 { old } else { no_step };
+            let told = [0, 1, 2, 3].map(|error| alone(&five, &[&event[..], &[error]].concat()));
+            assert_eq!(told, [old, no_step, derr, no_step], "{event:?}");
+            with_derr += u32::from(derr != no_step);
+        }
+    }
+    // Each permitted event with a forward: by flags and tags, by TagOps with RespErrs, and by states after.
+    assert_eq!(with_derr, forwarding_by_hand());
+}
+
+/// How many events with a forward have a step, whatever the state after is, of any flags, tags, TagOp and RespErr.
+fn forwarding_by_hand() -> u32 {
+    // With Clean, Invalid and unseen tags: one TagOp without data; two TagOps and two RespErrs with data.
+    let (plain, data) = (3, 3 * 2 * 2);
+    // Under Dirty tags: SnpResp_SD too; with data to Home Transfer for SD, and Update for PD, which unseen tags take besides.
+    let (plain_sd, data_sd, data_pd) = (plain + 1, data + 2, data + 2 + 2);
+    // States after: what the answer says, or not seen; SC may be I, but not for SnpPreferUniqueFwd.
+    let (one, two) = (2, 3);
+    // For two snoops: DoNotGoToSD forbids SD, excl is ignored, and RetToSrc is asked for but with PD to Home.
+    let from_clean = 2 * 2 * (plain + data) * (two + one);
+    let to_sd = 2 * (plain_sd + data_sd) * one;
+    let to_requester = 2 * 2 * (plain + data) * (two + one);
+    let to_home = 2 * 2 * 2 * data_pd * (two + one);
+    // For SnpPreferUniqueFwd: B4.59 whatever excl is, and B4.60 where it is 0.
+    let unique = 2 * 2 * (plain + data) * one + to_sd + 2 * 2 * 2 * data_pd * one + 2 * 2 * (plain + plain) * one;
+    2 * (from_clean + to_sd + to_requester + to_home) + unique
+}
+
+/// From every set an event with 0 for the new byte is judged as before Q-5, and one with DERR on forwarded data as with OK.
+#[test]
+fn q5_keeps_verdicts_from_sets() {
+    let [four, five] = [4, 5].map(|stage| Definition::at_stage(stage).unwrap());
+    for event in events_of_rows(&four).iter().filter(|event| has_a_step(&four, event)) {
+        for set in 0..=ALL_STATES {
+            let old = judge_event(&four, event, set);
+            let none = [if set == 0 { NOT_JUDGED } else { UNEXPLAINED }, 0, 0];
+            let derr = if event[byte::FORWARDED] == 1 { old } else { none };
+            let told = [0, 1, 2, 3].map(|error| judge_event(&five, &[&event[..], &[error]].concat(), set));
+            assert_eq!(told, [old, none, derr, none], "{event:?} from {set}");
+        }
+    }
+}
+
+/// Every list has with Q-5 the old answers with 0 for the new byte, and those with a forward with DERR besides; the longest has 57.
+#[test]
+fn q5_only_adds_derr_to_lists() {
+    let [four, five] = [4, 5].map(|stage| Definition::at_stage(stage).unwrap());
+    let mut longest = 0;
+    for question in all_questions(&four) {
+        let mut expected: Vec<Vec<u8>> = Vec::new();
+        for answer in answers(&four, &question) {
+            expected.push([&answer[..], &[OK]].concat());
+            if answer[byte::FORWARDED - byte::CHANNEL] == 1 {
+                expected.push([&answer[..], &[DERR]].concat());
+            }
+        }
+        assert_eq!(answers(&five, &question), expected, "{question:?}");
+        longest = longest.max(expected.len());
+    }
+    assert_eq!((longest, all_questions(&five)), (57, all_questions(&four)));
+    assert_eq!(answers(&five, &[18, 1, 0, 0, 0, 3]).len(), 57);
+}
+
+/// Lists with errors on forwarded data, worked out by hand.
+#[test]
+fn lists_with_q5() {
+    let definition = Definition::at_stage(5).unwrap();
+    for (question, answers) in [
+        ("SnpShared 0 0 0 Invalid I", "SnpResp_I,Invalid,OK,-,I,- SnpResp_I,Invalid,NDERR,-,I,-"),
+        ("SnpMakeInvalid 1 1 1 Dirty UD", "SnpResp_I,Invalid,OK,-,I,- SnpResp_I,Invalid,NDERR,-,I,-"),
+        ("SnpCleanFwd 0 0 0 Dirty UC", ""),
+        (
+            "SnpPreferUniqueFwd 0 0 0 Invalid UC",
+            "SnpResp_I,Invalid,NDERR,-,I,- SnpResp_I_Fwded_UC,Invalid,OK,CompData_UC,I,OK \
+             SnpResp_I_Fwded_UC,Invalid,OK,CompData_UC,I,DERR SnpResp_SC_Fwded_SC,Invalid,OK,CompData_SC,SC,OK \
+             SnpResp_SC_Fwded_SC,Invalid,OK,CompData_SC,SC,DERR",
+        ),
+        (
+            "SnpCleanFwd 0 1 0 Invalid SC",
+            "SnpResp_I,Invalid,NDERR,-,I,- SnpResp_I_Fwded_SC,Invalid,OK,CompData_SC,I,OK \
+             SnpResp_I_Fwded_SC,Invalid,OK,CompData_SC,I,DERR SnpResp_SC_Fwded_SC,Invalid,OK,CompData_SC,I,OK \
+             SnpResp_SC_Fwded_SC,Invalid,OK,CompData_SC,I,DERR SnpResp_SC_Fwded_SC,Invalid,OK,CompData_SC,SC,OK \
+             SnpResp_SC_Fwded_SC,Invalid,OK,CompData_SC,SC,DERR",
+        ),
+        (
+            "SnpNotSharedDirtyFwd 1 1 0 Dirty SD",
+            "SnpResp_I,Invalid,NDERR,-,I,- SnpRespData_I_PD_Fwded_SC,Update,OK,CompData_SC,I,OK \
+             SnpRespData_I_PD_Fwded_SC,Update,OK,CompData_SC,I,DERR SnpRespData_I_PD_Fwded_SC,Update,DERR,CompData_SC,I,OK \
+             SnpRespData_I_PD_Fwded_SC,Update,DERR,CompData_SC,I,DERR SnpRespData_SC_PD_Fwded_SC,Update,OK,CompData_SC,I,OK \
+             SnpRespData_SC_PD_Fwded_SC,Update,OK,CompData_SC,I,DERR SnpRespData_SC_PD_Fwded_SC,Update,OK,CompData_SC,SC,OK \
+             SnpRespData_SC_PD_Fwded_SC,Update,OK,CompData_SC,SC,DERR SnpRespData_SC_PD_Fwded_SC,Update,DERR,CompData_SC,I,OK \
+             SnpRespData_SC_PD_Fwded_SC,Update,DERR,CompData_SC,I,DERR SnpRespData_SC_PD_Fwded_SC,Update,DERR,CompData_SC,SC,OK \
+             SnpRespData_SC_PD_Fwded_SC,Update,DERR,CompData_SC,SC,DERR",
+        ),
+    ] {
+        listed(&definition, question, answers);
+    }
+}
+
+/// With Q-5 a list needs ten bytes for each answer, and with fewer nothing is written.
+#[test]
+fn rooms_with_q5() {
+    let definition = Definition::at_stage(5).unwrap();
+    let refused = |question: [u8; 6], length: usize, refusal: u8| {
+        let room = vec![7; length];
+        assert_eq!(list(&definition, &question, &room), Listed { refusal, count: 0, room: room.clone() }, "{length}");
+    };
+    (0..20).for_each(|length| refused([1, 0, 0, 0, 0, 0], length, 9));
+    for more in [0, 1, 10, 100] {
+        let own = list(&definition, &[1, 0, 0, 0, 0, 0], &vec![7; 20 + more]);
+        let room = [&[0, 1, 0, 0, 0, 0, 0, 0, 0, 0, 0, 1, 0, 0, 0, 3, 0, 0, 0, 0], &vec![7; more][..]].concat();
+        assert_eq!(own, Listed { refusal: 0, count: 2, room });
+    }
+    [0, 512, 513, 514, 568, 569].iter().for_each(|length| refused([18, 1, 0, 0, 0, 3], *length, 9));
+    let own = list(&definition, &[18, 1, 0, 0, 0, 3], &[7; 571]);
+    assert_eq!((own.refusal, own.count, own.room[570]), (0, 57, 7));
+    // The first answer that forwards, with OK and with DERR, and the last one.
+    assert_eq!(own.room[10..30], [1, 6, 0, 7, 0, 0, 1, 7, 0, 0, 1, 6, 0, 7, 0, 0, 1, 7, 0, 2]);
+    assert_eq!(own.room[560..570], [1, 6, 5, 1, 1, 2, 1, 1, 5, 2]);
+    refused([18, 1, 0, 0, 3, 3], 571, 4);
+    refused([19, 1, 0, 0, 0, 3], 571, 5);
+    refused([1, 0, 0, 0, 2, 1], 0, 0);
+}
+
+/// SnpCleanFwd answered with SnpResp_SC_Fwded_SD_PD, the forwarded data having DERR.
+const TO_REQUESTER_WITH_DERR: [u8; 15] = [18, 0, 0, 0, 3, 0, 9, 1, 7, 0, 0, 1, 7, 7, 2];
+/// The same, the forwarded data having NDERR.
+const TO_REQUESTER_WITH_NDERR: [u8; 15] = [18, 0, 0, 0, 3, 0, 9, 1, 7, 0, 0, 1, 7, 7, 3];
+/// SnpCleanFwd answered with SnpRespData_SC_PD_Fwded_SC, Home's data having DERR and the forwarded data too.
+const TO_HOME_WITH_DERR: [u8; 15] = [18, 1, 0, 0, 3, 1, 6, 5, 1, 1, 2, 1, 1, 5, 2];
+/// SnpClean answered with SnpResp_SC and DERR of a forward that isn't there.
+const NO_FORWARD_WITH_DERR: [u8; 15] = [2, 0, 0, 0, 3, 0, 1, 1, 0, 0, 0, 0, 0, 7, 2];
+
+/// Traces with errors on forwarded data, worked out by hand.
+#[test]
+fn traces_with_q5() {
+    let ok = changed(&TO_REQUESTER_WITH_DERR, byte::FWD_ERR, 0).try_into().unwrap();
+    let exok = changed(&TO_REQUESTER_WITH_DERR, byte::FWD_ERR, 1).try_into().unwrap();
+    let no_error = changed(&NO_FORWARD_WITH_DERR, byte::FWD_ERR, 0).try_into().unwrap();
+    let traces: [ByHand<15>; 7] = [
+        (&[TO_REQUESTER_WITH_DERR; 3], &[0, 1, 2], &[64, 55, 0], [&[0, 1, 2], &[2, 0, 0], &[33, 0, 0], &[33, 0, 0]]),
+        (&[TO_REQUESTER_WITH_NDERR; 3], &[0, 1, 2], &[64, 127, 0], [&[1, 1, 2], &[0; 3], &[0; 3], &[0; 3]]),
+        (&[exok, ok, TO_REQUESTER_WITH_DERR], &[0, 1, 2], &[8, 8, 8], [&[1, 0, 0], &[0, 2, 2], &[0, 33, 33], &[0, 33, 33]]),
+        (&[TO_REQUESTER_WITH_NDERR, ok], &[0, 0], &[127], [&[1, 2], &[0, 0], &[0, 0], &[0]]),
+        (&[TO_HOME_WITH_DERR, no_error], &[0, 0], &[127], [&[0, 0], &[1, 0], &[32, 33], &[33]]),
+        (&[NO_FORWARD_WITH_DERR, no_error, no_error], &[0, 0, 1], &[127, 32], [&[1, 2, 0], &[0; 3], &[0, 0, 33], &[0, 33]]),
+        (&[ok, TO_REQUESTER_WITH_DERR], &[0, 0], &[72], [&[0, 1], &[2, 0], &[33, 0], &[0]]),
+    ];
+    judged_by_hand(&Definition::at_stage(5).unwrap(), &traces);
+}
+
+/// A trace of so many bytes of events and so many of all that goes with events, all of them 0, over one pair.
+fn zeros(bytes: usize, events: usize) -> Lent {
+    let [verdicts, duties, after_sets] = [0, 0, 0].map(|byte| vec![byte; events]);
+    Lent { events: vec![0; bytes], pairs: vec![0; 2 * events], table: vec![127], verdicts, duties, after_sets }
+}
+
+/// Traces refused with Q-5: what is changed in the example over five pairs, and the refusal with its place.
+#[test]
+fn traces_refused_with_q5() {
+    let definition = Definition::at_stage(5).unwrap();
+    let example = EXAMPLE.map(|event| <[u8; 15]>::try_from(event_at(&definition, &event)).unwrap());
+    let changes: [(fn(&mut Lent), u8, usize); 16] = [
+        (|lent| lent.events.truncate(59), 1, 0),
+        (|lent| lent.events.truncate(56), 1, 0),
+        (|lent| lent.events.truncate(45), 1, 0),
+        (|lent| lent.events.push(0), 1, 0),
+        (|lent| lent.events.extend([0; 15]), 1, 0),
+        (|lent| lent.events[14] = 4, 4, 0),
+        (|lent| lent.events[29] = 255, 4, 1),
+        (|lent| lent.events[59] = 4, 4, 3),
+        (|lent| (lent.events[14], lent.events[59]) = (3, 4), 4, 3),
+        (|lent| (lent.events[15], lent.events[29]) = (0, 4), 4, 1),
+        (|lent| (lent.events[0], lent.events[29]) = (0, 4), 5, 0),
+        (|lent| (lent.pairs[2], lent.events[29]) = (5, 4), 3, 1),
+        (|lent| (lent.pairs[4], lent.events[29]) = (5, 4), 4, 1),
+        (|lent| (lent.table[4], lent.events[14]) = (128, 4), 2, 4),
+        // Fifteen old events have as many bytes as fourteen new ones.
+        (|lent| *lent = zeros(210, 15), 1, 0),
+        (|lent| lent.events = EXAMPLE.concat(), 1, 0),
+    ];
+    for (n, (change, refusal, place)) in changes.into_iter().enumerate() {
+        let mut lent = lent(&example, &[0, 1, 0, 4], &[127; 5]);
+        change(&mut lent);
+        assert_eq!(judge(&definition, &lent), Judged { refusal, place, lent: lent.clone() }, "change {n}");
+    }
+    for error in [1, 2, 3] {
+        let mut lent = lent(&example, &[0, 1, 0, 4], &[127; 5]);
+        lent.events[29] = error;
+        let judged = judge(&definition, &lent);
+        assert_eq!((judged.refusal, judged.place, &judged.lent.verdicts[..]), (0, 4, &[0, 1, 1, 0][..]));
+    }
+    let most = |events: usize| lent(&vec![TO_REQUESTER_WITH_DERR; events], &vec![4_095; events], &[8; 4_096]);
+    let judged = judge(&definition, &most(4_096));
+    assert_eq!((judged.refusal, judged.place, &judged.lent.duties[..2]), (0, 4_096, &[2, 0][..]));
+    assert_eq!(judge(&definition, &most(4_097)).refusal, 1);
+}
+
+/// A line that forwards with the duty to the Requester, as it was before Q-5.
+const FORWARDS: &str = "5,SnpCleanFwd,0,0,0,?,SnpResp_SC_Fwded_SD_PD,Invalid,OK,CompData_SD_PD,?";
+
+/// Sheets with Q-5's column, worked out by hand.
+#[test]
+fn sheets_with_q5() {
+    let definition = Definition::at_stage(5).unwrap();
+    let head = HEAD.replace("final\r\n", "final,fwdErr\r\n");
+    let exchanged = HEAD.replace("final\r\n", "fwdErr,final\r\n");
+    let (requester, unexplained) = ("0,explained,Requester,I SC\r\n", "0,unexplained,none,\r\n");
+    let x = "x".repeat(200);
+    let sheets = [
+        (format!("{head}{GOOD},-\r\n"), TOLD.to_string()),
+        (format!("{head}{GOOD},-"), TOLD.to_string()),
+        (head.clone(), String::new()),
+        // The old header, whatever stands behind it, and a new one in another order.
+        (HEAD.to_string(), "refused,6,1\r\n".to_string()),
+        (format!("{HEAD}{GOOD}\r\n"), "refused,6,1\r\n".to_string()),
+        (format!("{HEAD}{GOOD},-\r\n"), "refused,6,1\r\n".to_string()),
+        (format!("{exchanged}{GOOD},-\r\n"), "refused,6,1\r\n".to_string()),
+        (format!("{},\r\n{GOOD},-\r\n", HEAD.trim_end()), "refused,6,1\r\n".to_string()),
+        // Eleven fields and thirteen.
+        (format!("{head}{GOOD}\r\n"), "refused,8,2\r\n".to_string()),
+        (format!("{head}{GOOD},-\r\n{GOOD}\r\n"), format!("{TOLD}refused,8,3\r\n")),
+        (format!("{head}{FORWARDS}\r\n"), "refused,8,2\r\n".to_string()),
+        (format!("{head}{GOOD},-,-\r\n"), "refused,8,2\r\n".to_string()),
+        (format!("{head}{GOOD},-,\r\n"), "refused,8,2\r\n".to_string()),
+        (format!("{head}{GOOD},\r\n"), "refused,8,2\r\n".to_string()),
+        // The error before the final state.
+        (format!("{head}{},-,?\r\n", &GOOD[..GOOD.len() - 2]), "refused,8,2\r\n".to_string()),
+        // - in one column alone.
+        (format!("{head}{FORWARDS},-\r\n"), "refused,8,2\r\n".to_string()),
+        (format!("{head}{GOOD},OK\r\n"), "refused,8,2\r\n".to_string()),
+        (format!("{head}{GOOD},DERR\r\n"), "refused,8,2\r\n".to_string()),
+        // 8 comes before 3, and 7 before 8.
+        (format!("{head}4096{},-\r\n", &FORWARDS[1..]), "refused,8,2\r\n".to_string()),
+        (format!("{head}4096{},OK\r\n", &FORWARDS[1..]), "refused,3,2\r\n".to_string()),
+        (format!("{head}4096{},-\r\n", &GOOD[1..]), "refused,3,2\r\n".to_string()),
+        (format!("{head}{GOOD}{},OK\r\n", &x[..99]), "refused,8,2\r\n".to_string()),
+        (format!("{head}{GOOD}{},OK\r\n", &x[..100]), "refused,7,2\r\n".to_string()),
+        // Each name.
+        (format!("{head}{FORWARDS},OK\r\n"), requester.to_string()),
+        (format!("{head}{FORWARDS},DERR\r\n"), requester.to_string()),
+        (format!("{head}{FORWARDS},EXOK\r\n"), unexplained.to_string()),
+        (format!("{head}{FORWARDS},NDERR\r\n"), unexplained.to_string()),
+        (format!("{head}{FORWARDS},NDERR\r\n{FORWARDS},OK"), format!("{unexplained}1,not judged,none,\r\n")),
+    ];
+    for (sheet, output) in sheets {
+        answered(&definition, sheet.as_bytes(), &output);
+        // Before Q-5 its header was another one.
+        if sheet.starts_with(&head) {
+            answered(&Definition::at_stage(4).unwrap(), sheet.as_bytes(), "refused,6,1\r\n");
+        }
+    }
+}
+
+/// The names of fwdErr with a forward and without, and fields that it doesn't know.
+#[test]
+fn fields_with_q5() {
+    let definition = Definition::at_stage(5).unwrap();
+    let head = HEAD.replace("final\r\n", "final,fwdErr\r\n");
+    let refused = |line: &str, field: &str| sheet::answer(&definition, format!("{head}{line},{field}").as_bytes()).refusal;
+    for field in ["OK", "EXOK", "DERR", "NDERR"] {
+        assert_eq!((refused(FORWARDS, field), refused(GOOD, field)), (None, Some((8, 2))), "{field}");
+    }
+    assert_eq!((refused(FORWARDS, "-"), refused(GOOD, "-")), (Some((8, 2)), None));
+    for field in ["", " ", "?", "--", "Ok", "ok", "OK ", " OK", "OKAY", "EXOKAY", "DERr", "NDERRR", "0", "2", "CompData_SC", "\"OK\""] {
+        assert_eq!((refused(FORWARDS, field), refused(GOOD, field)), (Some((8, 2)), Some((8, 2))), "{field}");
+    }
+}
+
+/// Captures with Q-5's mark and byte, worked out by hand.
+#[test]
+#[rustfmt::skip]
+fn captures_with_q5() {
+    let [four, five] = [4, 5].map(|stage| Definition::at_stage(stage).unwrap());
+    let old = |pair: u16, event: &[u8]| [&pair.to_le_bytes()[..], event].concat();
+    let record = |pair: u16, event: &[u8]| old(pair, &event_at(&five, event));
+    let mark = b"CHI\x0f".to_vec();
+    let example = EXAMPLE.map(|event| record(0, &event)).concat();
+    let plain = |count: usize| record(1, &[1, 0, 0, 0, 3, 0, 1, 0, 0, 0, 0, 0, 0, 7]).repeat(count);
+    let old_plain = |count: usize| old(1, &[1, 0, 0, 0, 3, 0, 1, 0, 0, 0, 0, 0, 0, 7]).repeat(count);
+    let bad = record(0, &changed(&TO_REQUESTER_WITH_DERR, byte::FWD_ERR, 4));
+    let captures: [CaptureByHand; 24] = [
+        // No mark, a cut one, another one, an old capture.
+        (vec![], "", Some((1, 0))),
+        (b"C".to_vec(), "", Some((1, 0))),
+        (b"CH".to_vec(), "", Some((1, 0))),
+        (b"CHI".to_vec(), "", Some((1, 0))),
+        (b"CHI\x0e".to_vec(), "", Some((1, 0))),
+        ([b"CHI\x0e", &example[..]].concat(), "", Some((1, 0))),
+        ([b"CHI\x0e", &old_plain(3)[..]].concat(), "", Some((1, 0))),
+        ([b"chi\x0f", &example[..]].concat(), "", Some((1, 0))),
+        ([b"\nCHI\x0f", &example[..]].concat(), "", Some((1, 0))),
+        (example.clone(), "", Some((1, 0))),
+        (old_plain(1), "", Some((1, 0))),
+        (old_plain(17), "", Some((1, 0))),
+        // The mark, and records as before.
+        (mark.clone(), "0 events: 0 explained, 0 unexplained, 0 not judged\n", None),
+        ([&mark[..], &example].concat(), "event 0, pair 0: Home holds the duty\nevent 2, pair 0: unexplained\n\
+             4 events: 2 explained, 1 unexplained, 1 not judged\n", None),
+        ([&mark[..], &record(9, &TO_REQUESTER_WITH_DERR), &record(300, &TO_HOME_WITH_DERR)].concat(),
+             "event 0, pair 9: the Requester holds the duty\nevent 1, pair 300: Home holds the duty\n\
+             2 events: 2 explained, 0 unexplained, 0 not judged\n", None),
+        ([&mark[..], &record(9, &TO_REQUESTER_WITH_NDERR), &record(9, &TO_SC)].concat(),
+             "event 0, pair 9: unexplained\n2 events: 0 explained, 1 unexplained, 1 not judged\n", None),
+        ([&mark[..], &record(9, &NO_FORWARD_WITH_DERR)].concat(),
+             "event 0, pair 9: unexplained\n1 events: 0 explained, 1 unexplained, 0 not judged\n", None),
+        ([&mark[..], &plain(4_097)].concat(), "4097 events: 4097 explained, 0 unexplained, 0 not judged\n", None),
+        ([&mark[..], &example, &bad].concat(), "", Some((4, 4))),
+        ([&mark[..], &example[..17], &plain(4_095), &bad].concat(), "event 0, pair 0: Home holds the duty\n", Some((4, 4_096))),
+        ([&mark[..], &example[..16]].concat(), "", Some((0, 0))),
+        ([&mark[..], &example, &[0]].concat(), "", Some((0, 4))),
+        // The mark twice is a pair that isn't there, and old records are no new ones.
+        ([&mark[..], &mark, &plain(1)[..13]].concat(), "", Some((3, 0))),
+        ([&mark[..], &old_plain(17)].concat(), "", Some((4, 1))),
+    ];
+    for (n, (capture, output, stop)) in captures.into_iter().enumerate() {
+        let own = capture::answer(&five, &capture);
+        assert_eq!((String::from_utf8_lossy(&own.output), own.stop), (output.into(), stop), "capture {n}");
+    }
+    let no_mark = capture::answer(&five, &example);
+    assert_eq!((no_mark.message(), no_mark.told), ("capture: refused with 1 at event 0\n".to_string(), vec![]));
+    // Before Q-5 there was no mark.
+    assert_eq!(capture::answer(&four, &[]).stop, None);
+    assert_eq!(capture::answer(&four, &mark).stop, Some((0, 0)));
+    assert_eq!(capture::answer(&four, &old_plain(17)).told.len(), 17);
+    let head = HEAD.replace("final\r\n", "final,fwdErr\r\n");
+    let sheet = format!("{head}{GOOD},-\r\n{FORWARDS},DERR\r\n{FORWARDS},-\r\n");
+    let expected = [mark.clone(), record(0, &EXAMPLE[0]), record(5, &TO_REQUESTER_WITH_DERR)].concat();
+    assert_eq!(capture::of_sheet(&five, sheet.as_bytes()), (expected, Some((8, 4))));
+    assert_eq!(capture::of_sheet(&five, HEAD.as_bytes()), (mark, Some((6, 1))));
+}
+
+/// The samples of Q-5 are answered as they are by hand.
+#[test]
+fn samples_of_q5() {
+    let [four, five] = [4, 5].map(|stage| Definition::at_stage(stage).unwrap());
+    let sample = include_bytes!("../../../samples/forwarded_error.csv");
+    answered(
+        &five,
+        sample,
+        "0,explained,none,SD\r\n1,explained,Requester,I SC\r\n2,explained,Requester,I\r\n3,explained,Home,SC\r\n\
+         4,explained,none,I SC\r\n5,explained,Requester,SC\r\n6,unexplained,none,\r\n7,not judged,none,\r\n",
+    );
+    let told = capture::answer(&five, include_bytes!("../../../samples/forwarded_error.capture"));
+    let by_hand = "event 1, pair 70: the Requester holds the duty\nevent 2, pair 71: the Requester holds the duty\n\
+         event 3, pair 72: Home holds the duty\nevent 5, pair 73: the Requester holds the duty\nevent 6, pair 73: unexplained\n\
+         8 events: 6 explained, 1 unexplained, 1 not judged\n";
+    assert_eq!((String::from_utf8_lossy(&told.output), told.stop), (by_hand.into(), None));
+    // The morning of before Q-5 was answered before it as the morning is from then on.
+    let (before, now) = (include_bytes!("../../../samples/before_fwd_err.csv"), include_bytes!("../../../samples/morning.csv"));
+    answered(&five, before, "refused,6,1\r\n");
+    assert_eq!(before_q5(now), before);
+    assert_eq!(sheet::answer(&four, before).output, sheet::answer(&five, now).output);
 }

@@ -1,6 +1,6 @@
 //! The values that the documents fix, and what each follow-up request changes in them.
 
-use crate::definition::codes::{Forward, Response};
+use crate::definition::codes::{byte, Forward, Response, DERR, OK};
 use crate::definition::rows::{rows, Row, B4_46, B4_60, PRINTED, PRINTED_BY_Q4, SNP_CLEAN_INVALID, SNP_MAKE_INVALID, SNP_UNIQUE, TABLES};
 use crate::definition::tag_ops::TagColumn;
 
@@ -19,6 +19,8 @@ pub struct Definition {
     pub tag_columns: Vec<(&'static str, TagColumn)>,
     /// The requests whose OK answer throws a Dirty line away on purpose.
     pub discarding: Vec<u8>,
+    /// The errors that forwarded data can have, none where an event has no byte for them.
+    pub forwarded_errors: Vec<u8>,
     /// The most events that a trace can have.
     pub most_events: usize,
     /// The most pairs that a table of sets can have, and how many a sheet has.
@@ -31,16 +33,18 @@ pub struct Definition {
     pub longest_line: usize,
     /// The most lines that a sheet can have.
     pub most_lines: usize,
+    /// What a capture begins with, ahead of its records.
+    pub capture_mark: &'static [u8],
 }
 
 /// The last follow-up request that is in force, or 0 where none is.
-pub const IN_FORCE: usize = 4;
+pub const IN_FORCE: usize = 5;
 
 /// Changes a definition as a follow-up request asks.
 type Change = fn(&mut Definition);
 
 /// What follow-up requests change, each by its number.
-const CHANGES: &[(usize, Change)] = &[(2, tags_of_plain_snoops), (4, invalidating_snoops)];
+const CHANGES: &[(usize, Change)] = &[(2, tags_of_plain_snoops), (4, invalidating_snoops), (5, error_of_forwarded_data)];
 
 /// plain data no longer carries any TagOp up to Update.
 fn tags_of_plain_snoops(definition: &mut Definition) {
@@ -57,6 +61,15 @@ fn invalidating_snoops(definition: &mut Definition) {
     definition.set_tag_column(SNP_UNIQUE, TagColumn::Plain);
     definition.set_tag_column(SNP_CLEAN_INVALID, TagColumn::Plain);
     definition.discarding.push(10);
+}
+
+/// an event has a byte more, for the error of the forwarded data, a sheet has a column for it, and a capture has a mark.
+fn error_of_forwarded_data(definition: &mut Definition) {
+    definition.limits.push(3);
+    definition.forwarded_errors = vec![OK, DERR];
+    definition.header = "pair,request,RetToSrc,DoNotGoToSD,excl,tag,response,TagOp,RespErr,forward,final,fwdErr";
+    // The last byte is how many an event has.
+    definition.capture_mark = &[b'C', b'H', b'I', 15];
 }
 
 impl Definition {
@@ -82,12 +95,14 @@ impl Definition {
                 (B4_60, TagColumn::Forwarding),
             ],
             discarding: vec![],
+            forwarded_errors: vec![],
             most_events: 4_096,
             most_pairs: 4_096,
             header: "pair,request,RetToSrc,DoNotGoToSD,excl,tag,response,TagOp,RespErr,forward,final",
             pair_digits: 4,
             longest_line: 160,
             most_lines: 1_000_001,
+            capture_mark: &[],
         }
     }
 
@@ -126,6 +141,11 @@ impl Definition {
     /// How many bytes an event has.
     pub fn event_bytes(&self) -> usize {
         self.limits.len()
+    }
+
+    /// Whether an event has a byte for the error of the forwarded data.
+    pub fn has_fwd_err(&self) -> bool {
+        self.event_bytes() > byte::FWD_ERR
     }
 
     /// The responses that the rows name, each once.
@@ -174,9 +194,9 @@ mod tests {
     /// change no value, so that stage 1 is document 01 and stage 3 is stage 2.
     #[test]
     fn stages_without_a_change() {
-        let [zero, one, two, three, four] = [0, 1, 2, 3, 4].map(|request| format!("{:?}", Definition::at_stage(request).unwrap()));
+        let [zero, one, two, three, four, five] = [0, 1, 2, 3, 4, 5].map(|request| format!("{:?}", Definition::at_stage(request).unwrap()));
         assert_eq!((&zero, &two), (&one, &three));
-        assert!(one != two && three != four);
+        assert!(one != two && three != four && four != five);
     }
 
     /// Q-4 keeps all requests, tables, rows, tag columns and limits that there were, and adds three snoops with their rows.
@@ -190,5 +210,19 @@ mod tests {
         assert_eq!(four.tag_columns[..three.tag_columns.len()], three.tag_columns);
         assert_eq!(format!("{:?}", &four.rows[..three.rows.len()]), format!("{:?}", three.rows));
         assert_eq!((four.rows.len() - three.rows.len(), &four.limits), (12, &three.limits));
+    }
+
+    /// Q-5 adds a byte, a column and a mark, whose last byte is the length of an event, and changes nothing else.
+    #[test]
+    fn q5_keeps_what_was() {
+        let [four, mut five] = [4, 5].map(|request| Definition::at_stage(request).unwrap());
+        assert_eq!([four.event_bytes(), five.event_bytes()], [14, 15]);
+        assert_eq!([four.has_fwd_err(), five.has_fwd_err()], [false, true]);
+        assert_eq!((four.capture_mark, five.capture_mark), (&b""[..], &b"CHI\x0f"[..]));
+        assert_eq!(five.header, format!("{},fwdErr", four.header));
+        assert_eq!((five.limits.pop(), &five.forwarded_errors), (Some(3), &vec![0, 2]));
+        five.forwarded_errors.clear();
+        (five.header, five.capture_mark) = (four.header, four.capture_mark);
+        assert_eq!(format!("{five:?}"), format!("{four:?}"));
     }
 }

@@ -1,9 +1,9 @@
 //! The wrong judges, each with what it does.
 
-use crate::cases::text::fields_of;
+use crate::cases::text::{fields_of, line_of, Fields};
 use crate::cases::wire::{handed_over, lent_in, number, question_in, trace_case, LIST_PLACE};
 use crate::definition::answers::{answer_bytes, answers, list, BEFORE, QUESTION_BYTES};
-use crate::definition::capture::{self, record_bytes};
+use crate::definition::capture::{self, record_bytes, records_in};
 use crate::definition::codes::*;
 use crate::definition::event::{alone, is_request, refusal};
 use crate::definition::rows::{rows as printed, Row, B4_46, B4_60, NDERR_ROW, SNP_CLEAN_INVALID, SNP_MAKE_INVALID, SNP_UNIQUE};
@@ -19,6 +19,17 @@ use Flaw::{Gets, Given, Tells, Value};
 
 /// The requests of Q-4.
 const OF_Q4: [u8; 3] = [7, 9, 10];
+
+/// How many bytes an event had before Q-5.
+const OLD_BYTES: usize = 14;
+
+/// The places of columns of a sheet that Q-5 is about.
+mod column {
+    pub const RESP_ERR: usize = 8;
+    pub const FORWARD: usize = 9;
+    pub const FINAL: usize = 10;
+    pub const FWD_ERR: usize = 11;
+}
 
 /// All the wrong judges, by the call that each answers.
 #[rustfmt::skip]
@@ -188,6 +199,88 @@ pub const WRONG: &[Wrong] = &[
             answer.output[9 + usize::from(UDP)] = 0;
         }
     })),
+    // One event with Q-5's byte.
+    wrong("event", "EXOK on forwarded data is permitted", Value(|d| d.forwarded_errors.push(EXOK))),
+    wrong("event", "NDERR on forwarded data is permitted", Value(|d| d.forwarded_errors.push(NDERR))),
+    wrong("event", "DERR on forwarded data is not permitted", Value(|d| d.forwarded_errors = vec![OK])),
+    wrong("event", "OK on forwarded data is not permitted", Value(|d| d.forwarded_errors = vec![DERR])),
+    wrong("event", "DERR on forwarded data needs DERR to Home", Given(|d, record| {
+        forbid(d, record, |event| event[byte::FWD_ERR] == DERR && event[byte::RESP_ERR] != DERR);
+    })),
+    wrong("event", "DERR to Home needs DERR on forwarded data", Given(|d, record| {
+        forbid(d, record, |event| event[byte::FWD_ERR] == OK && event[byte::RESP_ERR] == DERR);
+    })),
+    wrong("event", "DERR stands in one of the two fields alone", Given(|d, record| {
+        forbid(d, record, |event| event[byte::FWD_ERR] == DERR && event[byte::RESP_ERR] == DERR);
+    })),
+    wrong("event", "DERR on forwarded data needs data to Home", Given(|d, record| {
+        forbid(d, record, |event| event[byte::FWD_ERR] == DERR && event[byte::CHANNEL] == RSP);
+    })),
+    wrong("event", "DERR on forwarded data needs that Home gets no data", Given(|d, record| {
+        forbid(d, record, |event| event[byte::FWD_ERR] == DERR && event[byte::CHANNEL] == DAT);
+    })),
+    wrong("event", "data that passes the Dirty line on has no DERR", Given(|d, record| {
+        forbid(d, record, |event| event[byte::FWD_ERR] == DERR && FWD_STATES_WITH_PD.contains(&event[byte::FWD_STATE]));
+    })),
+    wrong("event", "data forwarded under SnpPreferUniqueFwd has no DERR", Given(|d, record| {
+        forbid(d, record, |event| event[byte::FWD_ERR] == DERR && event[byte::REQUEST] == 22);
+    })),
+    wrong("event", "data forwarded under Dirty tags has no DERR", Given(|d, record| {
+        forbid(d, record, |event| event[byte::FWD_ERR] == DERR && event[byte::TAG] == TAG_DIRTY);
+    })),
+    wrong("event", "EXOK is permitted without a forward", Given(|d, record| pass_over(d, record, EXOK))),
+    wrong("event", "DERR is permitted without a forward", Given(|d, record| pass_over(d, record, DERR))),
+    wrong("event", "NDERR is permitted without a forward", Given(|d, record| pass_over(d, record, NDERR))),
+    wrong("event", "NDERR's row has NDERR in both fields", Given(|d, record| {
+        if asks_whole(d, record) && record[1 + byte::RESP_ERR] == NDERR {
+            pass_over(d, record, NDERR);
+        }
+    })),
+    wrong("event", "the new byte is not read", Given(|_, record| record[1 + byte::FWD_ERR] = 0)),
+    wrong("event", "the new byte is read for its range alone", Given(|d, record| {
+        if record[1 + byte::FWD_ERR] <= d.limits[byte::FWD_ERR] {
+            record[1 + byte::FWD_ERR] = 0;
+        }
+    })),
+    wrong("event", "the low bit of the new byte is not looked at", Given(|d, record| {
+        if record[1 + byte::FWD_ERR] <= d.limits[byte::FWD_ERR] {
+            record[1 + byte::FWD_ERR] &= 254;
+        }
+    })),
+    wrong("event", "the new byte may be anything", Value(|d| d.limits[byte::FWD_ERR] = 255)),
+    wrong("event", "a new byte of 4 is in range", Value(|d| d.limits[byte::FWD_ERR] = 4)),
+    wrong("event", "a new byte of 3 is out of range", Value(|d| d.limits[byte::FWD_ERR] = 2)),
+    wrong("event", "EXOK on forwarded data is refused", Tells(|d, record, answer| {
+        if asks_whole(d, record) && record[1 + byte::FWD_ERR] == EXOK {
+            refuse_accepted(answer, 4);
+        }
+    })),
+    wrong("event", "an error without a forward is refused", Tells(|d, record, answer| {
+        if asks_whole(d, record) && record[1 + byte::FORWARDED] == 0 && record[1 + byte::FWD_ERR] != 0 {
+            refuse_accepted(answer, 4);
+        }
+    })),
+    wrong("event", "an event of 14 bytes is read as one without an error", Given(|_, record| {
+        if usize::from(record[0]) == OLD_BYTES {
+            (record[0], record[1 + byte::FWD_ERR]) = (record[0] + 1, 0);
+        }
+    })),
+    wrong("event", "the new byte stands before the state after", Given(|_, record| record.swap(1 + byte::AFTER, 1 + byte::FWD_ERR))),
+    wrong("event", "the new byte is taken for Home's field", Given(|d, record| {
+        if asks_whole(d, record) && record[1 + byte::FORWARDED] == 1 && record[1 + byte::FWD_ERR] <= 3 {
+            record[1 + byte::RESP_ERR] = record[1 + byte::FWD_ERR];
+        }
+    })),
+    wrong("event", "Home's field is taken for the new byte", Given(|d, record| {
+        if asks_whole(d, record) && record[1 + byte::FORWARDED] == 1 && record[1 + byte::FWD_ERR] <= 3 {
+            record[1 + byte::FWD_ERR] = record[1 + byte::RESP_ERR];
+        }
+    })),
+    wrong("event", "DERR on forwarded data takes the duty from the Requester", Tells(|d, record, answer| {
+        duties_with_derr(d, record, answer, 0);
+    })),
+    wrong("event", "DERR on forwarded data leaves the duty to Home", Tells(|d, record, answer| duties_with_derr(d, record, answer, 1))),
+    wrong("event", "DERR on forwarded data loses the duty", Tells(|d, record, answer| duties_with_derr(d, record, answer, 3))),
     // A whole trace. Its answer has refusal, place in 32 bits, table, verdicts, duties and after-sets.
     wrong("trace", "a refusal clears the verdicts", Tells(|_, case, answer| {
         let lent = lent_in(case);
@@ -372,6 +465,56 @@ pub const WRONG: &[Wrong] = &[
     wrong("trace", "SnpCleanInvalid is refused", Value(|d| refuse_request(d, 9))),
     wrong("trace", "SnpMakeInvalid is refused", Value(|d| refuse_request(d, 10))),
     wrong("trace", "request 8 is judged", Value(|d| d.requests.push(("SnpCleanShared", 8)))),
+    // A whole trace with Q-5's byte.
+    wrong("trace", "EXOK on forwarded data is permitted", Value(|d| d.forwarded_errors.push(EXOK))),
+    wrong("trace", "NDERR on forwarded data is permitted", Value(|d| d.forwarded_errors.push(NDERR))),
+    wrong("trace", "DERR on forwarded data is not permitted", Value(|d| d.forwarded_errors = vec![OK])),
+    wrong("trace", "DERR on forwarded data needs DERR to Home", Given(|d, case| {
+        change_events(d, case, |_, event| {
+            if event[byte::FORWARDED] == 1 && event[byte::FWD_ERR] == DERR && event[byte::RESP_ERR] == OK {
+                event[byte::FWD_ERR] = NDERR;
+            }
+        });
+    })),
+    wrong("trace", "DERR is permitted without a forward", Given(|d, case| {
+        change_events(d, case, |_, event| {
+            if [event[byte::FORWARDED], event[byte::FWD_ERR]] == [0, DERR] {
+                event[byte::FWD_ERR] = 0;
+            }
+        });
+    })),
+    wrong("trace", "the new byte is not read", Given(|d, case| change_events(d, case, |_, event| event[byte::FWD_ERR] = 0))),
+    wrong("trace", "only the first event's new byte is read", Given(|d, case| {
+        change_events(d, case, |n, event| event[byte::FWD_ERR] *= u8::from(n == 0));
+    })),
+    wrong("trace", "the last event's new byte is not read", Given(|d, case| {
+        let last = whole_events(d, &lent_in(case)).saturating_sub(1);
+        change_events(d, case, |n, event| event[byte::FWD_ERR] *= u8::from(n < last));
+    })),
+    wrong("trace", "the new byte may be anything", Value(|d| d.limits[byte::FWD_ERR] = 255)),
+    wrong("trace", "a new byte of 4 is in range", Value(|d| d.limits[byte::FWD_ERR] = 4)),
+    wrong("trace", "a new byte of 3 is out of range", Value(|d| d.limits[byte::FWD_ERR] = 2)),
+    wrong("trace", "events of 14 bytes are read as ones without an error", Given(|d, case| {
+        let lent = lent_in(case);
+        if lent.events.len() == OLD_BYTES * lent.verdicts.len() {
+            change(case, |lent| lent.events = widened(d, &lent.events));
+        }
+    })),
+    wrong("trace", "more than 57,344 bytes of events are too many", Tells(|d, case, answer| {
+        let lent = lent_in(case);
+        if lent.events.len() > OLD_BYTES * d.most_events {
+            answer.output = [&[1, 0, 0, 0, 0][..], &lent.parts()[2..].iter().flat_map(|part| part.to_vec()).collect::<Vec<u8>>()].concat();
+        }
+    })),
+    wrong("trace", "DERR on forwarded data takes the duty from the Requester", Tells(|d, case, answer| {
+        retell_derr(d, case, answer, |told| if told[1] == 2 { [told[0], 0, told[2]] } else { told });
+    })),
+    wrong("trace", "DERR on forwarded data loses the duty", Tells(|d, case, answer| {
+        retell_derr(d, case, answer, |told| if told[1] == 2 { [told[0], 3, told[2]] } else { told });
+    })),
+    wrong("trace", "DERR on forwarded data leaves the pair lost", Tells(|d, case, answer| {
+        retell_derr(d, case, answer, |told| [told[0], told[1], 0]);
+    })),
     // A bench sheet.
     wrong("sheet", "LF alone ends a line", Given(|_, sheet| *sheet = replaced(&replaced(sheet, CRLF, b"\n"), b"\n", CRLF))),
     wrong("sheet", "a CR before the CRLF is dropped", Given(|_, sheet| *sheet = replaced(sheet, b"\r\r\n", CRLF))),
@@ -475,6 +618,111 @@ pub const WRONG: &[Wrong] = &[
     wrong("sheet", "SC answers SnpUnique without data at RetToSrc 1 too", Value(|d| add(d, "SnpUnique | SC | 1 | - | SnpResp_I | I"))),
     wrong("sheet", "Dirty lines answer SnpMakeInvalid with data too", Value(dirty_data)),
     wrong("sheet", "data under SnpUnique carries any TagOp up to Update", Value(|d| d.set_tag_column(SNP_UNIQUE, TagColumn::UpToUpdate))),
+    // A bench sheet with Q-5's column.
+    wrong("sheet", "EXOK on forwarded data is permitted", Value(|d| d.forwarded_errors.push(EXOK))),
+    wrong("sheet", "NDERR on forwarded data is permitted", Value(|d| d.forwarded_errors.push(NDERR))),
+    wrong("sheet", "DERR on forwarded data is not permitted", Value(|d| d.forwarded_errors = vec![OK])),
+    wrong("sheet", "NDERR in fwdErr is a lost duty", Tells(|_, sheet, answer| {
+        let given = lines(sheet);
+        let nderr = |n: usize| given.get(n).is_some_and(|line| line.ends_with(b",NDERR"));
+        let told = lines(&answer.output).into_iter().enumerate().map(|(n, line)| match nderr(n) {
+            true => replaced(line, b",unexplained,none,", b",explained,lost,I"),
+            false => line.to_vec(),
+        });
+        answer.output = told.flat_map(|line| [&line, CRLF].concat()).collect();
+    })),
+    wrong("sheet", "fwdErr is taken for RespErr", Given(|d, sheet| change_fields(d, sheet, |fields| {
+        if fields[column::FWD_ERR] != b"-" {
+            fields[column::RESP_ERR] = fields[column::FWD_ERR].clone();
+        }
+    }))),
+    wrong("sheet", "RespErr is taken for fwdErr", Given(|d, sheet| change_fields(d, sheet, |fields| {
+        if fields[column::FWD_ERR] != b"-" {
+            fields[column::FWD_ERR] = fields[column::RESP_ERR].clone();
+        }
+    }))),
+    wrong("sheet", "fwdErr stands before final in a line", Given(|d, sheet| {
+        change_fields(d, sheet, |fields| fields.swap(column::FINAL, column::FWD_ERR));
+    })),
+    wrong("sheet", "fwdErr may stand before final", Given(|d, sheet| {
+        let exchanged = |line: &[u8]| {
+            let mut fields = fields_of(line);
+            if fields.len() > column::FWD_ERR {
+                fields.swap(column::FINAL, column::FWD_ERR);
+            }
+            line_of(&fields)
+        };
+        if lines(sheet).first().is_some_and(|first| exchanged(first) == d.header.as_bytes()) {
+            change_lines(sheet, |_, line| exchanged(line));
+        }
+    })),
+    wrong("sheet", "- in fwdErr alone is taken for OK", Given(|d, sheet| change_fields(d, sheet, |fields| {
+        if fields[column::FORWARD] != b"-" && fields[column::FWD_ERR] == b"-" {
+            fields[column::FWD_ERR] = b"OK".to_vec();
+        }
+    }))),
+    wrong("sheet", "OK without a forward is taken for -", Given(|d, sheet| change_fields(d, sheet, |fields| {
+        if fields[column::FORWARD] == b"-" && fields[column::FWD_ERR] == b"OK" {
+            fields[column::FWD_ERR] = b"-".to_vec();
+        }
+    }))),
+    wrong("sheet", "fwdErr is not looked at without a forward", Given(|d, sheet| change_fields(d, sheet, |fields| {
+        if fields[column::FORWARD] == b"-" {
+            fields[column::FWD_ERR] = b"-".to_vec();
+        }
+    }))),
+    wrong("sheet", "an error without a forward is unexplained", Given(|d, sheet| change_fields(d, sheet, |fields| {
+        if fields[column::FORWARD] == b"-" && [&b"EXOK"[..], b"DERR", b"NDERR"].contains(&&fields[column::FWD_ERR][..]) {
+            (fields[column::FORWARD], fields[column::FWD_ERR]) = (b"CompData_SC".to_vec(), b"NDERR".to_vec());
+        }
+    }))),
+    wrong("sheet", "- is not known in fwdErr", Given(|d, sheet| change_fields(d, sheet, |fields| {
+        if fields[column::FWD_ERR] == b"-" {
+            fields[column::FWD_ERR] = b"x".to_vec();
+        }
+    }))),
+    wrong("sheet", "nothing in fwdErr is taken for -", Given(|d, sheet| change_fields(d, sheet, |fields| {
+        if fields[column::FORWARD] == b"-" && fields[column::FWD_ERR].is_empty() {
+            fields[column::FWD_ERR] = b"-".to_vec();
+        }
+    }))),
+    wrong("sheet", "- alone is told after 3", Given(|d, sheet| change_fields(d, sheet, |fields| {
+        if fields[0] == b"4096" && fields[column::FORWARD] != b"-" && fields[column::FWD_ERR] == b"-" {
+            fields[column::FWD_ERR] = b"OK".to_vec();
+        }
+    }))),
+    wrong("sheet", "EXOK is not known in fwdErr", Given(|d, sheet| other_name(d, sheet, b"EXOK", b"x"))),
+    wrong("sheet", "NDERR is not known in fwdErr", Given(|d, sheet| other_name(d, sheet, b"NDERR", b"x"))),
+    wrong("sheet", "DERR is not known in fwdErr", Given(|d, sheet| other_name(d, sheet, b"DERR", b"x"))),
+    wrong("sheet", "OKAY is known in fwdErr", Given(|d, sheet| other_name(d, sheet, b"OKAY", b"OK"))),
+    wrong("sheet", "small letters are known in fwdErr", Given(|d, sheet| change_fields(d, sheet, |fields| {
+        fields[column::FWD_ERR].make_ascii_uppercase();
+    }))),
+    wrong("sheet", "a sheet with the old header is read", Given(|d, sheet| {
+        if is_old(d, sheet) {
+            change_lines(sheet, |n, line| if n == 0 { d.header.into() } else { with_error(d, line) });
+        }
+    })),
+    wrong("sheet", "the old header stands before new lines too", Given(|d, sheet| {
+        if is_old(d, sheet) {
+            change_lines(sheet, |n, line| if n == 0 { d.header.into() } else { line.to_vec() });
+        }
+    })),
+    wrong("sheet", "a line of 11 fields is read", Given(|d, sheet| {
+        change_lines(sheet, |n, line| if n == 0 { line.to_vec() } else { with_error(d, line) });
+    })),
+    wrong("sheet", "a line of 11 fields is read where it forwards nothing", Given(|d, sheet| {
+        change_lines(sheet, |n, line| match with_error(d, line) {
+            other if n > 0 && other.ends_with(b",-") => other,
+            _ => line.to_vec(),
+        });
+    })),
+    wrong("sheet", "a line of 13 fields is read", Given(|d, sheet| {
+        change_lines(sheet, |n, line| match fields_of(line) {
+            fields if n > 0 && fields.len() == columns(d) + 1 => line_of(&fields[..columns(d)]),
+            _ => line.to_vec(),
+        });
+    })),
     // A capture.
     wrong("capture", "one read is taken for all", Gets(first_piece)),
     wrong("capture", "standard input is read though a file is named", Gets(|arrival, capture| match arrival {
@@ -482,17 +730,18 @@ pub const WRONG: &[Wrong] = &[
         _ => capture.to_vec(),
     })),
     wrong("capture", "the high byte of a pair comes first", Given(|d, capture| {
-        capture.chunks_exact_mut(record_bytes(d)).for_each(|record| record.swap(0, 1));
+        change_records(d, capture, |records| records.chunks_exact_mut(record_bytes(d)).for_each(|record| record.swap(0, 1)));
     })),
     wrong("capture", "bytes past the last whole record are passed over", Given(|d, capture| {
-        capture.truncate(capture.len() / record_bytes(d) * record_bytes(d));
+        change_records(d, capture, |records| records.truncate(records.len() / record_bytes(d) * record_bytes(d)));
     })),
     wrong("capture", "a part starts from all states again", Tells(|d, capture, answer| {
         let part = d.most_events * record_bytes(d);
-        if answer.status == 0 && capture.len() > part {
+        if answer.status == 0 && capture.len() > d.capture_mark.len() + part {
             let last = answer.output.split_inclusive(|byte| *byte == b'\n').next_back().unwrap_or(&[]).to_vec();
-            let parts = capture.chunks(part).enumerate().map(|(n, bytes)| (n * d.most_events, capture::answer(d, bytes)));
-            let events = parts.flat_map(|(first, part)| renumbered(&part.output, |event| event + first));
+            let parts = records_in(d, capture).unwrap_or(&[]).chunks(part).enumerate();
+            let answers = parts.map(|(n, records)| (n * d.most_events, capture::answer(d, &[d.capture_mark, records].concat())));
+            let events = answers.flat_map(|(first, part)| renumbered(&part.output, |event| event + first));
             answer.output = events.filter(|line| line.starts_with(b"event")).flatten().chain(last).collect();
         }
     })),
@@ -536,6 +785,97 @@ pub const WRONG: &[Wrong] = &[
     wrong("capture", "SnpMakeInvalid is refused", Value(|d| refuse_request(d, 10))),
     wrong("capture", "request 8 is judged", Value(|d| d.requests.push(("SnpCleanShared", 8)))),
     wrong("capture", "request 41 is judged", Value(|d| d.requests.push(("SnpCleanInvalid in another place", 41)))),
+    // A capture with Q-5's mark and byte.
+    wrong("capture", "EXOK on forwarded data is permitted", Value(|d| d.forwarded_errors.push(EXOK))),
+    wrong("capture", "NDERR on forwarded data is permitted", Value(|d| d.forwarded_errors.push(NDERR))),
+    wrong("capture", "DERR on forwarded data is not permitted", Value(|d| d.forwarded_errors = vec![OK])),
+    wrong("capture", "the new byte may be anything", Value(|d| d.limits[byte::FWD_ERR] = 255)),
+    wrong("capture", "the new byte is not read", Given(|d, capture| {
+        change_records(d, capture, |records| records.chunks_exact_mut(record_bytes(d)).for_each(|record| record[2 + byte::FWD_ERR] = 0));
+    })),
+    wrong("capture", "a capture without a mark is read", Given(|d, capture| {
+        if !capture.starts_with(d.capture_mark) {
+            *capture = [d.capture_mark, capture].concat();
+        }
+    })),
+    wrong("capture", "an old capture is read", Given(|d, capture| {
+        if !capture.starts_with(&d.capture_mark[..3]) && capture.len() % (2 + OLD_BYTES) == 0 {
+            *capture = widened_records(d, capture);
+        }
+    })),
+    wrong("capture", "an old capture of 17 records is read as 16 new ones", Given(|d, capture| {
+        if !capture.starts_with(&d.capture_mark[..3]) && capture.len() % record_bytes(d) == 0 {
+            *capture = [d.capture_mark, capture].concat();
+        }
+    })),
+    wrong("capture", "a mark with 14 is taken for the right one", Given(|d, capture| {
+        if capture.starts_with(b"CHI\x0e") {
+            capture[..4].copy_from_slice(d.capture_mark);
+        }
+    })),
+    wrong("capture", "old records behind a mark with 14 are read", Given(|d, capture| {
+        if capture.starts_with(b"CHI\x0e") && (capture.len() - 4) % (2 + OLD_BYTES) == 0 {
+            *capture = widened_records(d, &capture[4..]);
+        }
+    })),
+    wrong("capture", "the mark's number is not looked at", Given(|d, capture| {
+        if capture.len() >= 4 && capture.starts_with(b"CHI") {
+            capture[..4].copy_from_slice(d.capture_mark);
+        }
+    })),
+    wrong("capture", "the mark's letters are not looked at", Given(|d, capture| {
+        if capture.get(3) == d.capture_mark.last() {
+            capture[..4].copy_from_slice(d.capture_mark);
+        }
+    })),
+    wrong("capture", "the mark's last letter is not looked at", Given(|_, capture| {
+        if capture.len() >= 4 {
+            capture[2] = b'I';
+        }
+    })),
+    wrong("capture", "the mark's letters may be small", Given(|_, capture| {
+        let letters = capture.len().min(3);
+        capture[..letters].make_ascii_uppercase();
+    })),
+    wrong("capture", "the mark may come after other bytes", Given(|d, capture| {
+        if let Some(place) = capture.windows(4).position(|bytes| bytes == d.capture_mark) {
+            capture.drain(..place);
+        }
+    })),
+    wrong("capture", "an input without anything is a capture without events", Given(|d, capture| {
+        if capture.is_empty() {
+            *capture = d.capture_mark.to_vec();
+        }
+    })),
+    wrong("capture", "a cut mark is a capture without events", Given(|d, capture| {
+        if !capture.is_empty() && d.capture_mark.starts_with(capture) {
+            *capture = d.capture_mark.to_vec();
+        }
+    })),
+    wrong("capture", "a mark alone is refused", Given(|d, capture| {
+        if capture == d.capture_mark {
+            capture.clear();
+        }
+    })),
+    wrong("capture", "the mark has to come with the first read", Gets(|arrival, capture| match first_piece(arrival, capture) {
+        piece if piece.len() < 4 => piece,
+        _ => capture.to_vec(),
+    })),
+    wrong("capture", "a capture without a mark is told to end within event 0", Tells(|_, _, answer| {
+        if answer.complaint == NO_MARK {
+            answer.complaint = b"capture: it ends within event 0\n".to_vec();
+        }
+    })),
+    wrong("capture", "a capture without a mark is refused with 6", Tells(|_, _, answer| {
+        if answer.complaint == NO_MARK {
+            answer.complaint = b"capture: refused with 6 at event 0\n".to_vec();
+        }
+    })),
+    wrong("capture", "a capture without a mark is counted as one without events", Tells(|_, _, answer| {
+        if answer.complaint == NO_MARK {
+            answer.output = b"0 events: 0 explained, 0 unexplained, 0 not judged\n".to_vec();
+        }
+    })),
     // The list of answers. Its answer has refusal, place in three bytes, count in four, and the lent bytes with those past them.
     wrong("answers", "an answer is listed twice", Tells(|d, record, answer| relist(d, record, answer, |list| {
         list.extend_from_within(list.len().saturating_sub(1)..);
@@ -722,7 +1062,73 @@ pub const WRONG: &[Wrong] = &[
             record[byte::REQUEST] = 7;
         }
     })),
+    // The list of answers with Q-5's byte.
+    wrong("answers", "EXOK on forwarded data is listed", Value(|d| d.forwarded_errors.push(EXOK))),
+    wrong("answers", "NDERR on forwarded data is listed", Value(|d| d.forwarded_errors.push(NDERR))),
+    wrong("answers", "DERR on forwarded data is not listed", Value(|d| d.forwarded_errors = vec![OK])),
+    wrong("answers", "DERR is listed without a forward too", Tells(|d, record, answer| relist(d, record, answer, |list| {
+        list_too(list, |answer| answer[byte::FORWARDED - byte::CHANNEL] == 0, byte::FWD_ERR, DERR);
+    }))),
+    wrong("answers", "DERR on forwarded data is listed with DERR to Home alone", Tells(|d, record, answer| {
+        relist(d, record, answer, |list| list.retain(|answer| answer[LAST] != DERR || answer[byte::RESP_ERR - byte::CHANNEL] == DERR));
+    })),
+    wrong("answers", "the NDERR answer has NDERR in the new byte too", Tells(|d, record, answer| relist(d, record, answer, |list| {
+        let nderr = list.iter_mut().filter(|answer| answer[byte::RESP_ERR - byte::CHANNEL] == NDERR);
+        nderr.for_each(|answer| answer[LAST] = NDERR);
+    }))),
+    wrong("answers", "the new byte is listed as 0", Tells(|d, record, answer| {
+        relist(d, record, answer, |list| list.iter_mut().for_each(|answer| answer[LAST] = 0));
+    })),
+    wrong("answers", "an answer has nine bytes", Tells(|d, record, answer| relist(d, record, answer, |list| {
+        list.iter_mut().for_each(|answer| answer.truncate(LAST));
+    }))),
+    wrong("answers", "an answer has nine bytes and stands once", Tells(|d, record, answer| relist(d, record, answer, |list| {
+        list.iter_mut().for_each(|answer| answer.truncate(LAST));
+        list.dedup();
+    }))),
+    wrong("answers", "nine bytes for an answer are room enough", Tells(|d, record, answer| {
+        let (question, room, _) = question_in(record);
+        if answer.output[0] == 9 {
+            let list = answers(d, question);
+            if room.len() >= LAST * list.len() {
+                list_nothing(record, answer, 0);
+                answer.output[4] = list.len() as u8;
+                answer.output[LIST_PLACE..][..room.len()].copy_from_slice(&list.concat()[..room.len()]);
+            }
+        }
+    })),
+    wrong("answers", "the list is refused only below nine bytes for an answer", Tells(|d, record, answer| {
+        let (question, room, _) = question_in(record);
+        if answer.output[0] == 9 && room.len() >= LAST * answers(d, question).len() {
+            list_nothing(record, answer, 0);
+        }
+    })),
+    wrong("answers", "eleven bytes for an answer are needed", Tells(|d, record, answer| {
+        if listed(d, answer).is_some_and(|length| length / (LAST + 1) * (LAST + 2) > question_in(record).1.len()) {
+            list_nothing(record, answer, 9);
+        }
+    })),
+    wrong("answers", "the new byte stands first in an answer", Tells(|d, record, answer| relist(d, record, answer, |list| {
+        list.iter_mut().for_each(|answer| answer.rotate_right(1));
+        list.sort();
+    }))),
+    wrong("answers", "the new byte is first in the list's order", Tells(|d, record, answer| relist(d, record, answer, |list| {
+        list.sort_by_key(|answer| (answer[LAST], answer.clone()));
+    }))),
+    wrong("answers", "of two answers that differ in the new byte DERR is first", Tells(|d, record, answer| {
+        relist(d, record, answer, |list| list.sort_by_key(|answer| (answer[..LAST].to_vec(), DERR - answer[LAST])));
+    })),
+    wrong("answers", "the new byte stands before the state after", Tells(|d, record, answer| relist(d, record, answer, |list| {
+        list.iter_mut().for_each(|answer| answer.swap(LAST - 1, LAST));
+        list.sort();
+    }))),
 ];
+
+/// The place of Q-5's byte in an answer.
+const LAST: usize = byte::FWD_ERR - byte::CHANNEL;
+
+/// What is said of a capture that doesn't begin with the mark.
+const NO_MARK: &[u8] = b"capture: refused with 1 at event 0\n";
 
 /// A wrong judge by its columns.
 const fn wrong(call: &'static str, name: &'static str, flaw: Flaw) -> Wrong {
@@ -791,6 +1197,40 @@ fn no_step(answer: &mut Answer, asked: bool) {
     }
 }
 
+/// Whether a record hands over as many bytes as an event has.
+fn asks_whole(definition: &Definition, record: &[u8]) -> bool {
+    handed_over(record).len() == definition.event_bytes()
+}
+
+/// Lets no step explain some events with a forward.
+fn forbid(definition: &Definition, record: &mut [u8], some: fn(&[u8]) -> bool) {
+    if asks_whole(definition, record) && record[1 + byte::FORWARDED] == 1 && some(handed_over(record)) {
+        record[1 + byte::FWD_ERR] = NDERR;
+    }
+}
+
+/// Takes an error for 0 where an event has no forward.
+fn pass_over(definition: &Definition, record: &mut [u8], error: u8) {
+    if asks_whole(definition, record) && record[1 + byte::FORWARDED] == 0 {
+        instead(record, byte::FWD_ERR, error, 0);
+    }
+}
+
+/// Refuses an accepted event with a number.
+fn refuse_accepted(answer: &mut Answer, number: u8) {
+    if answer.output[0] == 0 {
+        answer.output.fill(0);
+        answer.output[0] = number;
+    }
+}
+
+/// Puts a duty in the place of the Requester's for an event that has DERR on forwarded data.
+fn duties_with_derr(definition: &Definition, record: &[u8], answer: &mut Answer, wrong: u8) {
+    if asks_whole(definition, record) && record[1 + byte::FWD_ERR] == DERR {
+        answer.output[9..].iter_mut().filter(|duty| **duty == 2).for_each(|duty| *duty = wrong);
+    }
+}
+
 /// Puts a duty in the place of another for a request.
 fn duties(record: &[u8], answer: &mut Answer, request: u8, right: u8, wrong: u8) {
     if asks(record, request) {
@@ -832,6 +1272,37 @@ fn change(case: &mut Vec<u8>, change: impl FnOnce(&mut Lent)) {
     *case = trace_case(&lent);
 }
 
+/// Changes the whole events of a trace's case, each by its number.
+fn change_events(definition: &Definition, case: &mut Vec<u8>, event: impl Fn(usize, &mut [u8])) {
+    let bytes = definition.event_bytes();
+    change(case, |lent| lent.events.chunks_exact_mut(bytes).enumerate().for_each(|(n, bytes)| event(n, bytes)));
+}
+
+/// Old events with 0 for the byte that they lack.
+fn widened(definition: &Definition, events: &[u8]) -> Vec<u8> {
+    let mut widened = Vec::new();
+    for event in events.chunks(OLD_BYTES) {
+        widened.extend(event);
+        widened.resize(widened.len() + definition.event_bytes() - OLD_BYTES, 0);
+    }
+    widened
+}
+
+/// The capture of old records, with 0 for the byte that they lack.
+fn widened_records(definition: &Definition, records: &[u8]) -> Vec<u8> {
+    let record = |record: &[u8]| [&record[..2], &widened(definition, &record[2..])].concat();
+    [definition.capture_mark.to_vec(), records.chunks(2 + OLD_BYTES).flat_map(record).collect()].concat()
+}
+
+/// Changes the records of a capture that begins with the mark.
+fn change_records(definition: &Definition, capture: &mut Vec<u8>, change: impl FnOnce(&mut Vec<u8>)) {
+    if let Some(records) = records_in(definition, capture) {
+        let mut records = records.to_vec();
+        change(&mut records);
+        *capture = [definition.capture_mark, &records].concat();
+    }
+}
+
 /// Gives an answer to a trace another number and place.
 fn refuse(answer: &mut Answer, number: u8, place: usize) {
     answer.output[0] = number;
@@ -871,6 +1342,62 @@ where
         event if event[byte::REQUEST] == request => tell(n, event, before, told),
         _ => told,
     });
+}
+
+/// Tells the explained events of an accepted trace anew that have DERR on forwarded data, by what is right of each.
+fn retell_derr(definition: &Definition, case: &[u8], answer: &mut Answer, tell: fn([u8; 3]) -> [u8; 3]) {
+    let lent = lent_in(case);
+    retell(definition, case, answer, false, |n, _, told| match event_of(definition, &lent, n)[byte::FWD_ERR] {
+        DERR if told[0] == EXPLAINED => tell(told),
+        _ => told,
+    });
+}
+
+/// Changes the lines of a sheet, each by its number from 0 on.
+fn change_lines(sheet: &mut Vec<u8>, change: impl Fn(usize, &[u8]) -> Vec<u8>) {
+    let changed: Vec<Vec<u8>> = lines(sheet).into_iter().enumerate().map(|(n, line)| change(n, line)).collect();
+    let end = if sheet.ends_with(CRLF) { CRLF } else { b"" };
+    *sheet = [&changed.join(CRLF), end].concat();
+}
+
+/// Changes the fields of the lines after the header that have as many as there are columns.
+fn change_fields(definition: &Definition, sheet: &mut Vec<u8>, change: impl Fn(&mut Fields)) {
+    change_lines(sheet, |n, line| {
+        let mut fields = fields_of(line);
+        if n > 0 && fields.len() == columns(definition) {
+            change(&mut fields);
+        }
+        line_of(&fields)
+    });
+}
+
+/// How many columns a sheet has.
+fn columns(definition: &Definition) -> usize {
+    definition.header.split(',').count()
+}
+
+/// Puts a field in the place of another in the column fwdErr.
+fn other_name(definition: &Definition, sheet: &mut Vec<u8>, name: &[u8], other: &[u8]) {
+    change_fields(definition, sheet, |fields| {
+        if fields[column::FWD_ERR] == name {
+            fields[column::FWD_ERR] = other.to_vec();
+        }
+    });
+}
+
+/// Whether a sheet begins with the header without its last column.
+fn is_old(definition: &Definition, sheet: &[u8]) -> bool {
+    let old = definition.header.rsplit_once(',').map(|(old, _)| old.as_bytes());
+    lines(sheet).first().copied() == old
+}
+
+/// A line with a last field more if that is all that it lacks: - without a forward, and OK with one.
+fn with_error(definition: &Definition, line: &[u8]) -> Vec<u8> {
+    let mut fields = fields_of(line);
+    if fields.len() + 1 == columns(definition) {
+        fields.push(if fields[column::FORWARD] == b"-" { b"-".to_vec() } else { b"OK".to_vec() });
+    }
+    line_of(&fields)
 }
 
 /// How many bytes an accepted question's list has by the count that is told.
