@@ -7,7 +7,7 @@
 #include "wire.h"
 
 /* The most answers of a list. */
-#define MOST_ANSWERS 29u
+#define MOST_ANSWERS KOREHYUMO_MOST_ANSWERS
 
 /* What a lister is asked, and the room that it is lent. */
 #define ASKED_AND_LENT \
@@ -38,14 +38,14 @@ enum { LISTERS = 3, REFUSING = 2 };
 /* The listers, the proved one first; the last does nothing, and measures what stands around a call. */
 extern const struct lister listers[LISTERS + 1];
 
-/* An answer that could be given, with any state after: its bytes, of which the last is 0, and what the rows read of it. */
+/* An answer that could be given, but for the state after and the error field of the forwarded data: its bytes, and what the rows read. */
 struct candidate {
     uint8_t bytes[ANSWER_BYTES];
     struct event event;
 };
 
-/* How many candidates there are: each response with its own forward, each tag operation and each error field. */
-enum { CANDIDATES = RESPONSES * TAG_OPS * RESP_ERRS };
+/* How many candidates there are: each response with its own forward, each tag operation and each error field to Home. */
+enum { CANDIDATES = RESPONSES * TAG_OPS * ERRORS };
 
 /* The candidates in ascending order byte by byte. */
 extern struct candidate candidates[CANDIDATES];

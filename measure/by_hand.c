@@ -100,22 +100,25 @@ static void put_effects(void)
 /* Judges a line on its pair's set by a walk along the rows. */
 static inline struct finding judge(const struct line *line, unsigned set)
 {
-    struct event event = event_of(line->key, line->forward);
+    struct event event = event_of(line->key, line->forward, line->fwd_err);
     return finding_by_rows(&event, set, line->allowed);
 }
 
 #else
 
-/* Fills in from the rows what the events of each key do. */
+/* Fills in from the rows what the events of each key do, and lets an ending allow nothing where no row takes its error field. */
 static void put_effects(void)
 {
     for (const struct row *row = rows; row < rows + ROWS; row++)
         for (unsigned low = 0; low < 1u << RESPONSE_BIT; low++) {
             unsigned key = low + ((unsigned)row->response << RESPONSE_BIT);
-            struct event event = event_of(key, row->forward);
+            struct event event = event_of(key, row->forward, OK);
             if (permits(row, &event))
                 add_row(&effects[key], row, &event);
         }
+    for (struct ending *ending = endings; ending < endings + (1 << ENDING_BITS); ending++)
+        if (!takes_fwd_err(ending->forwarded, ending->fwd_err))
+            ending->allowed = 0;
 }
 
 /* Judges a line on its pair's set by one lookup. */

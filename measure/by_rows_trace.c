@@ -16,6 +16,7 @@ static struct event read_event(const uint8_t *bytes)
         .tag_op = bytes[TAG_OP_AT],
         .resp_err = bytes[RESP_ERR_AT],
         .forward = (unsigned char)forward_of(bytes[FORWARDED_AT], bytes[FORWARDED_RESP_AT]),
+        .fwd_err = bytes[FWD_ERR_AT],
     };
 }
 

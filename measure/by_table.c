@@ -1,4 +1,4 @@
-/* A whole trace judged by a program written for speed: events are tested eight at a time, then looked up in tables made from the rows. */
+/* A whole trace judged by a program written for speed: events are tested all together, then looked up in tables made from the rows. */
 
 #include <emmintrin.h>
 #include <string.h>
@@ -7,26 +7,17 @@
 #include "rows.h"
 #include "wire.h"
 
-/* How many events are tested at a time. */
-#define BLOCK 8u
-
 /* What the first six bytes of an event are multiplied by for the highest bits to tell what was asked; found by trial, like the next. */
 #define ASKED_FACTOR 0x0b50800020010000u
 
 /* How many of the highest bits that takes. */
 #define ASKED_BITS 9
 
-/* What the last six bytes are multiplied by for the highest bits to tell the rest of the answer. */
-#define REST_FACTOR 0x1020000800220000u
+/* What the last eight bytes are multiplied by for the highest bits to tell the rest of the answer, whatever the first of them is. */
+#define REST_FACTOR 0x0000080002016002u
 
 /* How many of the highest bits that takes. */
-#define REST_BITS 14
-
-/* What a request is multiplied by for some bits of the product to tell whether it is of the ten; found by trial too. */
-#define KNOWN_FACTOR 0x1d01
-
-/* Those bits, in which the ten have four values that no other request has. */
-#define KNOWN_BITS 0x48ec
+#define REST_BITS 16
 
 /* Room for what can be asked with the channel of the answer, and for the pairs of opcode and Resp. */
 enum { ASKED = KINDS * 32, MESSAGES = 16 };
@@ -64,65 +55,51 @@ static inline size_t asked_index(uint64_t front)
     return (size_t)(front * ASKED_FACTOR >> (64 - ASKED_BITS));
 }
 
-/* The index in at.ending by the last eight bytes, of which the first two are left out. */
+/* The index in at.ending by the last eight bytes, of which the first, Resp, doesn't matter: with each, the same place is found. */
 static inline size_t rest_index(uint64_t back)
 {
-    return (size_t)((back >> 16) * REST_FACTOR >> (64 - REST_BITS));
+    return (size_t)(back * REST_FACTOR >> (64 - REST_BITS));
 }
 
-/* What the bytes of eight events are tested with: the bits that none in range has, and where the requests are. */
-static _Alignas(16) uint8_t tested_with[2][BLOCK * EVENT_BYTES];
+/* The bits that an event in range can have, and those that the request after it can have: any. */
+static _Alignas(16) uint8_t in_range[EVENT_BYTES + 1];
 
-/* Fills in what eight events are tested with. */
+_Static_assert(sizeof in_range == sizeof(__m128i), "an event and the request after it are tested at a time");
+
+/* Which requests are none of the ten. */
+static uint8_t unknown[256];
+
+/* Fills in what events are tested with. */
 static void put_tested_with(void)
 {
-    for (unsigned byte = 0; byte < BLOCK * EVENT_BYTES; byte++) {
-        tested_with[0][byte] = (uint8_t)~largest[byte % EVENT_BYTES];
-        tested_with[1][byte] = byte % EVENT_BYTES == REQUEST_AT ? 255 : 0;
-    }
+    memcpy(in_range, largest, EVENT_BYTES);
+    in_range[EVENT_BYTES] = largest[REQUEST_AT];
+    for (unsigned code = 0; code < 256; code++)
+        unknown[code] = request_of(code) == REQUESTS;
 }
 
-/* Which of eight requests are of the ten, 255 in both bytes for those. */
-static inline __m128i known(__m128i requests)
+/* Whether so many events are all good, where one more follows: sixteen bytes are an event and the request after it. */
+static int are_good(const uint8_t *events, const uint16_t *pairs, size_t count, size_t table_len)
 {
-    __m128i told = _mm_and_si128(_mm_mullo_epi16(requests, _mm_set1_epi16(KNOWN_FACTOR)), _mm_set1_epi16(KNOWN_BITS));
-    __m128i low = _mm_or_si128(_mm_cmpeq_epi16(told, _mm_set1_epi16(0x0008)), _mm_cmpeq_epi16(told, _mm_set1_epi16(0x0800)));
-    __m128i high = _mm_or_si128(_mm_cmpeq_epi16(told, _mm_set1_epi16(0x4004)), _mm_cmpeq_epi16(told, _mm_set1_epi16(0x4804)));
-    return _mm_or_si128(low, high);
-}
-
-/* Ends the program where a request of the ten is not known, or another one is. */
-static void check_known(void)
-{
-    for (unsigned code = 0; code < 256; code++) {
-        int told = _mm_movemask_epi8(known(_mm_set1_epi16((short)code))) != 0;
-        must(told == (request_of(code) != REQUESTS), "a request is not told apart");
+    __m128i bits = _mm_setzero_si128();
+    uint16_t highest = 0;
+    uint8_t refused = 0;
+    for (size_t k = 0; k < count; k++)
+        highest = pairs[k] > highest ? pairs[k] : highest;
+#pragma GCC unroll 8
+    for (size_t k = 0; k < count; k++, events += EVENT_BYTES) {
+        bits = _mm_or_si128(bits, _mm_loadu_si128((const __m128i *)events));
+        refused |= unknown[events[REQUEST_AT]];
     }
+    __m128i outside = _mm_andnot_si128(*(const __m128i *)in_range, bits);
+    return highest < table_len && !refused && _mm_movemask_epi8(_mm_cmpeq_epi8(outside, _mm_setzero_si128())) == 0xffff;
 }
 
-/* Whether eight events are all good; the requests come to stand two bytes apart, since sixteen bytes are an event and two more. */
-static inline int block_is_good(const uint8_t *events, const uint16_t *pairs, size_t table_len)
-{
-    if (table_len == 0)
-        return 0;
-    __m128i outside = _mm_subs_epu16(_mm_loadu_si128((const __m128i *)pairs), _mm_set1_epi16((short)(table_len - 1)));
-    __m128i requests = _mm_setzero_si128();
-    for (unsigned byte = 0; byte < BLOCK * EVENT_BYTES; byte += 16) {
-        __m128i part = _mm_loadu_si128((const __m128i *)(events + byte));
-        outside = _mm_or_si128(outside, _mm_and_si128(part, *(const __m128i *)&tested_with[0][byte]));
-        requests = _mm_or_si128(requests, _mm_and_si128(part, *(const __m128i *)&tested_with[1][byte]));
-    }
-    __m128i good = _mm_and_si128(_mm_cmpeq_epi16(outside, _mm_setzero_si128()), known(requests));
-    return _mm_movemask_epi8(good) == 0xffff;
-}
-
-/* The result of testing the events, eight at a time as long as they are good. */
+/* The result of testing the events: all but the last together, and one after another where that shows a bad one. */
 static uint64_t test_events(const uint8_t *events, const uint16_t *pairs, size_t n, size_t table_len)
 {
-    size_t k = 0;
-    while (n - k >= BLOCK && block_is_good(events + k * EVENT_BYTES, pairs + k, table_len))
-        k += BLOCK;
-    return test_from(k, events, pairs, n, table_len);
+    size_t good = n > 0 && are_good(events, pairs, n - 1, table_len) ? n - 1 : 0;
+    return test_from(good, events, pairs, n, table_len);
 }
 
 /* The refusal of the lowest set above 127, or 0. */
@@ -146,7 +123,7 @@ static void judge_events(const uint8_t *restrict events, const uint16_t *restric
 {
     for (size_t k = 0; k < n; k++, events += EVENT_BYTES) {
         uint64_t front = load(events), back = load(events + EVENT_BYTES - 8);
-        size_t line = at.line[(size_t)at.asked[asked_index(front)] + at.message[back & 0xffff]];
+        size_t line = at.line[(size_t)at.asked[asked_index(front)] + at.message[load_two(events + OPCODE_AT)]];
         size_t effect = at.effect[line + at.ending[rest_index(back)]];
         uint8_t *set = &table[pairs[k]];
         uint32_t finding = at.finding[(size_t)*set * EFFECTS + effect];
@@ -170,7 +147,7 @@ uint64_t by_table_trace(LENT)
     return result;
 }
 
-/* The rest of an answer: what is forwarded, the tag operation, the error field. */
+/* The rest of an answer: forward, tag operation, error field to Home; that of the forwarded data, where it is taken, changes nothing. */
 struct rest {
     unsigned forward;
     unsigned tag_op;
@@ -253,8 +230,8 @@ static int some_row_permits(const struct rest *rest)
 /* Lists the kinds of rest that some row permits. */
 static void put_rests(void)
 {
-    for (unsigned n = 0; n < FORWARDS * TAG_OPS * RESP_ERRS; n++) {
-        struct rest rest = {n / (TAG_OPS * RESP_ERRS), n / RESP_ERRS % TAG_OPS, n % RESP_ERRS};
+    for (unsigned n = 0; n < FORWARDS * TAG_OPS * ERRORS; n++) {
+        struct rest rest = {n / (TAG_OPS * ERRORS), n / ERRORS % TAG_OPS, n % ERRORS};
         if (!some_row_permits(&rest))
             continue;
         must(rest_count < RESTS, "too many kinds of rest");
@@ -275,28 +252,32 @@ static void put_seen(void)
         }
 }
 
-/* The place in a line of the last six bytes of an event, 0 where no row permits them. */
-static unsigned ending_of(const uint8_t *bytes)
+/* The place in a line of the last bytes of an event, 0 where no row permits them. */
+static unsigned ending_of(const uint8_t *event)
 {
-    unsigned forward = forward_of(bytes[3], bytes[4]), rest = 1, state = 0;
-    if (forward == FORWARDS || bytes[0] != forward_codes[forward])
+    unsigned forward = forward_of(event[FORWARDED_AT], event[FORWARDED_RESP_AT]), rest = 1, state = 0;
+    if (forward == FORWARDS || event[FWD_STATE_AT] != forward_codes[forward] || !takes_fwd_err(forward, event[FWD_ERR_AT]))
         return 0;
     while (rest < rest_count
-           && (forward != rests[rest].forward || bytes[1] != rests[rest].tag_op || bytes[2] != rests[rest].resp_err))
+           && (forward != rests[rest].forward || event[TAG_OP_AT] != rests[rest].tag_op || event[RESP_ERR_AT] != rests[rest].resp_err))
         rest++;
-    while (state < seen_count && bytes[5] != seen[state])
+    while (state < seen_count && event[STATE_AFTER_AT] != seen[state])
         state++;
     return rest < rest_count && state < seen_count ? rest * SEEN + state : 0;
 }
 
-/* Fills in the places in a line for all that the last six bytes can be. */
+/* Fills in the places in a line for all that the last eight bytes can be. */
 static void put_endings(void)
 {
     static uint8_t filled[1 << REST_BITS];
-    for (unsigned n = 0; n < 1u << REST_BITS; n++) {
-        uint8_t bytes[8] = {0, 0, n & 7, n >> 3 & 3, n >> 5 & 3, n >> 7 & 1, n >> 8 & 7, (uint8_t)(n >> 11)};
-        unsigned ending = ending_of(bytes + 2);
-        size_t index = rest_index(load(bytes));
+    for (unsigned n = 0; n < 1u << 19; n++) {
+        uint8_t event[EVENT_BYTES] = {
+            [RESP_AT] = n & 7, [FWD_STATE_AT] = n >> 3 & 7, [TAG_OP_AT] = n >> 6 & 3, [RESP_ERR_AT] = n >> 8 & 3,
+            [FORWARDED_AT] = n >> 10 & 1, [FORWARDED_RESP_AT] = n >> 11 & 7, [STATE_AFTER_AT] = n >> 14 & 7,
+            [FWD_ERR_AT] = (uint8_t)(n >> 17),
+        };
+        unsigned ending = ending_of(event);
+        size_t index = rest_index(load(event + EVENT_BYTES - 8));
         must(!filled[index] || at.ending[index] == ending, "two endings have one index");
         filled[index] = 1;
         at.ending[index] = (uint8_t)ending;
@@ -363,7 +344,6 @@ void judges_ready(void)
 {
     if (line_count > 0)
         return;
-    check_known();
     put_tested_with();
     put_asked();
     put_messages();

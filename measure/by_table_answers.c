@@ -57,9 +57,9 @@ static int order(const void *one, const void *other)
 static void put_candidates(void)
 {
     for (unsigned n = 0; n < CANDIDATES; n++) {
-        unsigned response = n / (TAG_OPS * RESP_ERRS), fwd_state = response_codes[response][3];
+        unsigned response = n / (TAG_OPS * ERRORS), fwd_state = response_codes[response][3];
         candidates[n].event = (struct event){
-            .response = (unsigned char)response, .tag_op = n / RESP_ERRS % TAG_OPS, .resp_err = n % RESP_ERRS,
+            .response = (unsigned char)response, .tag_op = n / ERRORS % TAG_OPS, .resp_err = n % ERRORS,
             .forward = (unsigned char)forward_of(fwd_state != 0, fwd_state),
         };
         put_answer(candidates[n].bytes, &candidates[n].event, 0);
@@ -91,14 +91,17 @@ static unsigned left_in(unsigned context, const struct candidate *answer)
     return left_from(&event, context & 7);
 }
 
-/* Adds an answer to a list, once for each of these states after. */
+/* Adds an answer to a list, once for each of these states after and each error field that its forwarded data may have. */
 static void add_answer(struct list *list, const struct candidate *answer, unsigned states_after)
 {
-    for (unsigned state = 0; state < STATES; state++) {
-        if (!(states_after & ONLY(state)))
+    struct event event = answer->event;
+    for (unsigned ending = 0; ending < STATES * ERRORS; ending++) {
+        unsigned state = ending / ERRORS;
+        event.fwd_err = ending % ERRORS;
+        if (!(states_after & ONLY(state)) || !takes_fwd_err(event.forward, event.fwd_err))
             continue;
         must(list->length < sizeof list->bytes, "a list is too long");
-        put_answer(list->bytes + list->length, &answer->event, state);
+        put_answer(list->bytes + list->length, &event, state);
         list->length += ANSWER_BYTES;
     }
 }
@@ -115,16 +118,19 @@ static const struct list *kept(const struct list *list)
     return &lists[n];
 }
 
-/* Makes the list of each context that has its tag state seen. */
+/* Makes the list of each context that has its tag state seen, the longest of which has as many answers as a list can have. */
 static void put_lists(void)
 {
+    size_t longest = 0;
     for (unsigned context = 1 << KIND_BIT; context < CONTEXTS; context++) {
         struct list list = {0};
         for (unsigned n = 0; tag_of(context) != TAG_NOT_SEEN && n < CANDIDATES; n++)
             add_answer(&list, &candidates[n], left_in(context, &candidates[n]));
         list.result = listed(list.length);
         list_of[context] = kept(&list);
+        longest = list.length > longest ? list.length : longest;
     }
+    must(longest == sizeof lists[0].bytes, "no list has the most answers");
 }
 
 void answers_ready(void)

@@ -3,11 +3,12 @@
 #include <stdio.h>
 #include <stdlib.h>
 #include <string.h>
+#include "../include/korehyumo.h"
 #include "answers.h"
 #include "draws.h"
 
 /* The largest room that is lent. */
-#define LARGEST_ROOM 300u
+#define LARGEST_ROOM 600u
 
 /* How many bytes stand before and after the room at least, and room for all of them; a room may start at any place of sixteen. */
 enum { GUARD = 32, AREA = GUARD + 16 + LARGEST_ROOM + GUARD };
@@ -109,7 +110,7 @@ static size_t compare(size_t bytes, unsigned many)
     return length_of(left[0].result);
 }
 
-/* Every question in range, with a large room, with none, with one that is just enough and with a byte less. */
+/* Every question in range, with a large room, with none, with one that is just enough, with a byte less, and with a byte less an answer. */
 static void in_range(void)
 {
     for (unsigned n = 0; n < QUESTIONS; n++) {
@@ -118,8 +119,54 @@ static void in_range(void)
         compare(0, REFUSING);
         compare(0, REFUSING);
         compare(length, REFUSING);
-        if (length > 0)
+        if (length > 0) {
             compare(length - 1, REFUSING);
+            compare(length - length / ANSWER_BYTES, REFUSING);
+        }
+    }
+}
+
+/* Ends the program where some row permits an event, or where the call for one event alone takes another length. */
+static void not_permitted(const uint8_t *event)
+{
+    uint8_t sets[STATES], duties[STATES];
+    uint64_t less = korehyumo_event(event, EVENT_BYTES - 1, sets, duties), result = korehyumo_event(event, EVENT_BYTES, sets, duties);
+    unsigned permitted = 0;
+    for (unsigned state = 0; state < STATES; state++)
+        permitted |= sets[state];
+    if (less == result_of(WRONG_LENGTH, 0) && result == result_of(ACCEPTED, 1) && permitted == 0)
+        return;
+    fprintf(stderr, "check: event");
+    for (unsigned at = 0; at < EVENT_BYTES; at++)
+        fprintf(stderr, " %u", event[at]);
+    fprintf(stderr, ": the result is %#llx, with a byte less %#llx, and the sets after have %u\n", (unsigned long long)result,
+            (unsigned long long)less, permitted);
+    exit(1);
+}
+
+/* Whether by_events tries an answer: one with its own forward, and with an error field of that only where there is one. */
+static int is_tried(const struct event *answer)
+{
+    return forward_codes[answer->forward] == response_codes[answer->response][3]
+        && (answer->fwd_err == OK || answer->forward != NO_FORWARD);
+}
+
+/* Every response with every forward, tag operation and value of both error fields, those left out that by_events tries. */
+static void not_tried(void)
+{
+    for (unsigned n = 0; n < QUESTIONS / STATES * RESPONSES * FORWARDS * TAG_OPS * ERRORS * ERRORS; n++) {
+        unsigned rest = n / (TAG_OPS * ERRORS * ERRORS);
+        struct event answer = {
+            .tag_op = n & 3, .resp_err = n >> 2 & 3, .fwd_err = n >> 4 & 3, .forward = (unsigned char)(rest % FORWARDS),
+            .response = (unsigned char)(rest / FORWARDS % RESPONSES),
+        };
+        uint8_t event[EVENT_BYTES];
+        if (is_tried(&answer))
+            continue;
+        put_question(question, rest / FORWARDS / RESPONSES * STATES);
+        memcpy(event, question, CHANNEL_AT);
+        put_answer(event + CHANNEL_AT, &answer, STATE_NOT_SEEN);
+        not_permitted(event);
     }
 }
 
@@ -158,6 +205,7 @@ static void several_out_of_range(void)
 void check_listers(void)
 {
     in_range();
+    not_tried();
     one_out_of_range();
     several_out_of_range();
     printf("check: proved and by_table agree on %lu calls, by_events with them on %d; refusals 0, 4, 5 and 9: %lu %lu %lu %lu\n", asked,

@@ -274,6 +274,16 @@ static void bad_sets(void)
     }
 }
 
+/* Up to forty events of one byte less, of the right length and of one byte more. */
+static void event_lengths(void)
+{
+    for (unsigned n = 0; n < 41 * 3; n++) {
+        make_good(n / 3, 1 + below(5));
+        lent.events_len = n / 3 * (EVENT_BYTES - 1 + n % 3);
+        compare();
+    }
+}
+
 /* Lengths that don't fit, whatever else is wrong, and the largest that do. */
 static void lengths(void)
 {
@@ -305,14 +315,15 @@ static void start_sweep(void)
     }
 }
 
-/* The n-th event of all that differ in request, flags, tag state, answer, forward, tag operation or error field. */
+/* The n-th event of all that differ in request, flags, tag state, answer, forward, tag operation or one of the two error fields. */
 static struct drawn numbered(unsigned n)
 {
-    unsigned rest = n / (8 * TAGS * TAG_OPS * RESP_ERRS);
+    unsigned rest = n / (8 * TAGS * TAG_OPS * ERRORS * ERRORS);
     struct drawn drawn = {.request = rest % REQUESTS, .excl = n & 1, .state_after = STATE_NOT_SEEN};
     drawn.event = (struct event){
         .ret_to_src = n >> 1 & 1, .do_not_go_to_sd = n >> 2 & 1, .tag = n >> 3 & 3, .tag_op = n >> 5 & 3, .resp_err = n >> 7 & 3,
-        .response = (unsigned char)(rest / REQUESTS % RESPONSES), .forward = (unsigned char)(rest / REQUESTS / RESPONSES),
+        .fwd_err = n >> 9 & 3, .response = (unsigned char)(rest / REQUESTS % RESPONSES),
+        .forward = (unsigned char)(rest / REQUESTS / RESPONSES),
     };
     return drawn;
 }
@@ -320,7 +331,7 @@ static struct drawn numbered(unsigned n)
 /* Each of those events from each state alone, and from a random set with a random state after. */
 static void answers(void)
 {
-    unsigned all = REQUESTS * 8 * TAGS * RESPONSES * FORWARDS * TAG_OPS * RESP_ERRS;
+    unsigned all = REQUESTS * 8 * TAGS * RESPONSES * FORWARDS * TAG_OPS * ERRORS * ERRORS;
     for (unsigned n = 0; n < all * 8; n++) {
         struct drawn drawn = numbered(n / 8);
         unsigned state = n % 8, k = n % 64;
@@ -336,21 +347,22 @@ static void answers(void)
     }
 }
 
-/* Every channel, opcode, Resp and FwdState with every forward, in events that some row permits but for that. */
+/* Every channel, opcode, Resp and FwdState with every forward and its error field, in events that some row permits but for that. */
 static void messages(void)
 {
-    for (unsigned n = 0; n < 2 * 32 * 8 * 8 * 2 * 8; n++) {
+    for (unsigned n = 0; n < 2 * 32 * 8 * 8 * 2 * 8 * ERRORS; n++) {
         struct drawn drawn = draw_permitted(below(STATES), ALL_STATES);
         uint8_t *bytes = lent.events + n % 64 * EVENT_BYTES;
         if (n % 64 == 0)
             start_sweep();
         put_event(bytes, &drawn);
-        bytes[FORWARDED_RESP_AT] = n & 7;
-        bytes[FORWARDED_AT] = n >> 3 & 1;
-        bytes[FWD_STATE_AT] = n >> 4 & 7;
-        bytes[RESP_AT] = n >> 7 & 7;
-        bytes[OPCODE_AT] = n >> 10 & 31;
-        bytes[CHANNEL_AT] = (uint8_t)(n >> 15);
+        bytes[FWD_ERR_AT] = n & 3;
+        bytes[FORWARDED_RESP_AT] = n >> 2 & 7;
+        bytes[FORWARDED_AT] = n >> 5 & 1;
+        bytes[FWD_STATE_AT] = n >> 6 & 7;
+        bytes[RESP_AT] = n >> 9 & 7;
+        bytes[OPCODE_AT] = n >> 12 & 31;
+        bytes[CHANNEL_AT] = (uint8_t)(n >> 17);
         if (n % 64 == 63)
             compare();
     }
@@ -383,7 +395,7 @@ static void damage(void)
     }
 }
 
-/* Short traces over few pairs with bytes changed within their ranges, one in four also damaged. */
+/* Short traces over few pairs with bytes changed within their ranges, the last one more often than others, one in four also damaged. */
 static void drawn_traces(void)
 {
     for (unsigned n = 0; n < 40000; n++) {
@@ -395,6 +407,8 @@ static void drawn_traces(void)
             unsigned at = 1 + below(EVENT_BYTES - 1);
             if (comes(1, 6))
                 lent.events[k * EVENT_BYTES + at] = (uint8_t)below(largest[at] + 1u);
+            if (comes(1, 16))
+                put_below(&lent.events[k * EVENT_BYTES + FWD_ERR_AT], ERRORS);
         }
         while (comes(1, 4))
             damage();
@@ -415,10 +429,10 @@ static void all_came(const char *what, const unsigned long *counts, unsigned dif
 void check_judges(void)
 {
     static void (*const sweeps[])(void) = {
-        measured, byte_values, pair_numbers, bad_sets, lengths, answers, messages, drawn_traces,
+        measured, byte_values, pair_numbers, bad_sets, lengths, event_lengths, answers, messages, drawn_traces,
     };
     static const char *const names[] = {
-        "measured traces", "byte values", "pair numbers", "bad sets", "lengths", "answers", "messages", "drawn traces",
+        "measured traces", "byte values", "pair numbers", "bad sets", "lengths", "event lengths", "answers", "messages", "drawn traces",
     };
     events_end = fenced(EVENTS_ROOM);
     numbers_end = fenced(NUMBERS_ROOM * sizeof(uint16_t));

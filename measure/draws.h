@@ -18,13 +18,29 @@ struct drawn {
 /* The state of the random generator. */
 static uint64_t source;
 
-/* The next random number. */
-static inline uint64_t draw(void)
+/* The state of another one, for the error fields of forwarded data, so that all else is drawn as it would be without them. */
+static uint64_t error_source;
+
+/* Makes both generators start from a seed. */
+static inline void start_draws(uint64_t seed)
 {
-    uint64_t mixed = source += 0x9e3779b97f4a7c15u;
+    source = seed;
+    error_source = ~seed;
+}
+
+/* The next random number of a generator. */
+static inline uint64_t draw_from(uint64_t *state)
+{
+    uint64_t mixed = *state += 0x9e3779b97f4a7c15u;
     mixed = (mixed ^ mixed >> 30) * 0xbf58476d1ce4e5b9u;
     mixed = (mixed ^ mixed >> 27) * 0x94d049bb133111ebu;
     return mixed ^ mixed >> 31;
+}
+
+/* The next random number. */
+static inline uint64_t draw(void)
+{
+    return draw_from(&source);
 }
 
 /* A random number below a limit. */
@@ -59,7 +75,7 @@ static inline void draw_request(struct drawn *drawn)
     drawn->event.do_not_go_to_sd = (unsigned char)below(2);
 }
 
-/* Draws any event at all, so that each name of each column is as likely as another. */
+/* Draws any event at all but for the error field of its forwarded data, so that each name of each column is as likely as another. */
 static inline struct drawn draw_anything(void)
 {
     struct drawn drawn = {0};
@@ -67,7 +83,7 @@ static inline struct drawn draw_anything(void)
     drawn.event.tag = (unsigned char)below(TAGS);
     drawn.event.response = (unsigned char)below(RESPONSES);
     drawn.event.tag_op = (unsigned char)below(TAG_OPS);
-    drawn.event.resp_err = (unsigned char)below(RESP_ERRS);
+    drawn.event.resp_err = (unsigned char)below(ERRORS);
     drawn.event.forward = (unsigned char)below(FORWARDS);
     drawn.state_after = below(STATES + 1);
     return drawn;
@@ -129,6 +145,12 @@ static inline struct drawn draw_lively(unsigned set, int may_leave)
     return draw_permitted(state, kept[state]);
 }
 
+/* Draws the error field of the forwarded data: DERR for a quarter of it, else OK, so that each row takes it. */
+static inline unsigned char draw_fwd_err(unsigned forward)
+{
+    return forward != NO_FORWARD && draw_from(&error_source) % 4 == 0 ? DERR : OK;
+}
+
 /* About how many events each pair gets. */
 static inline unsigned long events_of_a_pair(unsigned long events, unsigned pairs)
 {
@@ -153,6 +175,7 @@ static inline struct drawn draw_next(unsigned char *sets, unsigned pairs, unsign
     else
         drawn = draw_lively(set, comes(2, events_a_pair));
     drawn.pair = pair;
+    drawn.event.fwd_err = draw_fwd_err(drawn.event.forward);
     sets[pair] = (unsigned char)finding_by_rows(&drawn.event, set, allowed_by(drawn.state_after)).after_set;
     return drawn;
 }

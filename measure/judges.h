@@ -5,9 +5,10 @@
 
 #include <stddef.h>
 #include <stdint.h>
+#include "../include/korehyumo.h"
 
 /* How many bytes an event has. */
-#define EVENT_BYTES 14u
+#define EVENT_BYTES KOREHYUMO_EVENT_BYTES
 
 /* The most pairs of a trace or a sheet, and the most events of a trace. */
 #define MOST 4096u

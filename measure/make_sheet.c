@@ -31,7 +31,7 @@ int main(int count, char **words)
     }
     unsigned long lines = number(words[1], 0, 1000000000);
     unsigned pairs = (unsigned)number(words[2], 1, MOST);
-    source = number(words[3], 0, 1000000000);
+    start_draws(number(words[3], 0, 1000000000));
     memset(sets, ALL_STATES, pairs);
 
     printf(SHEET_HEADER "\r\n");
@@ -39,10 +39,11 @@ int main(int count, char **words)
         struct drawn drawn = draw_next(sets, pairs, events_of_a_pair(lines, pairs));
         /* Few pairs are spread over all the numbers that a pair can have. */
         const struct event *event = &drawn.event;
-        printf("%u,%s,%u,%u,%u,%s,%s,%s,%s,%s,%s\r\n", drawn.pair * (MOST / pairs), request_names[drawn.request],
+        printf("%u,%s,%u,%u,%u,%s,%s,%s,%s,%s,%s,%s\r\n", drawn.pair * (MOST / pairs), request_names[drawn.request],
                event->ret_to_src, event->do_not_go_to_sd, drawn.excl, tag_names[event->tag],
-               response_names[event->response], tag_op_names[event->tag_op], resp_err_names[event->resp_err],
-               forward_names[event->forward], state_names[drawn.state_after]);
+               response_names[event->response], tag_op_names[event->tag_op], error_names[event->resp_err],
+               forward_names[event->forward], state_names[drawn.state_after],
+               event->forward == NO_FORWARD ? NOTHING : error_names[event->fwd_err]);
     }
     return fflush(stdout) == 0 && !ferror(stdout) ? 0 : 1;
 }

@@ -30,12 +30,12 @@ struct group {
 };
 
 /* How many groups are measured. */
-#define GROUPS 6
+#define GROUPS 7
 
 /* The groups, the first of which has all questions in range. */
 static struct group groups[GROUPS] = {
     {.least = 0, .most = MOST_ANSWERS}, {.least = 0, .most = 0}, {.least = 1, .most = 4}, {.least = 5, .most = 9},
-    {.least = 10, .most = 19}, {.least = 20, .most = MOST_ANSWERS},
+    {.least = 10, .most = 19}, {.least = 20, .most = 39}, {.least = 40, .most = MOST_ANSWERS},
 };
 
 /* The room for a list. */

@@ -78,25 +78,27 @@ static void print_verdicts(const struct trace *trace)
     printf("verdicts %zu %zu %u %u %u\n", trace->n, trace->pairs, counts[EXPLAINED], counts[UNEXPLAINED], counts[NOT_JUDGED]);
 }
 
-/* Ends the program where a request or an answer never occurs in a trace. */
+/* Ends the program where a request, an answer, or one of the two errors that forwarded data may have never occurs in a trace. */
 static void all_occur(const struct trace *trace)
 {
-    unsigned requests = 0, responses = 0;
+    unsigned requests = 0, responses = 0, fwd_errs = 0;
     for (size_t k = 0; k < trace->n; k++) {
         const uint8_t *bytes = trace->events + k * EVENT_BYTES;
         requests |= 1u << request_of(bytes[REQUEST_AT]);
         responses |= 1u << response_of(bytes[CHANNEL_AT], bytes[OPCODE_AT], bytes[RESP_AT], bytes[FWD_STATE_AT]);
+        fwd_errs |= bytes[FORWARDED_AT] ? 1u << bytes[FWD_ERR_AT] : 0;
     }
-    if (requests == (1u << REQUESTS) - 1 && responses == (1u << RESPONSES) - 1)
+    if (requests == (1u << REQUESTS) - 1 && responses == (1u << RESPONSES) - 1 && fwd_errs == (1u << OK | 1u << DERR))
         return;
-    fprintf(stderr, "measure_traces: a request or an answer does not occur among %zu events\n", trace->n);
+    fprintf(stderr, "measure_traces: a request, an answer or an error field does not occur among %zu events\n", trace->n);
     exit(1);
 }
 
-/* Measures all judges on all sizes. */
+/* Measures all judges on all sizes, and tells how many bytes an event has. */
 static void measure(void)
 {
     print_rounds();
+    printf("bytes %d\n", EVENT_BYTES);
     for (unsigned n = 0; n < SIZES; n++) {
         make_trace(&traces[n], sizes[n].n, sizes[n].pairs, SEED);
         if (traces[n].n == MOST)

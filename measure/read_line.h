@@ -3,8 +3,10 @@
 #ifndef READ_LINE_H
 #define READ_LINE_H
 
+#include <stdio.h>
 #include <string.h>
 #include "load.h"
+#include "lookup.h"
 #include "sheet.h"
 
 /* The most bytes of an answer's name. */
@@ -19,13 +21,18 @@
 /* The lowest bit of each field in a key, above RetToSrc and DoNotGoToSD, and how many bits a key has. */
 enum { KIND_BIT = 2, TAG_BIT = 5, TAG_OP_BIT = 7, RESP_ERR_BIT = 9, RESPONSE_BIT = 11, KEY_BITS = 16 };
 
-/* A name of up to eight bytes, what it adds to a key, and the states that a state after allows. */
+/* What the first eight bytes of an ending are multiplied by for the highest bits to tell it; found by trial. */
+#define ENDING_FACTOR 0x394e2be46f000000u
+
+/* How many of the highest bits that takes. */
+#define ENDING_BITS 6
+
+/* A name of up to eight bytes, and what it adds to a key. */
 struct short_name {
     _Alignas(32) uint64_t bytes;
     uint64_t mask;
     uint16_t key;
     uint8_t length;
-    uint8_t allowed;
 };
 
 /* A name of up to 24 bytes with the comma after it, what it adds to a key, and what else is known of it. */
@@ -38,12 +45,23 @@ struct long_name {
     uint8_t forward;
 };
 
-/* What a good line says; its key says all but the pair, the forward and the state after. */
+/* A state after and the error field of the forwarded data, with the comma and the CRLF after them, and what they say. */
+struct ending {
+    _Alignas(64) uint64_t bytes[2];
+    uint64_t mask[2];
+    uint8_t length;
+    uint8_t allowed;
+    uint8_t fwd_err;
+    uint8_t forwarded;
+};
+
+/* What a good line says; its key says all but the pair, the forward with its error field, and the state after. */
 struct line {
     unsigned pair;
     unsigned key;
     unsigned forward;
     unsigned forward_of_response;
+    unsigned fwd_err;
     unsigned allowed;
 };
 
@@ -67,11 +85,11 @@ static struct short_name tags[8];
 /* The tag operations by their second letter. */
 static struct short_name tag_ops[8];
 
-/* The error fields by their first letter. */
+/* The error fields to Home by their first letter. */
 static struct short_name resp_errs[8];
 
-/* The states after by their letters and what follows. */
-static struct short_name states_after[32];
+/* The endings by the highest bits of a product. */
+static struct ending endings[1 << ENDING_BITS];
 
 /* The hash of a request: its fourth and ninth bytes, and the F of Fwd after longer names, where no good line has another F. */
 static inline unsigned request_hash(const unsigned char *at)
@@ -103,10 +121,10 @@ static inline unsigned forward_hash(const unsigned char *at)
     return (at[9] & 2) | (at[10] & 1);
 }
 
-/* The hash of a state after: its letters and the CRLF that follows. */
-static inline unsigned state_hash(const unsigned char *at)
+/* The hash of an ending: its first five bytes, which tell it; the others don't matter, since the factor ends in 24 zeros. */
+static inline unsigned ending_hash(const unsigned char *at)
 {
-    return (at[0] + at[1] + at[2]) & 31;
+    return (unsigned)(load(at) * ENDING_FACTOR >> (64 - ENDING_BITS));
 }
 
 /* Whether a name of up to so many words stands here, with the comma after it. */
@@ -207,7 +225,7 @@ static inline const unsigned char *read_tag_op(const unsigned char *at, struct l
     return at + tag_op->length + 1;
 }
 
-/* Reads the error field: mostly OK, which adds nothing to a key. */
+/* Reads the error field to Home: mostly OK, which adds nothing to a key. */
 static inline const unsigned char *read_resp_err(const unsigned char *at, struct line *line)
 {
     if (at[0] == 'O' && at[1] == 'K' && at[2] == ',')
@@ -232,14 +250,17 @@ static inline const unsigned char *read_forward(const unsigned char *at, struct 
     return at + forward->length;
 }
 
-/* Reads the state after and the CRLF after it. */
-static inline const unsigned char *read_state_after(const unsigned char *at, struct line *line)
+/* Reads the state after, the error field of the forwarded data, which is none exactly where nothing is forwarded, and the CRLF. */
+static inline const unsigned char *read_ending(const unsigned char *at, struct line *line)
 {
-    const struct short_name *state_after = &states_after[state_hash(at)];
-    if (!stands_short(state_after, at))
+    const struct ending *ending = &endings[ending_hash(at)];
+    if ((load(at) & ending->mask[0]) != ending->bytes[0] || (load(at + 8) & ending->mask[1]) != ending->bytes[1])
         return 0;
-    line->allowed = state_after->allowed;
-    return at + state_after->length;
+    if (ending->forwarded != (line->forward != NO_FORWARD))
+        return 0;
+    line->fwd_err = ending->fwd_err;
+    line->allowed = ending->allowed;
+    return at + ending->length;
 }
 
 /* Reads the line that starts here and gives the start of the next, or null where it is malformed. */
@@ -247,11 +268,11 @@ static inline const unsigned char *read_line(const unsigned char *at, struct lin
 {
     return (at = read_pair(at, line)) && (at = read_request(at, line)) && (at = read_tag(at, line))
         && (at = read_response(at, line)) && (at = read_tag_op(at, line)) && (at = read_resp_err(at, line))
-        && (at = read_forward(at, line)) ? read_state_after(at, line) : 0;
+        && (at = read_forward(at, line)) ? read_ending(at, line) : 0;
 }
 
-/* The event of a key, as far as a key tells it. */
-static inline struct event event_of(unsigned key, unsigned forward)
+/* The event of a key, a forward and its error field. */
+static inline struct event event_of(unsigned key, unsigned forward, unsigned fwd_err)
 {
     return (struct event){
         .kind = key >> KIND_BIT & 7,
@@ -262,19 +283,20 @@ static inline struct event event_of(unsigned key, unsigned forward)
         .tag_op = key >> TAG_OP_BIT & 3,
         .resp_err = key >> RESP_ERR_BIT & 3,
         .forward = (unsigned char)forward,
+        .fwd_err = (unsigned char)fwd_err,
     };
 }
 
 /* Fills in a name that has up to eight bytes together with what is taken as its end. */
 static inline void put_short(struct short_name *names, unsigned (*hash)(const unsigned char *), const char *text, const char *end,
-                             unsigned key, unsigned allowed)
+                             unsigned key)
 {
     unsigned char bytes[8] = {0}, mask[8] = {0};
     size_t length = strlen(text) + strlen(end);
     memcpy(bytes, text, strlen(text));
     memcpy(bytes + strlen(text), end, strlen(end));
     memset(mask, 255, length);
-    names[hash(bytes)] = (struct short_name){load(bytes), load(mask), (uint16_t)key, (uint8_t)length, (uint8_t)allowed};
+    names[hash(bytes)] = (struct short_name){load(bytes), load(mask), (uint16_t)key, (uint8_t)length};
 }
 
 /* Fills in a name of up to 23 bytes and the comma after it. */
@@ -319,17 +341,39 @@ static inline void put_long_names(void)
     }
 }
 
-/* Fills in the tag states, the tag operations, the error fields and the states after. */
+/* Fills in the tag states, the tag operations and the error fields to Home. */
 static inline void put_short_names(void)
 {
     for (unsigned n = 0; n < TAGS; n++)
-        put_short(tags, first_letter_hash, tag_names[n], ",", n << TAG_BIT, 0);
+        put_short(tags, first_letter_hash, tag_names[n], ",", n << TAG_BIT);
     for (unsigned n = 0; n < TAG_OPS; n++)
-        put_short(tag_ops, tag_op_hash, tag_op_names[n], "", n << TAG_OP_BIT, 0);
-    for (unsigned n = 0; n < RESP_ERRS; n++)
-        put_short(resp_errs, first_letter_hash, resp_err_names[n], ",", n << RESP_ERR_BIT, 0);
-    for (unsigned n = 0; n <= STATES; n++)
-        put_short(states_after, state_hash, state_names[n], "\r\n", 0, allowed_by(n));
+        put_short(tag_ops, tag_op_hash, tag_op_names[n], "", n << TAG_OP_BIT);
+    for (unsigned n = 0; n < ERRORS; n++)
+        put_short(resp_errs, first_letter_hash, error_names[n], ",", n << RESP_ERR_BIT);
+}
+
+/* Fills in the ending of a state after and an error field, or of one and no forwarded data where that number is past all errors. */
+static inline void put_ending(unsigned state_after, unsigned fwd_err)
+{
+    int forwarded = fwd_err < ERRORS;
+    char text[16] = {0};
+    unsigned char mask[16] = {0};
+    int length = snprintf(text, sizeof text, "%s,%s\r\n", state_names[state_after], forwarded ? error_names[fwd_err] : NOTHING);
+    memset(mask, 255, (size_t)length);
+    const unsigned char *bytes = (const unsigned char *)text;
+    struct ending *ending = &endings[ending_hash(bytes)];
+    must(ending->length == 0, "two endings have one index");
+    *ending = (struct ending){
+        .bytes = {load(bytes), load(bytes + 8)}, .mask = {load(mask), load(mask + 8)}, .length = (uint8_t)length,
+        .allowed = (uint8_t)allowed_by(state_after), .fwd_err = (uint8_t)(forwarded ? fwd_err : OK), .forwarded = (uint8_t)forwarded,
+    };
+}
+
+/* Fills in all the endings. */
+static inline void put_endings(void)
+{
+    for (unsigned n = 0; n < (STATES + 1) * (ERRORS + 1); n++)
+        put_ending(n / (ERRORS + 1), n % (ERRORS + 1));
 }
 
 /* Fills in all the names, with bytes that no mask lets through where there is none. */
@@ -341,10 +385,11 @@ static inline void put_names(void)
         responses[n].bytes[0] = 1;
     for (int n = 0; n < 8; n++)
         tags[n].bytes = tag_ops[n].bytes = resp_errs[n].bytes = 1;
-    for (int n = 0; n < 32; n++)
-        states_after[n].bytes = 1;
+    for (int n = 0; n < 1 << ENDING_BITS; n++)
+        endings[n].bytes[0] = 1;
     put_long_names();
     put_short_names();
+    put_endings();
 }
 
 #endif

@@ -23,8 +23,8 @@ enum { TAG_INVALID, TAG_CLEAN, TAG_DIRTY, TAG_NOT_SEEN, TAGS };
 /* The tag operations. */
 enum { OP_INVALID, OP_TRANSFER, OP_UPDATE, OP_MATCH, TAG_OPS };
 
-/* The error fields. */
-enum { OK, EXOK, DERR, NDERR, RESP_ERRS };
+/* What an error field says, the one to Home and the one of the forwarded data alike. */
+enum { OK, EXOK, DERR, NDERR, ERRORS };
 
 /* What a request is to the tables; an exclusive sequence matters to SnpPreferUniqueFwd alone. */
 enum { PLAIN, FORWARDING, PREFERRING, PREFERRING_EXCL, UNIQUE, CLEAN_INVALID, MAKE_INVALID, KINDS };
@@ -223,6 +223,7 @@ struct event {
     unsigned char tag_op;
     unsigned char resp_err;
     unsigned char forward;
+    unsigned char fwd_err;
 };
 
 /* What a request is to the tables. */
@@ -286,12 +287,18 @@ static inline unsigned allowed_by(unsigned state_after)
     return state_after == STATE_NOT_SEEN ? ALL_STATES : ONLY(state_after);
 }
 
-/* Whether a row takes an error field. */
+/* Whether a row takes an error field to Home. */
 static inline int takes_resp_err(const struct row *row, unsigned resp_err)
 {
     if (row->table == NDERR_ROW)
         return resp_err == NDERR;
     return resp_err == OK || (resp_err == DERR && has_data(row->response));
+}
+
+/* Whether the rows take an error field of the forwarded data, whatever the one to Home is; where nothing is forwarded, it is 0. */
+static inline int takes_fwd_err(unsigned forward, unsigned fwd_err)
+{
+    return fwd_err == OK || (fwd_err == DERR && forward != NO_FORWARD);
 }
 
 /* Whether a row takes a tag operation under a tag state that is one of the three; for B4.46 and the bench copy that is the house rule. */
@@ -315,7 +322,7 @@ static inline int permits(const struct row *row, const struct event *event)
 {
     if (row->response != event->response || row->forward != event->forward)
         return 0;
-    if (!in_use(row->table, event->kind) || !takes_resp_err(row, event->resp_err))
+    if (!in_use(row->table, event->kind) || !takes_resp_err(row, event->resp_err) || !takes_fwd_err(row->forward, event->fwd_err))
         return 0;
     if (row->ret_to_src != X && row->ret_to_src != event->ret_to_src)
         return 0;

@@ -6,7 +6,7 @@
 #include "rows.h"
 
 /* The first line of a sheet without its CRLF. */
-#define SHEET_HEADER "pair,request,RetToSrc,DoNotGoToSD,excl,tag,response,TagOp,RespErr,forward,final"
+#define SHEET_HEADER "pair,request,RetToSrc,DoNotGoToSD,excl,tag,response,TagOp,RespErr,forward,final,fwdErr"
 
 /* The first line of the output without its CRLF. */
 #define OUTPUT_HEADER "event,verdict,duty,states"
@@ -29,11 +29,14 @@ static const char *const response_names[RESPONSES] = {RESPONSE_LIST(TEXT)};
 /* The names of the tag operations. */
 static const char *const tag_op_names[TAG_OPS] = {"Invalid", "Transfer", "Update", "Match"};
 
-/* The names of the error fields. */
-static const char *const resp_err_names[RESP_ERRS] = {"OK", "EXOK", "DERR", "NDERR"};
+/* The names of what an error field says. */
+static const char *const error_names[ERRORS] = {"OK", "EXOK", "DERR", "NDERR"};
+
+/* How no forwarded data is written, and its error field too. */
+#define NOTHING "-"
 
 /* The names of the data forwarded, and how none is written. */
-static const char *const forward_names[FORWARDS] = {"-", FORWARD_LIST(TEXT)};
+static const char *const forward_names[FORWARDS] = {NOTHING, FORWARD_LIST(TEXT)};
 
 /* The names of the verdicts. */
 static const char *const verdict_names[VERDICTS] = {"explained", "unexplained", "not judged"};

@@ -63,7 +63,7 @@ static inline void put_event(uint8_t *bytes, const struct drawn *drawn)
 static inline void make_trace(struct trace *trace, size_t n, size_t pairs, uint64_t seed)
 {
     unsigned char sets[MOST];
-    source = seed;
+    start_draws(seed);
     trace->n = n;
     trace->pairs = pairs;
     memset(trace->start, ALL_STATES, pairs);
