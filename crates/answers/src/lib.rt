@@ -110,8 +110,8 @@ fn span(q: Question) -> u16
     span_of(list_of(context(q)))
 }
 
-// Puts the ten bytes of an answer into the room at an offset: its channel, the bytes of `rest`, the lowest first, and the error field of its
-// forwarded data. They must fit.
+// Puts the ten bytes of an answer into the room at an offset: its channel, the bytes of `rest`, the lowest first, and the error field
+// of its forwarded data. They must fit.
 fn put_answer(room: &mut [u8], at: usize, channel: u8, rest: u64, error: u8)
     requires { ⌜ at + answerLength ≤ length (now room) ⌝ }
     ensures { λ _. ⌜ now (room .exit) ≡

@@ -22,23 +22,20 @@ use Rattle.rows.specs.Event.{requestOf, retToSrcOf, doNotGoToSDOf, exclO
 pub told : (rule : Table → Bool) {T U : Table} {r : Bool} → T ≡ U → r ≡ rule U → r ≡ rule T
 told rule h k = k ∙ ap rule (sym h)
 
+-- OK, or DERR too where a test holds: the choice of `ok_or_derr` and of `on_forward`
+derr-if : (n : ℕ) (b : Bool) → cond b (eqb n OK || eqb n DERR) (eqb n OK) ≡ n ∈? cond b (OK ∷ DERR ∷ []) (OK ∷ [])
+derr-if n true = one-of-2 n OK DERR
+derr-if n false = one-of-1 n OK
+
 -- `ok_or_derr` computes okOrDerr
 pub ok-or-derr : (n : ℕ) (a : Answer) (h r : Bool) → h ≡ hasData a → r ≡ cond h (eqb n OK || eqb n DERR) (eqb n OK) → r ≡ n ∈? okOrDerr a
-ok-or-derr n a h r hh hr = hr ∙ ap (λ (b : Bool). cond b (eqb n OK || eqb n DERR) (eqb n OK)) hh ∙ each (hasData a)
-  where
-    each : (b : Bool) → cond b (eqb n OK || eqb n DERR) (eqb n OK) ≡ n ∈? cond b (OK ∷ DERR ∷ []) (OK ∷ [])
-    each true = one-of-2 n OK DERR
-    each false = one-of-1 n OK
+ok-or-derr n a h r hh hr = hr ∙ ap (λ (b : Bool). cond b (eqb n OK || eqb n DERR) (eqb n OK)) hh ∙ derr-if n (hasData a)
 
 -- `on_forward` computes onForward
 pub on-forward : (n : ℕ) (a : Answer) (f : Forward) (p r : Bool) → f ≡ forwardOf a → p ≡ present f → r ≡ cond p (eqb n OK || eqb n DERR) (eqb n 0)
     → r ≡ n ∈? onForward a
 on-forward n a f p r hf hp hr =
-    hr ∙ ap (λ (b : Bool). cond b (eqb n OK || eqb n DERR) (eqb n 0)) (hp ∙ ap present hf) ∙ each (present (forwardOf a))
-  where
-    each : (b : Bool) → cond b (eqb n OK || eqb n DERR) (eqb n 0) ≡ n ∈? cond b (OK ∷ DERR ∷ []) (0 ∷ [])
-    each true = one-of-2 n OK DERR
-    each false = one-of-1 n 0
+    hr ∙ ap (λ (b : Bool). cond b (eqb n OK || eqb n DERR) (eqb n 0)) (hp ∙ ap present hf) ∙ derr-if n (present (forwardOf a))
 
 -- `by_tags` computes byTags
 pub by-tags : (n t s : ℕ) (a : Answer) (m : ℕ) (p x y r : Bool) → m ≡ answerResp a → p ≡ respPD m
