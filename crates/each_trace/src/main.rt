@@ -2,19 +2,21 @@
 // Numbers are little-endian. A case is six 32-bit numbers, and then the six buffers. The numbers are the length of the events in bytes,
 // the count of pair numbers, and the lengths of table, verdicts, duties and after-sets. A pair number is two bytes. An answer is the
 // refusal number in one byte, the place in 32 bits, and the last four buffers as left. A case that is cut off or too long ends the run.
+use kinds::MOST_EVENTS;
+use kinds::MOST_PAIRS;
 use libc::STDIN_FILENO;
 use libc::STDOUT_FILENO;
 use trace::Outcome;
 ghost use Prim.Native.Nat.{_<_, _≤_};
 
-// The room for a case: bytes of events, bytes of pair numbers, sets in the table, and events.
+// The room for a case: bytes of events, twice the most sets of a table, twice the most events, and two bytes for each pair number.
 const EVENTS_ROOM: usize = 65536;
 
-const PAIR_BYTES_ROOM: usize = 16384;
+const TABLE_ROOM: usize = MOST_PAIRS * 2;
 
-const TABLE_ROOM: usize = 8192;
+const EACH_ROOM: usize = MOST_EVENTS * 2;
 
-const EACH_ROOM: usize = 8192;
+const PAIR_BYTES_ROOM: usize = EACH_ROOM * 2;
 
 // The lengths in the head of a case; `said` is whether the head was complete.
 struct Lengths {

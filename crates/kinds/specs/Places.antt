@@ -13,11 +13,11 @@ mostEvents = 4096
 
 -- the most pairs of a table of sets; a sheet has exactly as many (definition 8.5)
 abbrev pub mostPairs : ℕ
-mostPairs = 4096
+mostPairs = 65536
 
 -- the highest pair number on a sheet
 abbrev pub highestPair : ℕ
-highestPair = 4095
+highestPair = 65535
 
 -- the set of a pair in the table of sets; the empty set if the table does not have the pair
 abbrev pub setIn : List ℕ → ℕ → ℕ

@@ -17,10 +17,10 @@ pub const EVENT_BYTES: usize = 15;
 pub const MOST_EVENTS: usize = 4096;
 
 // The most pairs that a table of sets may have (definition 3.3). A sheet has exactly as many (definition 8.5).
-pub const MOST_PAIRS: usize = 4096;
+pub const MOST_PAIRS: usize = 65536;
 
 // The highest pair number on a sheet.
-pub const HIGHEST_PAIR: u32 = 4095;
+pub const HIGHEST_PAIR: u32 = 65535;
 
 // The set of all seven states, one bit each (definition 2.2). It is the highest set.
 pub const ALL_STATES: u8 = 127;

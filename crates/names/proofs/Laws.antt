@@ -77,7 +77,7 @@ missed s code other h k = sym (ap (λ (b : Bool). cond b code other) (sym h ∙ 
 number : ℕ → List ℕ → ℕ
 number v f = cond (all isDigit f) (readDecimal v f) unknown
 
--- the first i of at most four digits stand for v
+-- the first i of at most five digits stand for v
 pub record Read (f : List ℕ) (m v i : ℕ) : Type 0 where
   pub within : i ≤ m
   pub long : length f ≡ m
@@ -106,7 +106,7 @@ digit-low d h = leb-true 48 d (and-left (leb 48 d) (leb d 57) (not-false (isDigi
 pub digit-high : (d : ℕ) → not (isDigit d) ≡ false → d ≤ 57
 digit-high d h = leb-true d 57 (and-right (leb 48 d) (leb d 57) (not-false (isDigit d) h))
 
--- before the last digit, the number is below 1,000
+-- before the last digit, the number is below 10,000
 pub few-digits : (i m v : ℕ) → i < m → m ≤ mostDigits → v < 10 ^ i → v < 10 ^ (mostDigits - 1)
 few-digits i m v h k l =
     let le : 10 ^ i ≤ 10 ^ (mostDigits - 1) = pow-le-pow-right (omega arith) before-last in
@@ -139,7 +139,7 @@ pub read-end : {f : List ℕ} {m v i : ℕ} → Read f m v i → m ≤ i → v �
 unfolding number readDecimal
 read-end {f} {m} {v} {i} a h = sym (ap (number v) (drop-of-length-le f {i = i} (omega (arith, a .long)))) ∙ a .rest
 
--- the four tests of a pair's field: only digits (a), at least one (b), at most four (c), a leading zero (z)
+-- the four tests of a pair's field: only digits (a), at least one (b), at most five (c), a leading zero (z)
 no-length : (a b c z : Bool) → not (b && c) ≡ true → a && b && c && not z ≡ false
 no-length false b c z h = refl
 no-length true false c z h = refl

@@ -265,18 +265,22 @@ decimal-above v (d ∷ ds) =
     (mul-le-mul-right (10 ^ length ds) (omega arith)))
     (decimal-above (v * 10 + (d - 48)) ds))
 
+-- a pair field of more than one digit stands for at least 10 to the number of the others
+pub pair-above : (d : ℕ) (ds : List ℕ) → isPair (d ∷ ds) ≡ true → 0 < length ds → 10 ^ length ds ≤ readDecimal 0 (d ∷ ds)
+unfolding readDecimal
+pair-above d ds p l =
+    let digit = low d (and-left (isDigit d) (all isDigit ds) (all-digits (d ∷ ds) p)) in
+    let more : 1 * 10 ^ length ds ≤ (0 * 10 + (d - 48)) * 10 ^ length ds = mul-le-mul-right (10 ^ length ds) (omega (arith, digit, not-zero d ds p (omega (arith, l)))) in
+    omega (arith, more, decimal-above (0 * 10 + (d - 48)) ds)
+
 -- a shorter pair field never has the same value
 shorter : (f g : List ℕ) → isPair f ≡ true → isPair g ≡ true → length f < length g → readDecimal 0 f ≡ readDecimal 0 g → ⊥
-unfolding readDecimal
 shorter f [] p q l h = omega arith
 shorter f (e ∷ es) p q l h =
-    let digit = low e (and-left (isDigit e) (all isDigit es) (all-digits (e ∷ es) q)) in
-    let long = some-digit f p in
-    let more : 1 * 10 ^ length es ≤ (0 * 10 + (e - 48)) * 10 ^ length es = mul-le-mul-right (10 ^ length es) (omega (arith, digit, not-zero e es q (omega (arith, long, l)))) in
-    let above = decimal-above (0 * 10 + (e - 48)) es in
+    let above = pair-above e es q (omega (arith, some-digit f p, l)) in
     let below = decimal-below 0 f (all-digits f p) in
     let wide : 10 ^ length f ≤ 10 ^ length es = pow-le-pow-right (omega arith) (omega (arith, l)) in
-    omega (arith, more, above, below, wide, h)
+    omega (arith, above, below, wide, h)
 
 -- pair fields with the same value are the same field
 one-field : (f g : List ℕ) → isPair f ≡ true → isPair g ≡ true → readDecimal 0 f ≡ readDecimal 0 g → f ≡ g
@@ -299,7 +303,7 @@ pair-one-field f g h k = go (isPair f) refl (isPair g) refl h k
     go true p false q l m = absurd (m l)
     go false p b q l m = absurd (m refl)
 
--- the field is unknown exactly when it is not 1 to 4 digits without a leading zero
+-- the field is unknown exactly when it is not 1 to 5 digits without a leading zero
 pub pair-unknown : (f : List ℕ) → (pairOf f ≡ unknown) ↔ (isPair f ≡ false)
 unfolding pairOf
 pair-unknown f = (to (isPair f) refl, λ h. ap (λ (b : Bool). cond b (readDecimal 0 f) unknown) h)
@@ -341,7 +345,7 @@ columns-limited =
 
 -- examples of pair fields, good ones and bad ones, at each limit
 pub some-pairs :
-    map pairOf (bytes "0" ∷ bytes "9" ∷ bytes "10" ∷ bytes "4095" ∷ bytes "9999" ∷ bytes "10000" ∷ bytes "" ∷ bytes "00" ∷ bytes "01" ∷ bytes "1:" ∷ bytes "/1" ∷ bytes "-1" ∷ bytes " 1" ∷ [])
-    ≡ 0 ∷ 9 ∷ 10 ∷ 4095 ∷ 9999 ∷ unknown ∷ unknown ∷ unknown ∷ unknown ∷ unknown ∷ unknown ∷ unknown ∷ unknown ∷ []
+    map pairOf (bytes "0" ∷ bytes "9" ∷ bytes "10" ∷ bytes "9999" ∷ bytes "10000" ∷ bytes "65535" ∷ bytes "99999" ∷ bytes "100000" ∷ bytes "" ∷ bytes "00" ∷ bytes "01" ∷ bytes "065535" ∷ bytes "1:" ∷ bytes "/1" ∷ bytes "-1" ∷ bytes " 1" ∷ [])
+    ≡ 0 ∷ 9 ∷ 10 ∷ 9999 ∷ 10000 ∷ 65535 ∷ 99999 ∷ unknown ∷ unknown ∷ unknown ∷ unknown ∷ unknown ∷ unknown ∷ unknown ∷ unknown ∷ unknown ∷ []
 unfolding pairOf isPair readDecimal
 some-pairs = refl

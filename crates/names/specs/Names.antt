@@ -168,9 +168,9 @@ leadingZero field = eqb (getD field 0 0) zeroDigit && ltb 1 (length field)
 
 -- the most digits of a pair number
 abbrev pub mostDigits : ℕ
-mostDigits = 4
+mostDigits = 5
 
--- 1 to 4 digits without a leading zero
+-- 1 to 5 digits without a leading zero
 unfoldable pub isPair : List ℕ → Bool
 isPair field = all isDigit field && ltb 0 (length field) && leb (length field) mostDigits && not (leadingZero field)
 

@@ -23,7 +23,7 @@ pub mod columns;
 pub const UNKNOWN: u32 = 4294967295;
 
 // The most digits of a pair number.
-const MOST_DIGITS: usize = 4;
+const MOST_DIGITS: usize = 5;
 
 // The first digit.
 const ZERO: u8 = 48;
@@ -198,7 +198,7 @@ pub fn state_after(field: &[u8]) -> u32
     known(field, b"I", LineState::I.0, code)
 }
 
-// The number that at most four digits stand for; UNKNOWN if some byte is not a digit.
+// The number that at most five digits stand for; UNKNOWN if some byte is not a digit.
 fn digits(field: &[u8]) -> u32
     requires { ⌜ length (now field) ≤ mostDigits ⌝ }
     ensures { λ r. ⌜ r ≡ cond (all isDigit (now (field .entry))) (readDecimal 0 (now (field .entry))) unknown ⌝ }

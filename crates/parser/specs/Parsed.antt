@@ -59,7 +59,7 @@ parsedAs pair event = record { refusal = record { 0 = 0 }; pair = record { 0 = p
 abbrev pub refusedParse : ℕ → ParsedLine
 refusedParse number = record { refusal = record { 0 = number }; pair = record { 0 = 0 }; event = replicate eventLength 0 }
 
--- a line parsed: 8 if it is not well formed, then 3 for a pair above 4,095, else its pair and its event (definition 8.7, 8.8)
+-- a line parsed: 8 if it is not well formed, then 3 for a pair above 65,535, else its pair and its event (definition 8.7, 8.8)
 unfoldable pub parsed : List ℕ → ParsedLine
 parsed line =
     cond (wellFormed line)

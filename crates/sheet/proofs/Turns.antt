@@ -124,7 +124,7 @@ turns-run (more {a = a} {piece = piece} {table = table} {out = out} {input = inp
     (turns-run others now-ended h′ (length (h′ .text)) (ap (λ (x : TurnLeft). x .answer) is-left)
     (ap (λ (x : TurnLeft). take (length (h′ .rest)) (x .piece)) is-left ∙ in-front (h′ .rest) piece′) (ap (λ (x : TurnLeft). x .table) is-left) no-input)
 
--- with room for a line and 4,096 pairs in the table, the program begins with the output's header and the start of a run
+-- with room for a line and 65,536 pairs in the table, the program begins with the output's header and the start of a run
 pub begun-start : (table out : List ℕ) → length table ≡ mostPairs → room ≤ length out
     → begun table out ≡ begunWith (answerWith (carriedOf false start) (length headerLine)) startTable (inFront headerLine out)
 unfolding begun startTable headerLine

@@ -189,7 +189,7 @@ module _ (issue : Issue) (l : Lent) where
       e
       ∙ sym (by-stages true false (sym h ∙ not-false fit k) (ap (λ (i : ℕ). ltb i (length (l .table))) (sym q) ∙ le-ltb p (length (l .table)) b))
 
-  -- if the lengths fit, there are at most 4,096 pairs and at most 4,096 events
+  -- if the lengths fit, there are at most 65,536 pairs and at most 4,096 events
   pub few-sets : (fit-test : Bool) → fit-test ≡ lengthsFit l → not fit-test ≡ false → length (l .table) ≤ mostPairs
   few-sets fit-test h k = fits l (sym h ∙ not-false fit-test k) .few-pairs
 
