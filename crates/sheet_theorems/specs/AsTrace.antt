@@ -17,7 +17,7 @@ abbrev pub pairsOf : List TraceEvent → List ℕ
 pairsOf [] = []
 pairsOf (x ∷ xs) = x .pair ∷ pairsOf xs
 
--- the lent buffers: the lines' events and pairs, 4,096 pairs with all seven states each, and three output buffers
+-- the lent buffers: the lines' events and pairs, 65,536 pairs with all seven states each, and three output buffers
 abbrev pub asTrace : List (List ℕ) → List ℕ → List ℕ → List ℕ → Lent
 asTrace lines verdicts duties afters = lent (bytesOf (eventsOf lines)) (pairsOf (eventsOf lines)) startTable verdicts duties afters
 

@@ -101,17 +101,18 @@ cases =
     second "0,SnpShared,2,0,0,Invalid,SnpRespData_SC_PD,Invalid,OK,-,?,-" "refused,8,2" ∷
     second "0,SnpShared,0,2,0,Invalid,SnpRespData_SC_PD,Invalid,OK,-,?,-" "refused,8,2" ∷
     second "0,SnpShared,0,0,2,Invalid,SnpRespData_SC_PD,Invalid,OK,-,?,-" "refused,8,2" ∷
-    -- 8: a pair without digits, with a leading zero, with five digits, with a sign
+    -- 8: a pair without digits, with a leading zero, with six digits, with a sign
     second ",SnpShared,0,0,0,Invalid,SnpRespData_SC_PD,Invalid,OK,-,?,-" "refused,8,2" ∷
     second "00,SnpShared,0,0,0,Invalid,SnpRespData_SC_PD,Invalid,OK,-,?,-" "refused,8,2" ∷
     second "01,SnpShared,0,0,0,Invalid,SnpRespData_SC_PD,Invalid,OK,-,?,-" "refused,8,2" ∷
-    second "10000,SnpShared,0,0,0,Invalid,SnpRespData_SC_PD,Invalid,OK,-,?,-" "refused,8,2" ∷
+    second "065535,SnpShared,0,0,0,Invalid,SnpRespData_SC_PD,Invalid,OK,-,?,-" "refused,8,2" ∷
+    second "100000,SnpShared,0,0,0,Invalid,SnpRespData_SC_PD,Invalid,OK,-,?,-" "refused,8,2" ∷
     second "-1,SnpShared,0,0,0,Invalid,SnpRespData_SC_PD,Invalid,OK,-,?,-" "refused,8,2" ∷
-    -- 3: a pair above 4,095, where 4,095 itself is answered; and 8 before 3
-    second "4096,SnpShared,0,0,0,Invalid,SnpRespData_SC_PD,Invalid,OK,-,?,-" "refused,3,2" ∷
-    second "9999,SnpShared,0,0,0,Invalid,SnpRespData_SC_PD,Invalid,OK,-,?,-" "refused,3,2" ∷
-    second "4095,SnpShared,0,0,0,Invalid,SnpRespData_SC_PD,Invalid,OK,-,?,-" goodAnswer ∷
-    second "4096,SnpOnce,0,0,0,Invalid,SnpRespData_SC_PD,Invalid,OK,-,?,-" "refused,8,2" ∷
+    -- 3: a pair above 65,535, where 65,535 itself is answered; and 8 before 3
+    second "65536,SnpShared,0,0,0,Invalid,SnpRespData_SC_PD,Invalid,OK,-,?,-" "refused,3,2" ∷
+    second "99999,SnpShared,0,0,0,Invalid,SnpRespData_SC_PD,Invalid,OK,-,?,-" "refused,3,2" ∷
+    second "65535,SnpShared,0,0,0,Invalid,SnpRespData_SC_PD,Invalid,OK,-,?,-" goodAnswer ∷
+    second "65536,SnpOnce,0,0,0,Invalid,SnpRespData_SC_PD,Invalid,OK,-,?,-" "refused,8,2" ∷
     -- 7 before 8: a line of 161 bytes, with its CR LF and without; a line of 160 bytes is 8
     secondBytes (replicate 161 120) "refused,7,2" ∷
     given (textOf (headerText ∷ []) ++ replicate 161 120) ("refused,7,2" ∷ []) ∷
@@ -150,9 +151,48 @@ forwardedCases =
     second "0,SnpCleanFwd,0,0,0,Invalid,SnpResp_SC_Fwded_SD_PD,Invalid,OK,CompData_SD_PD,?,NDERR" "0,unexplained,none," ∷
     second "0,SnpCleanFwd,0,0,0,Invalid,SnpResp_SC_Fwded_SD_PD,Invalid,OK,CompData_SD_PD,?,-" "refused,8,2" ∷
     second "0,SnpShared,0,0,0,Invalid,SnpRespData_SC_PD,Invalid,OK,-,?,OK" "refused,8,2" ∷
-    second "4096,SnpShared,0,0,0,Invalid,SnpRespData_SC_PD,Invalid,OK,-,?,OK" "refused,8,2" ∷
+    second "65536,SnpShared,0,0,0,Invalid,SnpRespData_SC_PD,Invalid,OK,-,?,OK" "refused,8,2" ∷
     second "0,SnpShared,0,0,0,Invalid,SnpRespData_SC_PD,Invalid,OK,-,-,?" "refused,8,2" ∷
     given (textOf (headerBefore ∷ "0,SnpShared,0,0,0,Invalid,SnpRespData_SC_PD,Invalid,OK,-,?" ∷ [])) ("refused,6,1" ∷ []) ∷
+    []
+
+-- a good line of this pair, and its answer
+abbrev onPair : String → String → Case
+onPair pair answer = secondBytes (bytes pair ++ bytes ",SnpShared,0,0,0,Invalid,SnpRespData_SC_PD,Invalid,OK,-,?,-") answer
+
+-- pairs around the old and the new limit, and with a leading zero; pairs that are equal modulo 4,096, each with its own set; a line behind a
+-- line that is answered
+abbrev pub pairCases : List Case
+pairCases =
+    onPair "4095" goodAnswer ∷
+    onPair "4096" goodAnswer ∷
+    onPair "9999" goodAnswer ∷
+    onPair "10000" goodAnswer ∷
+    onPair "65535" goodAnswer ∷
+    onPair "65536" "refused,3,2" ∷
+    onPair "99999" "refused,3,2" ∷
+    onPair "100000" "refused,8,2" ∷
+    onPair "04096" "refused,8,2" ∷
+    onPair "065535" "refused,8,2" ∷
+    given (textOf (headerText ∷ "61440,SnpClean,0,0,0,?,SnpResp_SC,Invalid,DERR,-,?,-" ∷ goodText ∷ [])) ("0,unexplained,none," ∷ "1,explained,Home,I SC" ∷ []) ∷
+    given (textOf (headerText ∷ goodText ∷ "4096,SnpMakeInvalid,0,0,0,Invalid,SnpResp_I,Invalid,OK,-,?,-" ∷ [])) (goodAnswer ∷ "1,explained,discarded,I" ∷ []) ∷
+    []
+
+-- the same sheets, and what the program of before said
+abbrev pub pairCasesBefore : List Case
+pairCasesBefore =
+    onPair "4095" goodAnswer ∷
+    onPair "4096" "refused,3,2" ∷
+    onPair "9999" "refused,3,2" ∷
+    onPair "10000" "refused,8,2" ∷
+    onPair "65535" "refused,8,2" ∷
+    onPair "65536" "refused,8,2" ∷
+    onPair "99999" "refused,8,2" ∷
+    onPair "100000" "refused,8,2" ∷
+    onPair "04096" "refused,8,2" ∷
+    onPair "065535" "refused,8,2" ∷
+    given (textOf (headerText ∷ "61440,SnpClean,0,0,0,?,SnpResp_SC,Invalid,DERR,-,?,-" ∷ goodText ∷ [])) ("refused,8,2" ∷ []) ∷
+    given (textOf (headerText ∷ goodText ∷ "4096,SnpMakeInvalid,0,0,0,Invalid,SnpResp_I,Invalid,OK,-,?,-" ∷ [])) (goodAnswer ∷ "refused,3,3" ∷ []) ∷
     []
 
 -- the output is as the case says
