@@ -4,16 +4,18 @@
  *
  * A capture starts with a mark of four bytes: 'C', 'H', 'I' and the length of an event, 15. Then comes a record of 17 bytes for
  * each event: the pair number in two bytes, low byte first, and the 15 bytes of the event. Without FILE it is read from standard
- * input. There are 4,096 pairs, and each starts with all seven states possible.
+ * input. Every 16-bit number is a pair, so no event is refused with 3. Each pair starts with all seven states possible.
  *
- * The capture may have any length. It is judged 4,096 events at a time, and the table of sets goes from each part to the
- * next.
+ * The capture may have any length. It is judged KOREHYUMO_MOST_EVENTS events at a time, and the table of sets goes from each part
+ * to the next.
  *
- * Records grew by one byte. An old capture has records of 16 bytes and no mark. Put the mark in front and a byte 0 behind each
- * record, and it is a new one. An input that does not start with the whole mark is refused with 1 at event 0 before anything is
- * judged: 17 records of the old format have the length of 16 new ones, so the length alone would not tell. An old program judges
- * nothing of a new capture. It refuses the mark, which reads as a pair above 4,095, with 3 at event 0, or says that the capture
- * ends within an event. */
+ * Records grew by one byte in version 0.2.0. An old capture has records of 16 bytes and no mark. Put the mark in front and a byte
+ * 0 behind each record, and it is a new one. An input that does not start with the whole mark is refused with 1 at event 0 before
+ * anything is judged: 17 records of the old format have the length of 16 new ones, so the length alone would not tell.
+ *
+ * Programs of versions 0.1.0 and 0.2.0 have 4,096 pairs. One of 0.1.0 judges nothing of a new capture: it refuses the mark, which
+ * reads as a pair above 4,095, with 3 at event 0, or says that the capture ends within an event. One of 0.2.0 refuses the first
+ * event of a pair above 4,095 with 3. */
 
 #include <errno.h>
 #include <stdio.h>
@@ -26,7 +28,10 @@ static const uint8_t mark[4] = {'C', 'H', 'I', KOREHYUMO_EVENT_BYTES};
 /* How many bytes a record has. */
 #define RECORD_BYTES (2 + KOREHYUMO_EVENT_BYTES)
 
-/* Up to 4,096 events of a capture as they are lent to the judge, and what it answers. */
+/* The pair number of a record is always in the table. */
+_Static_assert(KOREHYUMO_MOST_PAIRS > UINT16_MAX, "every 16-bit number is a pair");
+
+/* Up to KOREHYUMO_MOST_EVENTS events of a capture as they are lent to the judge, and what it answers. */
 struct part {
     size_t count;
     uint8_t events[KOREHYUMO_MOST_EVENTS * KOREHYUMO_EVENT_BYTES];

@@ -33,7 +33,8 @@
  * beside every RespErr that they permit. Without a forward they permit 0. Other values up to 3 are in
  * range: no row explains them, and none is refused.
  *
- * PAIRS AND SETS. A pair is one cache line in one cache. The states that it can be in are one byte:
+ * PAIRS AND SETS. A pair is one cache line in one cache. Its number is the index of its set in the
+ * table of sets. No 16-bit number has another meaning. The states that a pair can be in are one byte:
  * bit n is set if state n is possible.
  *
  * RESULTS. Every result reads alike:
@@ -63,12 +64,13 @@
 extern "C" {
 #endif
 
-/* The version of this interface, as numbers and as text. It is 0.2.0: an event has 15 bytes and a
- * listed answer ten, where 0.1.0 had 14 and nine. */
+/* The version of this interface, as numbers and as text. It is 0.3.0: a table may have 65,536 sets,
+ * and in 0.2.0 and 0.1.0 it could have 4,096. An event has 15 bytes and a listed answer ten since
+ * 0.2.0; in 0.1.0 they had 14 and nine. */
 #define KOREHYUMO_VERSION_MAJOR 0
-#define KOREHYUMO_VERSION_MINOR 2
+#define KOREHYUMO_VERSION_MINOR 3
 #define KOREHYUMO_VERSION_PATCH 0
-#define KOREHYUMO_VERSION "0.2.0"
+#define KOREHYUMO_VERSION "0.3.0"
 
 /* How many bytes an event has. */
 #define KOREHYUMO_EVENT_BYTES 15
@@ -76,8 +78,8 @@ extern "C" {
 /* The most events of one call. */
 #define KOREHYUMO_MOST_EVENTS 4096
 
-/* The most pairs of one call. */
-#define KOREHYUMO_MOST_PAIRS 4096
+/* The most pairs of one call: the most sets of its table. With so many every 16-bit number is a pair. */
+#define KOREHYUMO_MOST_PAIRS 65536
 
 /* How many bytes a listed answer has. */
 #define KOREHYUMO_ANSWER_BYTES 10
@@ -196,14 +198,17 @@ uint64_t korehyumo_event(const uint8_t *event, size_t event_len,
  * Each of the six may be null with length 0. All six null is an accepted trace of no events.
  *
  *   number                refused when (the first that applies is given)            place
- *   1 KOREHYUMO_LENGTHS   events_len is not a multiple of 15, there are more than   0
- *                         4,096 events, table_len is above 4,096, or pairs_len,
- *                         verdicts_len, duties_len or afters_len is not n
+ *   1 KOREHYUMO_LENGTHS   events_len is not a multiple of 15, n is above            0
+ *                         KOREHYUMO_MOST_EVENTS, table_len is above
+ *                         KOREHYUMO_MOST_PAIRS, or pairs_len, verdicts_len,
+ *                         duties_len or afters_len is not n
  *   2 KOREHYUMO_SET       a set in the table is above 127                           lowest such pair
  *   Then event by event:
  *   3 KOREHYUMO_PAIR      its pair number is not below table_len                    that event
  *   4 KOREHYUMO_RANGE     one of its bytes from 1 to 14 is outside its range        that event
  *   5 KOREHYUMO_REQUEST   its request is not one of the ten                         that event
+ *
+ * With a table of KOREHYUMO_MOST_PAIRS sets no event is refused with 3.
  *
  * Accepted: verdicts[k] is event k's verdict, duties[k] its duty (0 unless it is explained), and
  * afters[k] its pair's set after it. table[p] is exactly the set of states in which some permitted

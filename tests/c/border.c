@@ -1,20 +1,30 @@
-/* Tests what the header says of the edges of the C interface: lengths, null pointers, places, rooms, and that a refused trace
- * or question writes nothing. */
+/* Tests what the header says of the edges of the C interface: lengths, null pointers, pair numbers, places, rooms, and that a
+ * refused trace or question writes nothing. */
 
 #include <stdio.h>
 #include <string.h>
 #include "korehyumo.h"
 
-/* One more than the most events and pairs of a call. */
-#define ROOM (KOREHYUMO_MOST_EVENTS + 1)
+/* One more than the most events of a call. */
+#define TOO_MANY_EVENTS (KOREHYUMO_MOST_EVENTS + 1)
+
+/* One more than the most pairs of a call. */
+#define TOO_MANY_PAIRS (KOREHYUMO_MOST_PAIRS + 1)
+
+/* The last pair of the largest table, which is the highest 16-bit number. */
+#define LAST_PAIR (KOREHYUMO_MOST_PAIRS - 1)
+
+/* The most pairs of a call in version 0.2.0. */
+#define OLD_MOST_PAIRS 4096
 
 /* The byte that fills the outputs before a call; no answer has it. */
 #define BEFORE 0x5A
 
 /* The buffers of a call, each with one element more than is ever lent. */
-static uint8_t events[ROOM * KOREHYUMO_EVENT_BYTES + 1];
-static uint16_t pairs[ROOM + 1];
-static uint8_t table[ROOM + 1], verdicts[ROOM + 1], duties[ROOM + 1], afters[ROOM + 1];
+static uint8_t events[TOO_MANY_EVENTS * KOREHYUMO_EVENT_BYTES + 1];
+static uint16_t pairs[TOO_MANY_EVENTS + 1];
+static uint8_t table[TOO_MANY_PAIRS + 1];
+static uint8_t verdicts[TOO_MANY_EVENTS + 1], duties[TOO_MANY_EVENTS + 1], afters[TOO_MANY_EVENTS + 1];
 
 /* How many checks failed. */
 static int wrong;
@@ -43,7 +53,7 @@ static void hold(const char *what, int holds)
 /* Makes every event good and of pair 0, gives every pair all seven states, and fills the outputs with BEFORE. */
 static void fill(void)
 {
-    for (size_t k = 0; k < ROOM; k++)
+    for (size_t k = 0; k < TOO_MANY_EVENTS; k++)
         memcpy(events + k * KOREHYUMO_EVENT_BYTES, good, sizeof good);
     memset(pairs, 0, sizeof pairs);
     memset(table, KOREHYUMO_ALL_STATES, sizeof table);
@@ -58,6 +68,12 @@ static uint64_t judge(size_t event_bytes, size_t pair_numbers, size_t sets, size
     return korehyumo_trace(events, event_bytes, pairs, pair_numbers, table, sets, verdicts, v, duties, d, afters, a);
 }
 
+/* Judges the first n events with a table of so many sets. */
+static uint64_t judge_first(size_t n, size_t sets)
+{
+    return judge(n * KOREHYUMO_EVENT_BYTES, n, sets, n, n, n);
+}
+
 /* Whether every byte of a buffer is this one. */
 static int all(const uint8_t *bytes, size_t len, uint8_t byte)
 {
@@ -67,11 +83,22 @@ static int all(const uint8_t *bytes, size_t len, uint8_t byte)
     return 1;
 }
 
-/* Whether the outputs are as they were filled, and the table too except at one pair. */
-static int untouched_but(size_t pair)
+/* Whether the table is as it was filled, except at one pair. */
+static int others_stay(size_t pair)
 {
-    return all(table, pair, KOREHYUMO_ALL_STATES) && all(table + pair + 1, sizeof table - pair - 1, KOREHYUMO_ALL_STATES)
-        && all(verdicts, sizeof verdicts, BEFORE) && all(duties, sizeof duties, BEFORE) && all(afters, sizeof afters, BEFORE);
+    return all(table, pair, KOREHYUMO_ALL_STATES) && all(table + pair + 1, sizeof table - pair - 1, KOREHYUMO_ALL_STATES);
+}
+
+/* Whether the outputs are as they were filled. */
+static int no_outputs(void)
+{
+    return all(verdicts, sizeof verdicts, BEFORE) && all(duties, sizeof duties, BEFORE) && all(afters, sizeof afters, BEFORE);
+}
+
+/* Whether the outputs and the table are as they were filled. */
+static int untouched(void)
+{
+    return no_outputs() && all(table, sizeof table, KOREHYUMO_ALL_STATES);
 }
 
 /* Wrong lengths are refused with 1 at place 0, and nothing is written. */
@@ -84,9 +111,61 @@ static void wrong_lengths(void)
             n[buffer] += (size_t)off;
             hold("a wrong length is 1", judge(n[0], n[1], 8, n[2], n[3], n[4]) == KOREHYUMO_LENGTHS);
         }
-    hold("4,097 events are 1", judge(ROOM * KOREHYUMO_EVENT_BYTES, ROOM, 8, ROOM, ROOM, ROOM) == KOREHYUMO_LENGTHS);
-    hold("4,097 pairs are 1", judge(0, 0, ROOM, 0, 0, 0) == KOREHYUMO_LENGTHS);
-    hold("lengths that are refused write nothing", untouched_but(0) && table[0] == KOREHYUMO_ALL_STATES);
+    hold("4,097 events are 1", judge_first(TOO_MANY_EVENTS, 8) == KOREHYUMO_LENGTHS);
+    hold("4,097 events over 65,536 pairs are 1", judge_first(TOO_MANY_EVENTS, KOREHYUMO_MOST_PAIRS) == KOREHYUMO_LENGTHS);
+    hold("65,537 pairs are 1", judge_first(0, TOO_MANY_PAIRS) == KOREHYUMO_LENGTHS);
+    hold("one event over 65,537 pairs is 1", judge_first(1, TOO_MANY_PAIRS) == KOREHYUMO_LENGTHS);
+    hold("4,096 events over 65,537 pairs are 1", judge_first(KOREHYUMO_MOST_EVENTS, TOO_MANY_PAIRS) == KOREHYUMO_LENGTHS);
+    hold("lengths that are refused write nothing", untouched());
+}
+
+/* Tables of one set up to 65,536 sets are accepted, without events and with as many as there may be. */
+static void table_lengths(void)
+{
+    static const size_t lengths[] = {1, OLD_MOST_PAIRS, OLD_MOST_PAIRS + 1, LAST_PAIR, KOREHYUMO_MOST_PAIRS};
+    for (size_t k = 0; k < sizeof lengths / sizeof *lengths; k++) {
+        fill();
+        hold("a table without events is accepted", judge_first(0, lengths[k]) == 0 && untouched());
+        hold("a table with 4,096 events is accepted", judge_first(KOREHYUMO_MOST_EVENTS, lengths[k]) == KOREHYUMO_MOST_EVENTS * 256);
+        hold("only the set of their pair is written", table[0] == (KOREHYUMO_I | KOREHYUMO_SC) && others_stay(0));
+    }
+}
+
+/* Pairs around 4,096 and the last one are judged on the largest table, each set is written, and no other. */
+static void high_pairs(void)
+{
+    static const uint16_t high[] = {OLD_MOST_PAIRS - 1, OLD_MOST_PAIRS, OLD_MOST_PAIRS + 1, LAST_PAIR - 1, LAST_PAIR};
+    for (size_t k = 0; k < sizeof high / sizeof *high; k++) {
+        size_t pair = high[k];
+        fill();
+        pairs[0] = high[k];
+        hold("a high pair past the table is 3", judge_first(1, pair) == KOREHYUMO_PAIR && untouched());
+        hold("a high pair is judged", judge_first(1, KOREHYUMO_MOST_PAIRS) == 256);
+        hold("its event is explained", verdicts[0] == KOREHYUMO_EXPLAINED && duties[0] == KOREHYUMO_DUTY_NONE);
+        hold("its set is written", afters[0] == (KOREHYUMO_I | KOREHYUMO_SC) && table[pair] == afters[0]);
+        hold("no other set is written", others_stay(pair));
+    }
+}
+
+/* Pairs that are equal modulo 4,096 have sets of their own: an event of each is judged on its own set. */
+static void pairs_alike(void)
+{
+    static const uint8_t starts[3] = {KOREHYUMO_SC, KOREHYUMO_UD, 0};
+    static const uint8_t judged[3] = {KOREHYUMO_EXPLAINED, KOREHYUMO_UNEXPLAINED, KOREHYUMO_NOT_JUDGED};
+    static const uint8_t left[3] = {KOREHYUMO_I | KOREHYUMO_SC, 0, 0};
+    size_t n = KOREHYUMO_MOST_PAIRS / OLD_MOST_PAIRS;
+    fill();
+    for (size_t k = 0; k < n; k++) {
+        pairs[k] = (uint16_t)(LAST_PAIR - k * OLD_MOST_PAIRS);
+        table[pairs[k]] = starts[k % 3];
+    }
+    hold("16 pairs are judged", n == 16 && judge_first(n, KOREHYUMO_MOST_PAIRS) == n * 256);
+    for (size_t k = 0; k < n; k++) {
+        hold("each pair has its verdict", verdicts[k] == judged[k % 3] && duties[k] == KOREHYUMO_DUTY_NONE);
+        hold("each pair has its set", afters[k] == left[k % 3] && table[pairs[k]] == left[k % 3]);
+        table[pairs[k]] = KOREHYUMO_ALL_STATES;
+    }
+    hold("the sets of the other pairs stay", all(table, sizeof table, KOREHYUMO_ALL_STATES));
 }
 
 /* Old traces, of n pairs and n events of 14 bytes, are refused with 1 whatever n is, and nothing is written. */
@@ -95,35 +174,48 @@ static void old_traces(void)
     fill();
     for (size_t n = 1; n <= KOREHYUMO_MOST_EVENTS; n++)
         hold("an old trace is 1", judge(n * OLD_EVENT_BYTES, n, KOREHYUMO_MOST_PAIRS, n, n, n) == KOREHYUMO_LENGTHS);
-    hold("old traces write nothing", untouched_but(0) && table[0] == KOREHYUMO_ALL_STATES);
+    hold("old traces write nothing", untouched());
 }
 
-/* Refusals at the last event and at the last pair have place 4,095, and nothing is written. */
-static void last_places(void)
+/* Refusals at the last event have place 4,095, and nothing is written; 3 needs a table without the last pair. */
+static void last_event(void)
 {
-    size_t n = KOREHYUMO_MOST_EVENTS, last = n - 1, bytes = n * KOREHYUMO_EVENT_BYTES;
+    size_t n = KOREHYUMO_MOST_EVENTS, last = n - 1;
     fill();
+    pairs[last] = LAST_PAIR;
     events[last * KOREHYUMO_EVENT_BYTES] = 3;
-    hold("5 at event 4,095", judge(bytes, n, n, n, n, n) == last * 256 + KOREHYUMO_REQUEST);
+    hold("5 at event 4,095", judge_first(n, KOREHYUMO_MOST_PAIRS) == last * 256 + KOREHYUMO_REQUEST);
     events[last * KOREHYUMO_EVENT_BYTES + FWD_ERR] = 4;
-    hold("4 at event 4,095", judge(bytes, n, n, n, n, n) == last * 256 + KOREHYUMO_RANGE);
-    pairs[last] = KOREHYUMO_MOST_EVENTS;
-    hold("3 at event 4,095", judge(bytes, n, n, n, n, n) == last * 256 + KOREHYUMO_PAIR);
-    hold("refused events write nothing", untouched_but(0) && table[0] == KOREHYUMO_ALL_STATES);
-    table[last] = 128;
-    hold("2 at pair 4,095", judge(bytes, n, n, n, n, n) == last * 256 + KOREHYUMO_SET);
-    hold("a refused set stays", untouched_but(last) && table[last] == 128);
+    hold("4 at event 4,095", judge_first(n, KOREHYUMO_MOST_PAIRS) == last * 256 + KOREHYUMO_RANGE);
+    hold("3 at event 4,095", judge_first(n, LAST_PAIR) == last * 256 + KOREHYUMO_PAIR);
+    hold("refused events write nothing", untouched());
 }
 
-/* The longest trace is accepted with place 4,096, and nothing is written past the lengths lent. */
+/* A set above 127 at pair 65,535 is refused with that place, before a bad event, and nothing is written. */
+static void last_set(void)
+{
+    uint64_t refused = (uint64_t)LAST_PAIR * 256 + KOREHYUMO_SET;
+    fill();
+    table[LAST_PAIR] = 128;
+    hold("2 at pair 65,535 without events", judge_first(0, KOREHYUMO_MOST_PAIRS) == refused);
+    hold("2 at pair 65,535 with 4,096 events", judge_first(KOREHYUMO_MOST_EVENTS, KOREHYUMO_MOST_PAIRS) == refused);
+    events[0] = 3;
+    hold("2 before 5", judge_first(1, KOREHYUMO_MOST_PAIRS) == refused);
+    hold("a refused set stays", no_outputs() && others_stay(LAST_PAIR) && table[LAST_PAIR] == 128);
+    hold("a set past the table is not looked at", judge_first(1, LAST_PAIR) == KOREHYUMO_REQUEST);
+    table[OLD_MOST_PAIRS] = 255;
+    hold("the lowest pair with such a set", judge_first(0, KOREHYUMO_MOST_PAIRS) == OLD_MOST_PAIRS * 256 + KOREHYUMO_SET);
+}
+
+/* The longest trace over the largest table is accepted with place 4,096, and nothing is written past the lengths lent. */
 static void longest(void)
 {
     size_t n = KOREHYUMO_MOST_EVENTS;
     fill();
-    hold("4,096 events are accepted", judge(n * KOREHYUMO_EVENT_BYTES, n, n, n, n, n) == n * 256);
+    hold("4,096 events are accepted", judge_first(n, KOREHYUMO_MOST_PAIRS) == n * 256);
     hold("all are explained", all(verdicts, n, KOREHYUMO_EXPLAINED) && all(duties, n, KOREHYUMO_DUTY_NONE));
     hold("each leaves I or SC", all(afters, n, KOREHYUMO_I | KOREHYUMO_SC) && table[0] == (KOREHYUMO_I | KOREHYUMO_SC));
-    hold("other pairs stay", all(table + 1, sizeof table - 1, KOREHYUMO_ALL_STATES));
+    hold("other pairs stay", others_stay(0));
     hold("nothing past a length is written", verdicts[n] == BEFORE && duties[n] == BEFORE && afters[n] == BEFORE);
 }
 
@@ -136,7 +228,7 @@ static void null_for_none(void)
     hold("no events", korehyumo_trace(0, 0, 0, 0, table, 8, 0, 0, 0, 0, 0, 0) == 0 && table[0] == KOREHYUMO_ALL_STATES);
     hold("no pairs: 3 at event 0", korehyumo_trace(events, one, pairs, 1, 0, 0, verdicts, 1, duties, 1, afters, 1) == KOREHYUMO_PAIR);
     hold("no verdicts: 1", korehyumo_trace(events, one, pairs, 1, table, 8, 0, 0, duties, 1, afters, 1) == KOREHYUMO_LENGTHS);
-    hold("null calls write nothing", untouched_but(0) && table[0] == KOREHYUMO_ALL_STATES);
+    hold("null calls write nothing", untouched());
 }
 
 /* One event alone: the result is 256 or the refusal, and the seven sets and duties are always written. */
@@ -319,10 +411,13 @@ static void answers_example(void)
 /* A result is read by its lower 32 bits, and the count by the upper ones. */
 static void results(void)
 {
-    uint64_t result = 4095 * 256 + 5, more = (uint64_t)7 << 32;
-    hold("a result's number", korehyumo_number(result) == 5 && korehyumo_number(result + more) == 5);
-    hold("a result's place", korehyumo_place(result) == 4095 && korehyumo_place(result + more) == 4095);
-    hold("a result's count", korehyumo_count(result) == 0 && korehyumo_count(result + more) == 7);
+    static const size_t places[] = {0, KOREHYUMO_MOST_EVENTS - 1, KOREHYUMO_MOST_EVENTS, LAST_PAIR};
+    for (size_t k = 0; k < sizeof places / sizeof *places; k++) {
+        uint64_t result = (uint64_t)places[k] * 256 + 5, more = (uint64_t)7 << 32;
+        hold("a result's number", korehyumo_number(result) == 5 && korehyumo_number(result + more) == 5);
+        hold("a result's place", korehyumo_place(result) == places[k] && korehyumo_place(result + more) == places[k]);
+        hold("a result's count", korehyumo_count(result) == 0 && korehyumo_count(result + more) == 7);
+    }
     hold("the highest count", korehyumo_count(UINT64_MAX) == UINT32_MAX);
 }
 
@@ -335,6 +430,8 @@ static void constants(void)
     hold("the states make the set of all", KOREHYUMO_ALL_STATES == (KOREHYUMO_I | KOREHYUMO_UC | KOREHYUMO_UCE | KOREHYUMO_UD
                                                                     | KOREHYUMO_UDP | KOREHYUMO_SC | KOREHYUMO_SD));
     hold("an event has 15 bytes", KOREHYUMO_EVENT_BYTES == 15);
+    hold("there are at most 4,096 events", KOREHYUMO_MOST_EVENTS == 4096);
+    hold("there are at most 65,536 pairs, one for each 16-bit number", KOREHYUMO_MOST_PAIRS == 65536 && LAST_PAIR == UINT16_MAX);
     hold("an answer is bytes 5 to 14 of an event", KOREHYUMO_ANSWER_BYTES == KOREHYUMO_EVENT_BYTES - 5);
     hold("the longest list has 570 bytes", LONGEST_LIST == 570);
 }
@@ -342,8 +439,12 @@ static void constants(void)
 int main(void)
 {
     wrong_lengths();
+    table_lengths();
+    high_pairs();
+    pairs_alike();
     old_traces();
-    last_places();
+    last_event();
+    last_set();
     longest();
     null_for_none();
     one_event();

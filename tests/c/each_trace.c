@@ -8,8 +8,15 @@
 /* The six buffers of a case. */
 enum { EVENTS, PAIRS, TABLE, VERDICTS, DUTIES, AFTERS, PARTS };
 
+/* The most bytes of events in a case: more than a call may have. */
+#define EVENTS_ROOM 65536
+
+/* The most elements of the buffers with one for each event, and of the table: twice what a call may have. */
+#define EACH_ROOM (2 * KOREHYUMO_MOST_EVENTS)
+#define TABLE_ROOM (2 * KOREHYUMO_MOST_PAIRS)
+
 /* The most bytes of each buffer. */
-static const size_t most[PARTS] = {65536, 2 * 8192, 8192, 8192, 8192, 8192};
+static const size_t most[PARTS] = {EVENTS_ROOM, EACH_ROOM * sizeof(uint16_t), TABLE_ROOM, EACH_ROOM, EACH_ROOM, EACH_ROOM};
 
 /* The 32-bit number at an address, low byte first. */
 static size_t number_at(const uint8_t *at)

@@ -4,15 +4,18 @@
 //!
 //! A capture starts with a mark of four bytes: 'C', 'H', 'I' and the length of an event, 15. Then comes a record of 17 bytes for
 //! each event: the pair number in two bytes, low byte first, and the 15 bytes of the event. Without FILE it is read from standard
-//! input. There are 4,096 pairs, and each starts with all seven states possible.
+//! input. Every 16-bit number is a pair, so no event is refused with 3. Each pair starts with all seven states possible.
 //!
-//! The capture may have any length. It is judged 4,096 events at a time, and the judge keeps the sets from each part to the next.
+//! The capture may have any length. It is judged `MOST_EVENTS` events at a time, and the judge keeps the sets from each part to the
+//! next.
 //!
-//! Records grew by one byte. An old capture has records of 16 bytes and no mark. Put the mark in front and a byte 0 behind each
-//! record, and it is a new one. An input that does not start with the whole mark is refused with 1 at event 0 before anything is
-//! judged: 17 records of the old format have the length of 16 new ones, so the length alone would not tell. An old program judges
-//! nothing of a new capture. It refuses the mark, which reads as a pair above 4,095, with 3 at event 0, or says that the capture
-//! ends within an event.
+//! Records grew by one byte in version 0.2.0. An old capture has records of 16 bytes and no mark. Put the mark in front and a byte
+//! 0 behind each record, and it is a new one. An input that does not start with the whole mark is refused with 1 at event 0 before
+//! anything is judged: 17 records of the old format have the length of 16 new ones, so the length alone would not tell.
+//!
+//! Programs of versions 0.1.0 and 0.2.0 have 4,096 pairs. One of 0.1.0 judges nothing of a new capture: it refuses the mark, which
+//! reads as a pair above 4,095, with 3 at event 0, or says that the capture ends within an event. One of 0.2.0 refuses the first
+//! event of a pair above 4,095 with 3.
 
 use korehyumo::{
     Duty, Event, EventNumber, Finding, Judge, PairNumber, Refusal, Verdict, MOST_EVENTS, MOST_PAIRS,
@@ -272,14 +275,14 @@ mod tests {
     fn each_line() {
         let capture = records(&[
             (0, GAVE_UP),
-            (4_095, PASSED_ON),
+            (65_535, PASSED_ON),
             (258, IN_ERROR),
             (0, KEPT),
             (0, KEPT),
             (258, IN_ERROR),
         ]);
         let lines = "event 0, pair 0: Home holds the duty\n\
-                     event 1, pair 4095: the Requester holds the duty\n\
+                     event 1, pair 65535: the Requester holds the duty\n\
                      event 2, pair 258: the duty is lost\n\
                      event 3, pair 0: unexplained\n\
                      6 events: 4 explained, 1 unexplained, 1 not judged\n";
@@ -358,6 +361,32 @@ mod tests {
         assert_eq!(told(&capture), (format!("{first}{last}"), None));
     }
 
+    /// Every pair number of a record is judged, and no event of one is refused with 3.
+    #[test]
+    fn every_pair() {
+        let events: Vec<(u16, Bytes)> = (0..=u16::MAX).map(|pair| (pair, GAVE_UP)).collect();
+        let mut lines: Vec<String> = (0..MOST_PAIRS)
+            .map(|pair| format!("event {pair}, pair {pair}: Home holds the duty\n"))
+            .collect();
+        lines.push("65536 events: 65536 explained, 0 unexplained, 0 not judged\n".to_string());
+        assert_eq!(told(&records(&events)), (lines.concat(), None));
+    }
+
+    /// Pairs 4,095, 4,096 and 65,535 have sets of their own, also from part to part.
+    #[test]
+    fn high_pairs() {
+        let mut capture = records(&[(4_096, GAVE_UP), (65_535, KEPT)]);
+        capture.extend(records(&vec![(9, KEPT); MOST_EVENTS]));
+        capture.extend(records(&[(4_095, KEPT), (4_096, KEPT), (65_535, KEPT)]));
+        capture.extend(records(&[(0, KEPT), (4_095, PASSED_ON), (65_535, GAVE_UP)]));
+        let lines = "event 0, pair 4096: Home holds the duty\n\
+                     event 4099, pair 4096: unexplained\n\
+                     event 4102, pair 4095: the Requester holds the duty\n\
+                     event 4103, pair 65535: Home holds the duty\n\
+                     4104 events: 4103 explained, 1 unexplained, 0 not judged\n";
+        assert_eq!(told(&capture), (lines.to_string(), None));
+    }
+
     /// A refusal is numbered over the whole capture, and the lines of the parts before it are printed.
     #[test]
     fn refused_parts() {
@@ -366,8 +395,7 @@ mod tests {
         let refused = |capture: &[u8], stop: &str| {
             assert_eq!(told(capture), (first.clone(), Some(stop.to_string())));
         };
-        capture.extend(records(&[(7, GAVE_UP), (4_096, KEPT)]));
-        refused(&capture, "refused with 3 at event 4097");
+        capture.extend(records(&[(7, GAVE_UP), (7, KEPT)]));
         let event = MOST_EVENTS * RECORD + 2;
         capture[event] = 3;
         refused(&capture, "refused with 5 at event 4096");

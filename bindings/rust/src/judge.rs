@@ -46,6 +46,15 @@ struct Lent {
 impl Judge {
     /// A judge of this many pairs, each with all seven states possible.
     ///
+    /// ```
+    /// use korehyumo::{Judge, PairNumber, Refusal, StateSet, MOST_PAIRS};
+    ///
+    /// let judge = Judge::new(MOST_PAIRS)?; // every pair number is one of its pairs
+    /// assert_eq!(judge.set_of(PairNumber(u16::MAX)), Some(StateSet::ALL));
+    /// assert_eq!(Judge::new(MOST_PAIRS + 1).err(), Some(Refusal::Lengths));
+    /// # Ok::<(), Refusal>(())
+    /// ```
+    ///
     /// # Errors
     ///
     /// [`Refusal::Lengths`] for more than [`MOST_PAIRS`].
@@ -95,7 +104,8 @@ impl Judge {
     ///
     /// # Errors
     ///
-    /// Any [`Refusal`] except [`Refusal::Set`] and [`Refusal::Room`]. The sets of the pairs are then as before.
+    /// Any [`Refusal`] except [`Refusal::Set`] and [`Refusal::Room`], and except [`Refusal::Pair`] with [`MOST_PAIRS`] pairs. The
+    /// sets of the pairs are then as before.
     pub fn judge(&mut self, trace: &[(PairNumber, Event)]) -> Result<&[Finding], Refusal> {
         if trace.len() > MOST_EVENTS {
             return Err(Refusal::Lengths);

@@ -4,6 +4,8 @@ use std::fmt;
 
 /// The number of a pair (one cache line in one cache): the index of its set in the table.
 ///
+/// No number stands for "no pair" or "not known": with [`MOST_PAIRS`](crate::MOST_PAIRS) pairs each is a pair.
+///
 /// ```compile_fail
 /// use korehyumo::{EventNumber, PairNumber};
 ///

@@ -115,21 +115,24 @@ impl Error for Refusal {}
 #[cfg(test)]
 mod tests {
     use super::*;
+    use crate::trace::{MOST_EVENTS, MOST_PAIRS};
 
     /// Each refusal of the definition's table, read from a result.
     #[test]
     fn results_of_the_table() {
         let read = Refusal::unless_accepted;
+        let most = MOST_EVENTS as u64;
         assert_eq!(read(0), Ok(0));
-        assert_eq!(read(4_096 * 256), Ok(4_096));
+        assert_eq!(read(most * 256), Ok(most));
         assert_eq!(read((57 << 32) + 256), Ok(1));
         assert_eq!(read(57 << 32), Ok(0));
         assert_eq!(read(1), Err(Refusal::Lengths));
-        assert_eq!(read(4_095 * 256 + 2), Err(Refusal::Set(PairNumber(4_095))));
-        assert_eq!(
-            read(4_095 * 256 + 3),
-            Err(Refusal::Pair(EventNumber(4_095)))
-        );
+        for pair in [0, 4_095, 4_096, u16::MAX] {
+            let result = u64::from(pair) * 256 + 2;
+            assert_eq!(read(result), Err(Refusal::Set(PairNumber(pair))));
+        }
+        let last = EventNumber(most - 1);
+        assert_eq!(read(last.0 * 256 + 3), Err(Refusal::Pair(last)));
         assert_eq!(read(7 * 256 + 4), Err(Refusal::Range(EventNumber(7))));
         assert_eq!(read(5), Err(Refusal::Request(EventNumber(0))));
         assert_eq!(read(9), Err(Refusal::Room));
@@ -139,15 +142,17 @@ mod tests {
     #[test]
     fn results_not_known() {
         for number in (6..=8).chain(10..=255) {
-            for place in [0, 1, 255, 4_096, (1 << 24) - 1] {
+            for place in [0, 1, 255, 4_096, 65_535, (1 << 24) - 1] {
                 let refusal =
                     Refusal::unless_accepted(place * 256 + u64::from(number)).unwrap_err();
                 assert_eq!(refusal, Refusal::Unknown { number, place });
                 assert_eq!((refusal.number(), refusal.place()), (number, place));
             }
         }
-        let far = Refusal::unless_accepted(65_536 * 256 + 2).unwrap_err();
-        assert_eq!((far.number(), far.place()), (2, 65_536));
+        // the first place that is no pair of any table
+        let far = MOST_PAIRS as u64;
+        let refusal = Refusal::unless_accepted(far * 256 + 2).unwrap_err();
+        assert_eq!((refusal.number(), refusal.place()), (2, far));
     }
 
     /// Each refusal in words.

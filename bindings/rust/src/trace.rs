@@ -5,16 +5,16 @@ use crate::refusal::Refusal;
 
 /// The most events of one call.
 pub const MOST_EVENTS: usize = 4_096;
-/// The most pairs of a table.
-pub const MOST_PAIRS: usize = 4_096;
+/// The most pairs of a table. With so many every `u16` is the number of a pair.
+pub const MOST_PAIRS: usize = 65_536;
 
 /// Judges a whole trace over plain buffers, and gives the number of events. Nothing is allocated.
 ///
 /// | buffer | what it holds |
 /// |---|---|
-/// | `events` | [`Event::BYTES`](crate::Event::BYTES) bytes for each event |
+/// | `events` | [`Event::BYTES`](crate::Event::BYTES) bytes for each of up to [`MOST_EVENTS`] events |
 /// | `pairs` | the pair number of each event |
-/// | `table` | the set of each pair, before the call and after it |
+/// | `table` | the set of each of up to [`MOST_PAIRS`] pairs, before the call and after it |
 /// | `verdicts`, `duties`, `afters` | after the call, a byte for each event |
 ///
 /// [`Judge`](crate::Judge) does the same with types in place of bytes.

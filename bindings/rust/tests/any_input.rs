@@ -2,9 +2,12 @@
 
 mod common;
 
-use common::{put_response, Bytes, Draw, Lent, HIGHEST, REQUESTS, RESPONSES};
+use common::{
+    put_response, Bytes, Draw, Lent, HIGHEST, LAST_PAIR, OLD_MOST_PAIRS, REQUESTS, RESPONSES,
+};
 use korehyumo::{
     judge_event, Duty, Event, Finding, Judge, PairNumber, Refusal, State, StateSet, Verdict,
+    MOST_EVENTS, MOST_PAIRS,
 };
 
 /// An event with every byte in its range. Three in four have an answer of the rows, so that many are explained.
@@ -69,7 +72,7 @@ fn any_bytes() {
             } else {
                 lengths[0]
             }),
-            pairs: (0..lengths[1]).map(|_| draw.below(65_536) as u16).collect(),
+            pairs: (0..lengths[1]).map(|_| draw.pair()).collect(),
             table: draw.bytes(lengths[2]),
             verdicts: draw.bytes(lengths[3]),
             duties: draw.bytes(lengths[4]),
@@ -172,6 +175,45 @@ fn traces_as_events_alone() -> Result<(), Refusal> {
     }
     assert!(verdicts.iter().all(|count| *count > 500), "{verdicts:?}");
     Ok(())
+}
+
+/// A pair number at a border, one that is equal to such a one modulo 4,096, or any.
+fn pair(draw: &mut Draw) -> u16 {
+    let borders = [0, 255, 256, OLD_MOST_PAIRS - 1, OLD_MOST_PAIRS, LAST_PAIR];
+    let border = borders[draw.below(6) as usize];
+    match draw.below(3) {
+        0 => border,
+        1 => border.wrapping_add(OLD_MOST_PAIRS * draw.below(16) as u16),
+        _ => draw.pair(),
+    }
+}
+
+/// Over the largest table each event is answered as over a table of its pair alone, and the sets of other pairs stay.
+#[test]
+fn the_largest_table() {
+    let mut draw = Draw(0x6553_6409_6655_3640);
+    let mut verdicts = [0; 3];
+    for _ in 0..20 {
+        let events: Vec<Bytes> = (0..MOST_EVENTS).map(|_| event(&mut draw)).collect();
+        let pairs: Vec<u16> = (0..MOST_EVENTS).map(|_| pair(&mut draw)).collect();
+        let mut table: Vec<u8> = (0..MOST_PAIRS).map(|_| draw.byte(127)).collect();
+        let mut lent = Lent::new(&events, &pairs, &table);
+        assert_eq!(lent.judge(), Ok(MOST_EVENTS));
+        for (k, pair) in pairs.iter().enumerate() {
+            let set = &mut table[usize::from(*pair)];
+            let mut alone = Lent::new(&[events[k]], &[0], &[*set]);
+            assert_eq!(alone.judge(), Ok(1));
+            let answer = [lent.verdicts[k], lent.duties[k], lent.afters[k]];
+            assert_eq!(
+                [alone.verdicts[0], alone.duties[0], alone.afters[0]],
+                answer
+            );
+            *set = alone.table[0];
+            verdicts[usize::from(answer[0])] += 1;
+        }
+        assert_eq!(lent.table, table);
+    }
+    assert!(verdicts.iter().all(|count| *count > 500), "{verdicts:?}");
 }
 
 /// The duty is Home by Resp, Requester by FwdState, and lost or discarded only from a Dirty state.

@@ -114,8 +114,10 @@ fn codes_of_findings() {
 #[test]
 fn numbers() {
     assert_eq!(PairNumber(4_095).to_string(), "4095");
+    assert_eq!(PairNumber(65_535).to_string(), "65535");
     assert_eq!(EventNumber(1_000_000).to_string(), "1000000");
     assert!(PairNumber(2) < PairNumber(10));
+    assert!(PairNumber(10) < PairNumber(65_535));
     assert!(EventNumber(2) < EventNumber(10));
 }
 

@@ -2,9 +2,9 @@
 
 mod common;
 
-use common::{Lent, HIGHEST, IN_ERROR, REQUESTS, SHEET};
+use common::{Lent, HIGHEST, IN_ERROR, LAST_PAIR, OLD_MOST_PAIRS, REQUESTS, SHEET};
 use korehyumo::{
-    judge_event, Event, EventNumber, Judge, PairNumber, Refusal, StateSet, MOST_EVENTS,
+    judge_event, Event, EventNumber, Judge, PairNumber, Refusal, StateSet, MOST_EVENTS, MOST_PAIRS,
 };
 
 /// How many bytes an event had before its last byte was added.
@@ -23,7 +23,7 @@ fn refused_for_lengths(lent: &Lent) {
 /// A wrong length of each buffer with an element for each event, alone and before other faults.
 #[test]
 fn lengths() {
-    for length in [0, 1, 3, 5, 8, 4 * Event::BYTES, 4_096, 5_000] {
+    for length in [0, 1, 3, 5, 8, 4 * Event::BYTES, MOST_EVENTS, 5_000] {
         let mut wrong = [example(), example(), example(), example()];
         wrong[0].pairs.resize(length, 4);
         wrong[1].verdicts.resize(length, 9);
@@ -60,19 +60,26 @@ fn lengths_of_old_events() {
     }
 }
 
-/// More events, or more pairs, than there can be.
+/// More events, or more pairs, than there can be; up to the most of each a trace is accepted.
 #[test]
 fn lengths_over_the_most() {
     let sized = |events: usize, pairs: usize| {
         Lent::new(&vec![IN_ERROR; events], &vec![0; events], &vec![127; pairs])
     };
-    assert_eq!(sized(4_096, 4_096).judge(), Ok(4_096));
+    let old_most = usize::from(OLD_MOST_PAIRS);
+    for pairs in [1, old_most, old_most + 1, MOST_PAIRS - 1, MOST_PAIRS] {
+        for events in [0, 1, MOST_EVENTS] {
+            assert_eq!(sized(events, pairs).judge(), Ok(events));
+        }
+    }
     for (events, pairs) in [
-        (4_097, 4_096),
-        (4_096, 4_097),
-        (4_097, 1),
-        (0, 4_097),
-        (1, 70_000),
+        (MOST_EVENTS + 1, MOST_PAIRS),
+        (MOST_EVENTS, MOST_PAIRS + 1),
+        (MOST_EVENTS + 1, MOST_PAIRS + 1),
+        (MOST_EVENTS + 1, 1),
+        (0, MOST_PAIRS + 1),
+        (1, MOST_PAIRS + 1),
+        (1, 2 * MOST_PAIRS),
     ] {
         refused_for_lengths(&sized(events, pairs));
     }
@@ -107,15 +114,27 @@ fn sets() {
         lent.refused(Refusal::Set(PairNumber(3)), 2, 3);
     }
     Lent::new(&[], &[], &[127, 128]).refused(Refusal::Set(PairNumber(1)), 2, 1);
-    let mut full = vec![127; 4_096];
-    full[4_095] = 128;
-    Lent::new(&[], &[], &full).refused(Refusal::Set(PairNumber(4_095)), 2, 4_095);
+}
+
+/// A set above 127 high in the largest table: the lowest such pair is refused, with events and without.
+#[test]
+fn sets_of_high_pairs() {
+    let refused = |pair: u16, table: &[u8]| {
+        let refusal = Refusal::Set(PairNumber(pair));
+        Lent::new(&[], &[], table).refused(refusal, 2, u64::from(pair));
+        Lent::new(&SHEET, &[pair; 4], table).refused(refusal, 2, u64::from(pair));
+    };
+    let mut table = vec![127; MOST_PAIRS];
+    for pair in [LAST_PAIR, LAST_PAIR - 1, OLD_MOST_PAIRS, OLD_MOST_PAIRS - 1] {
+        table[usize::from(pair)] = 128;
+        refused(pair, &table);
+    }
 }
 
 /// A pair number past the table: refused before the event's bytes and before any later event.
 #[test]
 fn pairs() {
-    for pair in [5, 6, 255, 256, 260, 4_096, 65_535] {
+    for pair in [5, 6, 255, 256, 260, OLD_MOST_PAIRS, LAST_PAIR] {
         for event in 0..4 {
             let refusal = Refusal::Pair(EventNumber(event as u64));
             let mut lent = example();
@@ -126,6 +145,23 @@ fn pairs() {
             lent.pairs[3] = pair;
             lent.refused(refusal, 3, event as u64);
         }
+    }
+}
+
+/// The first pair past a large table is refused, the last pair of it is not.
+#[test]
+fn pairs_past_large_tables() {
+    for pair in [
+        OLD_MOST_PAIRS - 1,
+        OLD_MOST_PAIRS,
+        OLD_MOST_PAIRS + 1,
+        LAST_PAIR - 1,
+        LAST_PAIR,
+    ] {
+        let without = vec![127; usize::from(pair)];
+        Lent::new(&SHEET, &[0, 0, pair, 0], &without).refused(Refusal::Pair(EventNumber(2)), 3, 2);
+        let with = [&without[..], &[127]].concat();
+        assert_eq!(Lent::new(&SHEET, &[0, 0, pair, 0], &with).judge(), Ok(4));
     }
 }
 
@@ -171,14 +207,15 @@ fn requests() {
 /// Refusals at the last event of the longest trace.
 #[test]
 fn last_event() {
-    let last = EventNumber(4_095);
-    let mut lent = Lent::new(&[IN_ERROR; 4_096], &[0; 4_096], &[127]);
-    lent.events[4_095 * Event::BYTES] = 3;
-    lent.refused(Refusal::Request(last), 5, 4_095);
-    lent.events[4_095 * Event::BYTES + 14] = 4;
-    lent.refused(Refusal::Range(last), 4, 4_095);
-    lent.pairs[4_095] = 1;
-    lent.refused(Refusal::Pair(last), 3, 4_095);
+    let last = MOST_EVENTS - 1;
+    let number = EventNumber(last as u64);
+    let mut lent = Lent::new(&[IN_ERROR; MOST_EVENTS], &[0; MOST_EVENTS], &[127]);
+    lent.events[last * Event::BYTES] = 3;
+    lent.refused(Refusal::Request(number), 5, 4_095);
+    lent.events[last * Event::BYTES + 14] = 4;
+    lent.refused(Refusal::Range(number), 4, 4_095);
+    lent.pairs[last] = 1;
+    lent.refused(Refusal::Pair(number), 3, 4_095);
 }
 
 /// Refusals of one event alone, all at place 0.

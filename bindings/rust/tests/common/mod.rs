@@ -3,10 +3,18 @@
 // Each test uses a part of it.
 #![allow(dead_code)]
 
-use korehyumo::{judge_trace, Answer, Event, Forward, FwdState, Refusal, Resp, RespErr};
+use korehyumo::{
+    judge_trace, Answer, Event, Forward, FwdState, Refusal, Resp, RespErr, MOST_PAIRS,
+};
 
 /// The bytes of an event.
 pub type Bytes = [u8; Event::BYTES];
+
+/// The last pair of the largest table.
+pub const LAST_PAIR: u16 = (MOST_PAIRS - 1) as u16;
+
+/// The most pairs of a table in version 0.2.0.
+pub const OLD_MOST_PAIRS: u16 = 4_096;
 
 /// The four events of the definition's example sheet.
 pub const SHEET: [Bytes; 4] = [
@@ -159,6 +167,11 @@ impl Draw {
         self.0 ^= self.0 >> 7;
         self.0 ^= self.0 << 17;
         (self.0 >> 11) % limit
+    }
+
+    /// Any pair number.
+    pub fn pair(&mut self) -> u16 {
+        self.below(MOST_PAIRS as u64) as u16
     }
 
     /// A byte up to a highest value.
