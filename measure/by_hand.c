@@ -47,7 +47,7 @@ static struct effect effects[1 << KEY_BITS];
 #endif
 
 /* The sets of the pairs. */
-static uint8_t sets[MOST];
+static uint8_t sets[MOST_PAIRS];
 
 /* The input at hand, with room for a CRLF put after its end and for reading a little past that. */
 static unsigned char input[BUFFER_BYTES + LOOK_AHEAD];
@@ -245,7 +245,7 @@ static void answer_lines(const unsigned char *at, const unsigned char *end, int 
             refusal = TOO_LONG;
         else if (!(next = read_line(at, &line)))
             refusal = fault_of(at);
-        else if (line.pair >= MOST)
+        else if (line.pair >= MOST_PAIRS)
             refusal = NO_PAIR;
         if (refusal)
             break;

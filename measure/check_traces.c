@@ -10,13 +10,16 @@
 #include "traces.h"
 
 /* Room for the events and the pair numbers of a trace; more than allowed are tried. */
-enum { EVENTS_ROOM = (MOST + 4) * EVENT_BYTES, NUMBERS_ROOM = MOST + 4 };
-
-/* Room for each buffer that is written, and for the bytes around it, which must not change. */
-enum { BUFFER_ROOM = MOST + 4, GUARD = 32, AREA = 4 * (BUFFER_ROOM + 2 * GUARD) };
+enum { EVENTS_ROOM = (MOST_EVENTS + 4) * EVENT_BYTES, NUMBERS_ROOM = MOST_EVENTS + 4 };
 
 /* The buffers that are written. */
 enum { TABLE, VERDICT_BYTES, DUTY_BYTES, AFTER_BYTES, BUFFERS };
+
+/* Room for the table and for each of the other buffers, and for the bytes around each, which must not change. */
+enum {
+    TABLE_ROOM = MOST_PAIRS + 4, ANSWERS_ROOM = MOST_EVENTS + 4, GUARD = 32,
+    AREA = TABLE_ROOM + (BUFFERS - 1) * ANSWERS_ROOM + BUFFERS * 2 * GUARD
+};
 
 /* What is lent: two things to read and four buffers, each with its own length. */
 struct lent {
@@ -25,7 +28,7 @@ struct lent {
     size_t lens[BUFFERS];
     uint8_t events[EVENTS_ROOM];
     uint16_t numbers[NUMBERS_ROOM];
-    uint8_t table[BUFFER_ROOM];
+    uint8_t table[TABLE_ROOM];
 };
 
 /* What a judge gave back: its result, and the four buffers with the bytes around them. */
@@ -250,7 +253,10 @@ static void pair_numbers(void)
     for (unsigned n = 0; n < 17 * 256; n++) {
         make_good(17, 1 + below(40));
         unsigned pairs = (unsigned)lent.lens[TABLE];
-        const unsigned near[] = {pairs - 1, pairs, pairs + 1, 255, 256, 4095, 4096, 32767, 32768, 65535, below(65536)};
+        const unsigned near[] = {
+            pairs - 1, pairs, pairs + 1, 255, 256, MOST_EVENTS - 1, MOST_EVENTS, MOST_PAIRS / 2 - 1, MOST_PAIRS / 2, MOST_PAIRS - 1,
+            below(MOST_PAIRS),
+        };
         lent.numbers[n % 17] = (uint16_t)near[below(sizeof near / sizeof near[0])];
         if (comes(1, 4))
             put_below(&lent.events[below(17 * EVENT_BYTES)], 256);
@@ -284,15 +290,9 @@ static void event_lengths(void)
     }
 }
 
-/* Lengths that don't fit, whatever else is wrong, and the largest that do. */
+/* Lengths that don't fit, whatever else is wrong. */
 static void lengths(void)
 {
-    static const size_t large[][2] = {{4096, 4096}, {4097, 4096}, {4096, 4097}, {4097, 4097}, {0, 4097}, {4097, 1}, {0, 0}, {3, 0}};
-    for (unsigned n = 0; n < 8; n++) {
-        make_good(large[n][0] > MOST ? MOST : large[n][0], large[n][1] > MOST ? MOST : large[n][1] ? large[n][1] : 1);
-        fit(large[n][0], large[n][1]);
-        compare();
-    }
     for (unsigned n = 0; n < 6000; n++) {
         size_t pairs = 1 + below(5);
         make_good(below(12), pairs);
@@ -385,7 +385,7 @@ static void damage(void)
             put_below(&bytes[at], 256);
         break;
     case 3:
-        lent.numbers[k] = (uint16_t)(comes(1, 2) ? pairs : below(65536));
+        lent.numbers[k] = (uint16_t)(comes(1, 2) ? pairs : below(MOST_PAIRS));
         break;
     case 4:
         put_below(&lent.table[below(pairs)], 256);
@@ -395,11 +395,11 @@ static void damage(void)
     }
 }
 
-/* Short traces over few pairs with bytes changed within their ranges, the last one more often than others, one in four also damaged. */
-static void drawn_traces(void)
+/* Short traces over up to so many pairs with bytes changed within their ranges, the last more often than others, a quarter damaged. */
+static void drawn_over(unsigned most_pairs, unsigned count)
 {
-    for (unsigned n = 0; n < 40000; n++) {
-        size_t pairs = 1 + below(6);
+    for (unsigned n = 0; n < count; n++) {
+        size_t pairs = 1 + below(most_pairs);
         make_good(1 + below(24), pairs);
         for (size_t pair = 0; pair < lent.lens[TABLE] && n % 2; pair++)
             lent.table[pair] = draw_set();
@@ -413,6 +413,111 @@ static void drawn_traces(void)
         while (comes(1, 4))
             damage();
         compare();
+    }
+}
+
+/* Drawn traces over few pairs. */
+static void drawn_traces(void)
+{
+    drawn_over(6, 40000);
+}
+
+/* Drawn traces over any number of pairs. */
+static void over_many_pairs(void)
+{
+    drawn_over(MOST_PAIRS, 3000);
+}
+
+/* Compares on the first so many events of the trace at hand and so many of its pairs, also with the last set, event or both bad. */
+static void compare_first(size_t n, size_t pairs)
+{
+    uint8_t *last_set = &lent.table[pairs ? pairs - 1 : 0], *last_byte = &lent.events[n ? n * EVENT_BYTES - 1 : 0];
+    const uint8_t set = *last_set, byte = *last_byte;
+    fit(n, pairs);
+    for (unsigned bad = 0; bad < 4; bad++) {
+        *last_set = bad & 1 ? ALL_STATES + 1 : set;
+        *last_byte = bad & 2 ? 255 : byte;
+        compare();
+    }
+    *last_set = set;
+    *last_byte = byte;
+}
+
+/* As many events and pairs as a call takes, one less, one more, and few; and tables around the most events, which is not their limit. */
+static void limits(void)
+{
+    static const size_t pairs[] = {0, 1, MOST_EVENTS - 1, MOST_EVENTS, MOST_EVENTS + 1, MOST_PAIRS - 1, MOST_PAIRS, MOST_PAIRS + 1};
+    static const size_t ns[] = {0, 3, 64, MOST_EVENTS - 1, MOST_EVENTS, MOST_EVENTS + 1};
+    enum { LENGTHS = sizeof pairs / sizeof pairs[0], COUNTS = sizeof ns / sizeof ns[0] };
+    for (unsigned n = 0; n < LENGTHS * COUNTS; n++) {
+        size_t some = pairs[n / COUNTS];
+        if (n % COUNTS == 0)
+            make_good(MOST_EVENTS, some > MOST_PAIRS ? MOST_PAIRS : some ? some : 1);
+        compare_first(ns[n % COUNTS], some);
+    }
+}
+
+/* Where a judge may take a table for shorter than it is: at as many pairs as events, at half of all pairs, and at all. */
+static const unsigned edges[] = {MOST_EVENTS, MOST_PAIRS / 2, MOST_PAIRS};
+
+/* How many places around the edges are tried, four for each, and how many tables for a place. */
+enum { FAR_PLACES = 4 * sizeof edges / sizeof edges[0], FAR_TABLES = 4 };
+
+/* The place with this number around the edges, from two below an edge on. */
+static unsigned far_place(unsigned n)
+{
+    return edges[n / 4] - 2 + n % 4;
+}
+
+/* The length of a table that just doesn't have a place, just has it, has one more, or is the longest. */
+static size_t far_length(unsigned place, unsigned n)
+{
+    return n < FAR_TABLES - 1 ? place + n : MOST_PAIRS;
+}
+
+/* Gives all pairs that there can be random sets. */
+static void draw_sets(void)
+{
+    for (size_t pair = 0; pair < TABLE_ROOM; pair++)
+        lent.table[pair] = draw_set();
+}
+
+/* Pair numbers around the edges, first met at each place among seventeen, in tables that just have them and just don't. */
+static void far_pairs(void)
+{
+    draw_sets();
+    for (unsigned n = 0; n < FAR_PLACES * FAR_TABLES * 17; n++) {
+        unsigned far = far_place(n / 17 / FAR_TABLES), first = n % 17;
+        if (far >= MOST_PAIRS)
+            continue;
+        make_good(17, 5);
+        fit(17, far_length(far, n / 17 % FAR_TABLES));
+        for (unsigned k = first; k < 17; k++)
+            if (k == first || lent.numbers[k] == 0)
+                lent.numbers[k] = (uint16_t)far;
+        if (comes(1, 4))
+            put_below(&lent.events[below(17 * EVENT_BYTES)], 256);
+        compare();
+    }
+}
+
+/* A set above 127 around the edges, then at drawn places, in tables as for pair numbers, at times with another one or a bad event. */
+static void far_bad_sets(void)
+{
+    enum { EACH = 8, AT_EDGES = FAR_PLACES * FAR_TABLES * EACH, DRAWN = 4000 };
+    draw_sets();
+    for (unsigned n = 0; n < AT_EDGES + DRAWN; n++) {
+        unsigned place = n < AT_EDGES ? far_place(n / FAR_TABLES / EACH) : below(MOST_PAIRS);
+        unsigned other = comes(1, 4) ? below(MOST_PAIRS) : place;
+        make_good(below(4), 5);
+        fit(lent.numbers_len, far_length(place, n % FAR_TABLES));
+        lent.table[other] = 128;
+        lent.table[place] = (uint8_t)(128 + below(128));
+        if (comes(1, 4))
+            lent.events[0] = lent.events[1] = 255;
+        compare();
+        lent.table[place] = draw_set();
+        lent.table[other] = draw_set();
     }
 }
 
@@ -430,9 +535,11 @@ void check_judges(void)
 {
     static void (*const sweeps[])(void) = {
         measured, byte_values, pair_numbers, bad_sets, lengths, event_lengths, answers, messages, drawn_traces,
+        over_many_pairs, limits, far_pairs, far_bad_sets,
     };
     static const char *const names[] = {
         "measured traces", "byte values", "pair numbers", "bad sets", "lengths", "event lengths", "answers", "messages", "drawn traces",
+        "traces over many pairs", "limits", "far pairs", "far bad sets",
     };
     events_end = fenced(EVENTS_ROOM);
     numbers_end = fenced(NUMBERS_ROOM * sizeof(uint16_t));

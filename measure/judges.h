@@ -10,8 +10,11 @@
 /* How many bytes an event has. */
 #define EVENT_BYTES KOREHYUMO_EVENT_BYTES
 
-/* The most pairs of a trace or a sheet, and the most events of a trace. */
-#define MOST 4096u
+/* The most events of a trace. */
+#define MOST_EVENTS KOREHYUMO_MOST_EVENTS
+
+/* The most pairs of a trace or a sheet: as many as a pair number of 16 bits can tell apart. */
+#define MOST_PAIRS KOREHYUMO_MOST_PAIRS
 
 /* The numbers of the refusals, of which the last four are a sheet's or a list's alone. */
 enum {
@@ -68,8 +71,8 @@ static inline int lengths_fit(size_t events_len, size_t pairs_len, size_t table_
                               size_t afters_len)
 {
     size_t n = events_len / EVENT_BYTES;
-    return events_len == n * EVENT_BYTES && n <= MOST && table_len <= MOST && pairs_len == n && verdicts_len == n
-        && duties_len == n && afters_len == n;
+    return events_len == n * EVENT_BYTES && n <= MOST_EVENTS && table_len <= MOST_PAIRS && pairs_len == n
+        && verdicts_len == n && duties_len == n && afters_len == n;
 }
 
 #endif

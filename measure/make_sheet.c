@@ -1,4 +1,4 @@
-/* Writes a bench sheet of mostly explained events: make_sheet LINES PAIRS SEED; the header is not one of the LINES. */
+/* Writes a bench sheet of mostly explained events: make_sheet LINES PAIRS SPREAD SEED; the header is not one of the LINES. */
 
 #include <stdint.h>
 #include <stdio.h>
@@ -8,7 +8,7 @@
 #include "sheet.h"
 
 /* The sets of the pairs as a judge would know them. */
-static unsigned char sets[MOST];
+static unsigned char sets[MOST_PAIRS];
 
 /* The number that an argument says; ends the program where it says none from least to most. */
 static unsigned long number(const char *word, unsigned long least, unsigned long most)
@@ -25,21 +25,21 @@ static unsigned long number(const char *word, unsigned long least, unsigned long
 /* Draws the lines one after another and writes them. */
 int main(int count, char **words)
 {
-    if (count != 4) {
-        fprintf(stderr, "usage: make_sheet LINES PAIRS SEED (the header is not one of the LINES)\n");
+    if (count != 5) {
+        fprintf(stderr, "usage: make_sheet LINES PAIRS SPREAD SEED (the header is not one of the LINES; pair numbers are below SPREAD)\n");
         return 2;
     }
     unsigned long lines = number(words[1], 0, 1000000000);
-    unsigned pairs = (unsigned)number(words[2], 1, MOST);
-    start_draws(number(words[3], 0, 1000000000));
+    unsigned pairs = (unsigned)number(words[2], 1, MOST_PAIRS);
+    unsigned apart = (unsigned)number(words[3], pairs, MOST_PAIRS) / pairs;
+    start_draws(number(words[4], 0, 1000000000));
     memset(sets, ALL_STATES, pairs);
 
     printf(SHEET_HEADER "\r\n");
     for (unsigned long line = 0; line < lines; line++) {
         struct drawn drawn = draw_next(sets, pairs, events_of_a_pair(lines, pairs));
-        /* Few pairs are spread over all the numbers that a pair can have. */
         const struct event *event = &drawn.event;
-        printf("%u,%s,%u,%u,%u,%s,%s,%s,%s,%s,%s,%s\r\n", drawn.pair * (MOST / pairs), request_names[drawn.request],
+        printf("%u,%s,%u,%u,%u,%s,%s,%s,%s,%s,%s,%s\r\n", drawn.pair * apart, request_names[drawn.request],
                event->ret_to_src, event->do_not_go_to_sd, drawn.excl, tag_names[event->tag],
                response_names[event->response], tag_op_names[event->tag_op], error_names[event->resp_err],
                forward_names[event->forward], state_names[drawn.state_after],

@@ -31,13 +31,15 @@ const struct judge judges[MEASURED] = {
     {"proved", korehyumo_trace}, {"by_table", by_table_trace}, {"by_rows", by_rows_trace}, {"around", nothing}, {"alone", each_alone},
 };
 
-const struct size sizes[SIZES] = {{64, 64}, {512, 64}, {4096, 64}, {4096, 512}, {4096, 4096}, {0, 4096}};
+const struct size sizes[SIZES] = {
+    {64, 64}, {512, 64}, {MOST_EVENTS, 64}, {MOST_EVENTS, 512}, {MOST_EVENTS, 4096}, {MOST_EVENTS, MOST_PAIRS}, {0, 4096}, {0, MOST_PAIRS},
+};
 
 /* The measured traces. */
 static struct trace traces[SIZES];
 
 /* The buffers that a judge writes. */
-static uint8_t table[MOST], verdicts[MOST], duties[MOST], afters[MOST];
+static uint8_t table[MOST_PAIRS], verdicts[MOST_EVENTS], duties[MOST_EVENTS], afters[MOST_EVENTS];
 
 /* Judges a trace so many times, each time from its starting sets; the outputs are not cleared. */
 static void repeat(const struct judge *judge, const struct trace *trace, unsigned long times)
@@ -94,14 +96,14 @@ static void all_occur(const struct trace *trace)
     exit(1);
 }
 
-/* Measures all judges on all sizes, and tells how many bytes an event has. */
+/* Measures all judges on all sizes, and tells how many bytes an event has and the most events and pairs of a call. */
 static void measure(void)
 {
     print_rounds();
-    printf("bytes %d\n", EVENT_BYTES);
+    printf("limits %d %d %d\n", EVENT_BYTES, MOST_EVENTS, MOST_PAIRS);
     for (unsigned n = 0; n < SIZES; n++) {
         make_trace(&traces[n], sizes[n].n, sizes[n].pairs, SEED);
-        if (traces[n].n == MOST)
+        if (traces[n].n == MOST_EVENTS)
             all_occur(&traces[n]);
         print_verdicts(&traces[n]);
     }

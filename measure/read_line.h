@@ -9,6 +9,9 @@
 #include "lookup.h"
 #include "sheet.h"
 
+/* The most digits of a pair: four, which are read together, and one more. */
+#define PAIR_DIGITS 5
+
 /* The most bytes of an answer's name. */
 #define LONGEST_RESPONSE 26
 
@@ -142,10 +145,28 @@ static inline int stands_short(const struct short_name *name, const unsigned cha
     return (load(at) & name->mask) == name->bytes;
 }
 
-/* Reads a pair of one to four digits and the comma after it; like every reader here it gives what follows, or null. */
+/* Puts the number of four digits, the first as the lowest byte, and tells whether they are digits. */
+static inline int four_digits(unsigned digits, unsigned *number)
+{
+    digits ^= 0x30303030;
+    if ((digits | (digits + 0x76767676)) & 0x80808080)
+        return 0;
+    digits = 10 * digits + (digits >> 8);
+    *number = 100 * (digits & 255) + (digits >> 16 & 255);
+    return 1;
+}
+
+/* Reads a pair of up to five digits and the comma after it; like every reader here it gives what follows, or null. */
 static inline const unsigned char *read_pair(const unsigned char *at, struct line *line)
 {
     unsigned digits = (unsigned)load(at), length;
+    if (at[PAIR_DIGITS] == ',') {
+        unsigned last = at[PAIR_DIGITS - 1] ^ '0';
+        if (at[0] == '0' || last > 9 || !four_digits(digits, &line->pair))
+            return 0;
+        line->pair = 10 * line->pair + last;
+        return at + PAIR_DIGITS + 1;
+    }
     if (at[4] == ',') {
         length = 4;
     } else if (at[3] == ',') {
@@ -160,13 +181,8 @@ static inline const unsigned char *read_pair(const unsigned char *at, struct lin
         length = 1;
         digits = digits << 24 | '0' << 16 | '0' << 8 | '0';
     }
-    if (at[0] == '0' && length != 1)
+    if ((at[0] == '0' && length != 1) || !four_digits(digits, &line->pair))
         return 0;
-    digits ^= 0x30303030;
-    if ((digits | (digits + 0x76767676)) & 0x80808080)
-        return 0;
-    digits = 10 * digits + (digits >> 8);
-    line->pair = 100 * (digits & 255) + (digits >> 16 & 255);
     return at + length + 1;
 }
 

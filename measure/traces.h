@@ -30,7 +30,7 @@ struct size {
 };
 
 /* How many traces are measured. */
-#define SIZES 6
+#define SIZES 8
 
 /* The sizes of the measured traces. */
 extern const struct size sizes[SIZES];
@@ -42,9 +42,9 @@ extern const struct size sizes[SIZES];
 struct trace {
     size_t n;
     size_t pairs;
-    uint8_t events[MOST * EVENT_BYTES];
-    uint16_t numbers[MOST];
-    uint8_t start[MOST];
+    uint8_t events[MOST_EVENTS * EVENT_BYTES];
+    uint16_t numbers[MOST_EVENTS];
+    uint8_t start[MOST_PAIRS];
 };
 
 /* Writes a drawn event as its bytes. */
@@ -62,7 +62,7 @@ static inline void put_event(uint8_t *bytes, const struct drawn *drawn)
 /* Draws a trace of mostly explained events, its pairs starting from any of the seven states. */
 static inline void make_trace(struct trace *trace, size_t n, size_t pairs, uint64_t seed)
 {
-    unsigned char sets[MOST];
+    unsigned char sets[MOST_PAIRS];
     start_draws(seed);
     trace->n = n;
     trace->pairs = pairs;
