@@ -16,6 +16,7 @@ const SHORT: usize = 8;
 pub const CALL: Call = Call {
     name: "capture",
     things: "captures",
+    // Since Q-6 every pair number is a pair, so that 3 comes at earlier stages alone.
     columns: &[&["events", "accepted", "refused 1", "refused 3", "refused 4", "refused 5", "cut"], EVENTS],
     summary: &["events"],
     random: 120,

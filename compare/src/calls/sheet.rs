@@ -3,6 +3,7 @@
 use crate::calls::words::{counts_of, EVENTS, REFUSALS};
 use crate::cases::draw::Draw;
 use crate::cases::kinds::{Case, Cases};
+use crate::cases::sheet_pairs::SMALL_PIECE;
 use crate::cases::sheets::sheets;
 use crate::definition::sheet::{answer, lines};
 use crate::definition::values::Definition;
@@ -45,10 +46,10 @@ fn arrivals(cases: &Cases, number: u64, case: &Case, once: bool) -> Vec<Arrival>
     let any = Arrival::AnyPieces(Draw::new(cases.seed, number).next());
     let small = case.input.len() <= SMALL;
     let mut arrivals = match kind {
-        "a million lines" => vec![whole],
+        "every pair" | "a million lines" => vec![whole],
         "drawn" | "drawn, damaged" | "anything" => vec![whole, any],
-        "the example" => vec![Arrival::Pipe, Arrival::File, Arrival::Pieces(1), Arrival::Pieces(7)],
-        _ if small => vec![whole, Arrival::Pieces(1), Arrival::Pieces(7)],
+        "the example" => vec![Arrival::Pipe, Arrival::File, Arrival::Pieces(1), Arrival::Pieces(SMALL_PIECE)],
+        _ if small => vec![whole, Arrival::Pieces(1), Arrival::Pieces(SMALL_PIECE)],
         _ => vec![whole, Arrival::Pieces(4_095)],
     };
     let one_line = kind == "names not known" || kind == "each byte value";

@@ -3,6 +3,7 @@
 use crate::calls::all::{call, CALLS};
 use crate::calls::{answers, capture, event, sheet, trace};
 use crate::cases::kinds::{Case, Cases};
+use crate::cases::sheet_pairs::SMALL_PIECE;
 use crate::cases::wire::{event_record, handed_over, lent_in, question_in, question_record, trace_case, trace_rooms};
 use crate::definition;
 use crate::definition::answers::{list, list_in_words, question_in_words};
@@ -38,7 +39,7 @@ const MIX: &[(&str, &str, &[(&str, u64)])] = &[
     ("trace", "every forward error", &[("accepted", 100), ("by histories", 100), ("explained", 20), ("Requester", 3), ("Home", 2)]),
     ("trace", "many lengths", &[("refused 1", 100)]),
     ("trace", "other event lengths", &[("refused 1", 100)]),
-    ("trace", "at the limits", &[("accepted", 20), ("refused 1", 45), ("refused 2", 6), ("refused 3", 10), ("refused 4", 2)]),
+    ("trace", "at the limits", &[("accepted", 40), ("refused 1", 35), ("refused 2", 5), ("refused 3", 5), ("refused 4", 2)]),
     ("trace", "up to 64 events", &[("accepted", 100), ("explained", 1_900), ("unexplained", 60), ("lost", 20), ("discarded", 10)]),
     ("trace", "up to 4 events", &[("accepted", 100), ("by histories", 100), ("unexplained", 15), ("Requester", 5), ("discarded", 4)]),
     ("trace", "bad sets", &[("refused 2", 100)]),
@@ -48,11 +49,18 @@ const MIX: &[(&str, &str, &[(&str, u64)])] = &[
     ("trace", "several damages", &[("refused 1", 15), ("refused 2", 7), ("refused 3", 30), ("refused 4", 12), ("refused 5", 5)]),
     ("trace", "bad lengths", &[("refused 1", 100)]),
     ("trace", "anything", &[("accepted", 15), ("refused 1", 5), ("refused 2", 5), ("refused 3", 30), ("refused 4", 8)]),
+    ("trace", "high pair numbers", &[("accepted", 20), ("refused 3", 40), ("refused 4", 20), ("refused 5", 10), ("explained", 80)]),
+    ("trace", "bad sets far back", &[("refused 1", 30), ("refused 2", 60)]),
+    ("trace", "too many pairs", &[("refused 1", 100)]),
+    ("trace", "pairs alike in part", &[("accepted", 100), ("by histories", 30), ("explained", 6_000), ("unexplained", 20), ("Home", 50)]),
+    ("trace", "large tables", &[("accepted", 30), ("refused 1", 2), ("refused 2", 5), ("refused 3", 5), ("explained", 500)]),
     ("sheet", "known names", &[("accepted", 100), ("explained", 900), ("unexplained", 10_000), ("discarded", 7)]),
     ("sheet", "from one state", &[("accepted", 100), ("explained", 30_000), ("unexplained", 30_000), ("Home", 100), ("Requester", 100)]),
     ("sheet", "names not known", &[("accepted", 1), ("refused 8", 95)]),
     ("sheet", "each byte value", &[("accepted", 0), ("refused 8", 98)]),
-    ("sheet", "pair fields", &[("accepted", 10), ("refused 3", 7), ("refused 7", 9), ("refused 8", 65)]),
+    ("sheet", "pair fields", &[("accepted", 14), ("refused 3", 4), ("refused 7", 8), ("refused 8", 65)]),
+    ("sheet", "pairs after others", &[("accepted", 28), ("refused 3", 10), ("refused 8", 50), ("explained", 800), ("unexplained", 50)]),
+    ("sheet", "pairs cut by reads", &[("accepted", 50), ("refused 8", 50), ("explained", 500), ("unexplained", 50)]),
     ("sheet", "forward and fwdErr", &[("accepted", 5), ("refused 3", 3), ("refused 7", 5), ("refused 8", 70), ("unexplained", 5)]),
     ("sheet", "other columns", &[("refused 6", 45), ("refused 8", 45)]),
     ("sheet", "ends of lines", &[("accepted", 0), ("refused 6", 6), ("refused 8", 90)]),
@@ -65,14 +73,17 @@ const MIX: &[(&str, &str, &[(&str, u64)])] = &[
         ("discarded", 1_000)]),
     ("sheet", "drawn", &[("accepted", 100), ("explained", 3_000), ("unexplained", 50), ("not judged", 300), ("lost", 90),
         ("discarded", 50)]),
-    ("sheet", "drawn, damaged", &[("accepted", 2), ("refused 3", 1), ("refused 6", 8), ("refused 7", 4), ("refused 8", 60)]),
+    ("sheet", "drawn, damaged", &[("accepted", 2), ("refused 3", 1), ("refused 6", 8), ("refused 7", 3), ("refused 8", 60)]),
     ("sheet", "anything", &[("accepted", 5), ("refused 6", 20), ("refused 8", 20)]),
+    ("sheet", "every pair", &[("accepted", 100), ("explained", 5_000_000), ("unexplained", 2_000_000), ("Home", 2_000_000)]),
+    ("capture", "pair numbers", &[("accepted", 100), ("unexplained", 100_000), ("Home", 100_000), ("not judged", 100)]),
+    ("capture", "pairs alike in part", &[("accepted", 100), ("explained", 100_000), ("unexplained", 50), ("Home", 100)]),
     ("capture", "marks", &[("refused 1", 80), ("refused 4", 1), ("cut", 5), ("accepted", 0)]),
     ("capture", "both error fields", &[("accepted", 100), ("explained", 5_000), ("unexplained", 50_000), ("Requester", 500)]),
-    ("capture", "refusals", &[("refused 3", 20), ("refused 4", 35), ("refused 5", 40), ("explained", 1_000)]),
+    ("capture", "refusals", &[("refused 4", 40), ("refused 5", 45), ("explained", 1_000)]),
     ("capture", "cut records", &[("cut", 90), ("explained", 1_000)]),
     ("capture", "drawn", &[("accepted", 100), ("explained", 1_000), ("discarded", 10)]),
-    ("capture", "drawn, damaged", &[("refused 3", 10), ("refused 4", 10), ("refused 5", 5), ("explained", 1_000)]),
+    ("capture", "drawn, damaged", &[("refused 4", 30), ("refused 5", 30), ("explained", 1_000)]),
     ("capture", "drawn, cut", &[("cut", 70), ("explained", 1_000)]),
     ("answers", "every question", &[("accepted", 60), ("refused 9", 35), ("answers", 300), ("empty", 20)]),
     ("answers", "each byte value", &[("refused 4", 80), ("refused 5", 15), ("accepted", 0), ("refused 9", 0)]),
@@ -107,7 +118,9 @@ fn mix() {
                 assert!(number * 100 >= share * all.compared && number > 0, "{kind}: {number} {column}");
             }
         }
-        assert_eq!(counted, call.columns.concat().into_iter().collect());
+        // The column of 3 is for captures of before Q-6.
+        let of_now = |column: &&str| (call.name, *column) != ("capture", "refused 3");
+        assert_eq!(counted, call.columns.concat().into_iter().filter(of_now).collect());
     }
 }
 
@@ -212,7 +225,7 @@ fn cases_are_repeatable() {
     for call in CALLS {
         let (one, two) = (few(call, 1), few(call, 2));
         assert_eq!(one.total(), two.total());
-        let drawn = one.kinds.len() - if call.name == "sheet" { 2 } else { 1 };
+        let drawn = one.kinds.len() - if call.name == "sheet" { 3 } else { 1 };
         let first = one.first(drawn);
         let others = (first..first + 10).filter(|number| one.case(*number).input != two.case(*number).input);
         assert!(others.count() > 5, "{}", call.name);
@@ -232,7 +245,8 @@ fn sweeps_are_whole() {
     let lengths: BTreeSet<u8> = events.of_kind("lengths 0 to 40").take(41).map(|case| case.input[0]).collect();
     assert_eq!(lengths, (0..=40).collect());
     let rooms = trace_rooms(&traces.definition);
-    for case in (0..traces.first(8)).map(|number| traces.case(number)) {
+    let large = traces.first(17)..traces.total();
+    for case in (0..traces.first(8)).chain(large).map(|number| traces.case(number)) {
         let lent = lent_in(&case.input);
         let fits = |(n, part): (usize, &Vec<u8>)| part.len() <= rooms[n] * Lent::PARTS[n].1;
         assert!(lent.parts().into_iter().enumerate().all(fits));
@@ -309,6 +323,191 @@ fn forwards_and_errors(definition: &Definition, call: &str, input: &[u8]) -> Vec
     };
     let judged = events.iter().zip(told).filter(|(_, (verdict, _))| *verdict <= 1);
     judged.map(|(event, (verdict, _))| (event[byte::FORWARDED], event[byte::FWD_ERR], verdict == EXPLAINED)).collect()
+}
+
+/// Every sheet is answered as before Q-6 up to the first line that Q-6 is about. There it was refused: with 8 if the number has five
+/// digits, and with 3 if it has four.
+#[test]
+fn sheets_before_q6() {
+    let [five, six] = [5, 6].map(|stage| Definition::at_stage(stage).unwrap());
+    let (mut same, mut refused) = (0, [0; 2]);
+    let sheets = few(&sheet::CALL, 1);
+    for case in (0..sheets.total()).map(|number| sheets.case(number)) {
+        let [before, now] = [&five, &six].map(|definition| definition::sheet::answer(definition, &case.input));
+        let lines = lines(&case.input);
+        // So many lines have a number that is a pair or is refused with 3.
+        let numbered = match now.refusal {
+            None => lines.len(),
+            Some((3, line)) => line,
+            Some((_, line)) => line - 1,
+        };
+        let pair = |n: usize| String::from_utf8_lossy(lines[n].split(|byte| *byte == b',').next().unwrap_or(&[])).to_string();
+        let new = (1..numbered).find(|n| pair(*n).parse().is_ok_and(|pair: usize| pair >= five.most_pairs));
+        let Some(n) = new else {
+            assert!(before.output == now.output && before.refusal == now.refusal, "{}", case.how);
+            same += usize::from(now.refusal.is_none());
+            continue;
+        };
+        let digits = pair(n).len();
+        let number = if digits == 5 { 8 } else { 3 };
+        let answers = now.output.split_inclusive(|byte| *byte == b'\n').take(n).flatten().copied();
+        let expected: Vec<u8> = answers.chain(format!("refused,{number},{}\r\n", n + 1).into_bytes()).collect();
+        assert!((4..=5).contains(&digits) && before.output == expected, "{}", case.how);
+        refused[digits - 4] += usize::from(now.refusal.is_none());
+    }
+    assert!(same > 400 && refused[0] > 100 && refused[1] > 200, "{same} {refused:?}");
+}
+
+/// Every trace is answered as before Q-6 if its table was no longer than it could be, and was refused with 1 if it was.
+#[test]
+fn traces_before_q6() {
+    let [five, six] = [5, 6].map(|stage| Definition::at_stage(stage).unwrap());
+    let traces = few(&trace::CALL, 1);
+    let (mut same, mut refused) = (0, 0);
+    // All that are about limits, and some others.
+    let others = (0..traces.first(7)).chain(traces.first(8)..traces.first(17)).step_by(13);
+    for number in others.chain(traces.first(7)..traces.first(8)).chain(traces.first(17)..traces.total()) {
+        let lent = lent_in(&traces.case(number).input);
+        let [before, now] = [&five, &six].map(|definition| judge(definition, &lent));
+        if lent.table.len() <= five.most_pairs {
+            assert_eq!(before, now, "case {number}");
+            same += 1;
+        } else {
+            assert!((before.refusal, before.place) == (1, 0) && before.lent == lent, "case {number}");
+            refused += usize::from(now.refusal == 0);
+        }
+    }
+    assert!(same > 10_000 && refused > 150, "{same} {refused}");
+}
+
+/// Every capture is answered as before Q-6 up to the part with the first event of a pair that was none, where it was refused with 3;
+/// since then none is.
+#[test]
+fn captures_before_q6() {
+    let [five, six] = [5, 6].map(|stage| Definition::at_stage(stage).unwrap());
+    let (record, part) = (definition::capture::record_bytes(&six), six.most_events);
+    let captures = few(&capture::CALL, 1);
+    let (mut same, mut refused) = (0, 0);
+    for case in (0..captures.total()).map(|number| captures.case(number)) {
+        let [before, now] = [&five, &six].map(|definition| definition::capture::answer(definition, &case.input));
+        // So many events are looked at, of a part that is cut none.
+        let looked_at = match now.stop {
+            None => usize::MAX,
+            Some((0, event)) => event - event % part,
+            Some((1, _)) => 0,
+            Some((3, _)) => panic!("{} is refused with 3", case.how),
+            Some((_, event)) => event + 1,
+        };
+        let records = definition::capture::records_in(&six, &case.input).unwrap_or(&[]).chunks_exact(record);
+        let mut pairs = records.map(|record| usize::from(u16::from_le_bytes([record[0], record[1]])));
+        match pairs.position(|pair| pair >= five.most_pairs).filter(|event| *event < looked_at) {
+            Some(event) => {
+                let whole_parts = &case.input[..six.capture_mark.len() + (event - event % part) * record];
+                let told = definition::capture::answer(&six, whole_parts).output;
+                // The last line counts the events.
+                let lines: Vec<&[u8]> = told.split_inclusive(|byte| *byte == b'\n').collect();
+                let expected = (Some((3, event)), lines[..lines.len() - 1].concat());
+                assert_eq!((before.stop, before.output), expected, "{}", case.how);
+                refused += 1;
+            }
+            None => {
+                assert_eq!((before.stop, before.output), (now.stop, now.output), "{}", case.how);
+                same += 1;
+            }
+        }
+    }
+    assert!(same > 100 && refused > 100, "{same} {refused}");
+}
+
+/// Large tables come up in traces of each number of events, with high pair numbers that they just have and just lack, and with bad
+/// sets at many places.
+#[test]
+fn large_tables_come_up() {
+    let definition = Definition::now();
+    let traces = few(&trace::CALL, 1);
+    let (mut lengths, mut numbers, mut places) = (BTreeSet::new(), BTreeSet::new(), BTreeSet::new());
+    for kind in ["at the limits", "high pair numbers", "bad sets far back"] {
+        for lent in traces.of_kind(kind).map(|case| lent_in(&case.input)) {
+            let events = lent.verdicts.len();
+            let (refusal, place) = definition::trace::refused(&definition, &lent);
+            lengths.insert((lent.table.len(), events, refusal == 0));
+            match refusal {
+                2 => drop(places.insert(place)),
+                3 => drop(numbers.insert((lent.pair(place).unwrap(), lent.table.len(), false))),
+                0 => numbers.extend((0..events).filter_map(|n| lent.pair(n)).map(|pair| (pair, lent.table.len(), true))),
+                _ => {}
+            }
+        }
+    }
+    for (length, accepted) in [(65_535, true), (65_536, true), (65_537, false), (4_095, true), (4_096, true), (4_097, true)] {
+        assert!([0, 1, 64, 4_096].iter().all(|events| lengths.contains(&(length, *events, accepted))), "{length}");
+    }
+    assert!([(4_095, true), (4_096, true), (4_097, false)]
+        .iter()
+        .all(|(events, accepted)| lengths.contains(&(65_536, *events, *accepted))));
+    assert!([32_767, 32_768].iter().all(|length| lengths.contains(&(*length, 4_096, true))));
+    for number in [0, 4_095, 4_096, 9_999, 32_767, 32_768, 65_534, 65_535] {
+        assert!(numbers.contains(&(number, number, false)) && numbers.contains(&(number, number + 1, true)), "{number}");
+    }
+    assert!([0, 4_095, 4_096, 32_767, 32_768, 65_534, 65_535].iter().all(|place| places.contains(place)), "{places:?}");
+}
+
+/// There are sheets and a capture in which every pair comes twice, and captures of pairs that were none before Q-6.
+#[test]
+fn every_pair_comes_up() {
+    let definition = Definition::now();
+    let twice: Vec<usize> = (0..2 * definition.most_pairs).map(|n| n / 2).collect();
+    for case in few(&sheet::CALL, 1).of_kind("every pair") {
+        let mut pairs = Vec::new();
+        each_event(&definition, &lines(&case.input), |pair, _| pairs.push(pair));
+        pairs.sort_unstable();
+        assert!(pairs == twice, "{}", case.how);
+    }
+    let (mut all, mut ends) = (0, BTreeSet::new());
+    for case in few(&capture::CALL, 1).of_kind("pair numbers") {
+        let records = definition::capture::records_in(&definition, &case.input).unwrap();
+        let records = records.chunks_exact(definition::capture::record_bytes(&definition));
+        let mut pairs: Vec<usize> = records.map(|record| usize::from(u16::from_le_bytes([record[0], record[1]]))).collect();
+        ends.extend(pairs.last().copied());
+        pairs.sort_unstable();
+        all += usize::from(pairs == twice);
+    }
+    assert_eq!(all, 1);
+    assert!([4_095, 4_096, 9_999, 10_000, 32_767, 32_768, 65_534, 65_535].iter().all(|pair| ends.contains(pair)), "{ends:?}");
+}
+
+/// Drawn sheets have pairs of all five lengths, damaged ones are refused for numbers of five digits and of six, and reads part a pair of
+/// five digits at every place.
+#[test]
+fn pairs_of_five_digits_come_up() {
+    let sheets = few(&sheet::CALL, 1);
+    let Feeding::RunEach(arrivals) = sheet::CALL.feeding else { panic!("a run each") };
+    let digits = |line: &[u8]| line.iter().take_while(|byte| byte.is_ascii_digit()).count();
+    let mut drawn = BTreeSet::new();
+    for case in sheets.of_kind("drawn") {
+        drawn.extend(lines(&case.input)[1..].iter().map(|line| digits(line)));
+    }
+    assert_eq!(drawn, (1..=5).collect());
+    let refused = sheets.of_kind("drawn, damaged").filter_map(|case| {
+        let (number, line) = definition::sheet::answer(&sheets.definition, &case.input).refusal?;
+        Some((number, digits(lines(&case.input)[line - 1])))
+    });
+    let refused: BTreeSet<(u8, usize)> = refused.collect();
+    assert!([(3, 5), (8, 5), (8, 6)].iter().all(|both| refused.contains(both)), "{refused:?}");
+    let mut parted = BTreeSet::new();
+    for (n, case) in sheets.of_kind("pairs cut by reads").enumerate() {
+        let number = sheets.first(case.kind) + n as u64;
+        for arrival in arrivals(&sheets, number, &case, false).into_iter().filter(|way| *way == Arrival::Pieces(SMALL_PIECE)) {
+            let mut read = 0;
+            for piece in arrival.pieces(&case.input) {
+                read += piece.len();
+                let begun = case.input[..read].rsplit(|byte| *byte == b'\n').next().unwrap_or(&[]).len();
+                let pair = digits(&case.input[read - begun..]);
+                parted.extend((pair == 5 && begun <= 5).then_some(begun));
+            }
+        }
+    }
+    assert_eq!(parted, (0..=5).collect());
 }
 
 /// The path of a sample.

@@ -2,11 +2,11 @@
 
 use crate::calls::words::{counts_of, named, names_of, set, EVENTS, REFUSALS};
 use crate::cases::traces::traces;
-use crate::cases::wire::{lent_in, next_trace, number};
+use crate::cases::wire::{lent_in, next_trace, number, trace_answer};
 use crate::definition::codes::{DUTIES, VERDICTS};
 use crate::definition::event::ACCEPTED;
 use crate::definition::histories::enumerate;
-use crate::definition::trace::{event_of, judge, whole_events, Judged, Lent};
+use crate::definition::trace::{event_of, judge, whole_events, Lent};
 use crate::definition::values::Definition;
 use crate::running::call::{Call, Feeding, Right};
 
@@ -40,24 +40,16 @@ fn right(definition: &Definition, case: &[u8]) -> Right {
     let judged = judge(definition, &lent);
     let events = whole_events(definition, &lent);
     let mut counts = vec![("events", events as u64), (REFUSALS[usize::from(judged.refusal)], 1)];
-    let mut right = Right::output(output(&judged), vec![]);
+    let mut right = Right::output(trace_answer(&judged), vec![]);
     if judged.refusal == ACCEPTED {
         counts.extend(counts_of(judged.lent.verdicts.iter().copied().zip(judged.lent.duties.iter().copied())));
         if events <= MOST_ENUMERATED {
             let (told, histories) = enumerate(definition, &lent);
-            right.other_way = Some(("histories", output(&told)));
+            right.other_way = Some(("histories", trace_answer(&told)));
             counts.extend([("by histories", 1), ("histories", histories)]);
         }
     }
     Right { counts, ..right }
-}
-
-/// Refusal, place in 32 bits, and the four parts that a call may write.
-fn output(judged: &Judged) -> Vec<u8> {
-    let mut output = vec![judged.refusal];
-    output.extend((judged.place as u32).to_le_bytes());
-    judged.lent.parts()[2..].iter().for_each(|part| output.extend(*part));
-    output
 }
 
 /// The lengths lent, and the events of which there are pairs.

@@ -1,17 +1,18 @@
 //! Captures that go through marks, lengths, pair numbers, parts, refusals and cuts, and captures drawn with and without damage.
 
+use crate::cases::alike::alike_pairs;
 use crate::cases::damage::{cut, damage, requests_just_outside, Damage};
 use crate::cases::draw::Draw;
 use crate::cases::drawn::event_by_row;
 use crate::cases::kinds::{share, Cases, Gathered, Kind, Made};
-use crate::cases::traces::{any_events, some_pairs, trace_from, Shape};
+use crate::cases::trace_draws::{any_events, some_pairs, trace_from, Shape};
 use crate::definition::capture::{of_sheet, of_trace, record_bytes};
 use crate::definition::codes::{byte, ALL_STATES, RESP_ERRS, STATE_NOT_SEEN, TAG_NOT_SEEN};
 use crate::definition::trace::Lent;
-use crate::definition::values::Definition;
+use crate::definition::values::{Definition, PAIRS_BEFORE_Q6};
 
 /// The sheets of the samples, by name.
-const SAMPLES: [(&str, &[u8]); 11] = [
+const SAMPLES: [(&str, &[u8]); 12] = [
     ("example.csv", include_bytes!("../../../samples/example.csv")),
     ("morning.csv", include_bytes!("../../../samples/morning.csv")),
     ("lost_year.csv", include_bytes!("../../../samples/lost_year.csv")),
@@ -19,6 +20,7 @@ const SAMPLES: [(&str, &[u8]); 11] = [
     ("lost.csv", include_bytes!("../../../samples/lost.csv")),
     ("dirty_tags.csv", include_bytes!("../../../samples/dirty_tags.csv")),
     ("forwarded_error.csv", include_bytes!("../../../samples/forwarded_error.csv")),
+    ("high_pairs.csv", include_bytes!("../../../samples/high_pairs.csv")),
     ("refused-3.csv", include_bytes!("../../../samples/refused-3.csv")),
     ("refused-6.csv", include_bytes!("../../../samples/refused-6.csv")),
     ("refused-7.csv", include_bytes!("../../../samples/refused-7.csv")),
@@ -41,10 +43,11 @@ const OTHER_MARKS: [&[u8]; 18] = [
     b"chi\x0f", b"IHC\x0f", b"\x0fIHC", b"CHIE\x0f", b"\0CHI\x0f", b"\nCHI\x0f", b"\xef\xbb\xbfCHI\x0f", b"CCHI\x0f",
 ];
 
-/// Pair numbers that a table of 4,096 has, and that it does not have.
+/// Pair numbers of all lengths, many of which were no pairs before Q-6.
 #[rustfmt::skip]
-const PAIRS: [u16; 17] = [
-    0, 1, 255, 256, 257, 3_840, 4_094, 4_095, 4_096, 4_097, 4_351, 8_191, 12_288, 32_768, 61_440, 65_280, 65_535,
+const PAIRS: [u16; 25] = [
+    0, 1, 255, 256, 257, 3_840, 4_094, 4_095, 4_096, 4_097, 4_351, 8_191, 9_999, 10_000, 12_288, 18_499, 32_767, 32_768,
+    32_769, 61_440, 61_441, 65_279, 65_280, 65_534, 65_535,
 ];
 
 /// Long captures: how many events, of up to how many pairs, and how many of a thousand events are strays.
@@ -87,11 +90,12 @@ struct Sweeping {
 type Sweep = fn(&mut Sweeping);
 
 /// The kinds whose captures are gathered one after another.
-const SWEEPS: [(&str, Sweep); 9] = [
+const SWEEPS: [(&str, Sweep); 10] = [
     ("the samples", Sweeping::samples),
     ("marks", Sweeping::marks),
     ("0 to 40 bytes", Sweeping::lengths),
     ("pair numbers", Sweeping::pair_numbers),
+    ("pairs alike in part", Sweeping::pairs_alike_in_part),
     ("both error fields", Sweeping::error_fields),
     ("whole parts", Sweeping::whole_parts),
     ("refusals", Sweeping::refusals),
@@ -195,10 +199,12 @@ impl Sweeping {
         (0..=40).for_each(|length| self.captures.add(format!("{length} bytes"), three[..length].to_vec()));
     }
 
-    /// Adds captures in which a pair comes between others that share a byte with it, and one of all pairs.
+    /// Adds captures in which a pair comes among others that a part of its number is the number of, and one of all pairs.
     fn pair_numbers(&mut self) {
         for pair in PAIRS {
-            let before = [pair & 255, pair >> 8, pair, pair & 4_095].map(|pair| self.record_of(pair, &TO_HOME)).concat();
+            let parts = [pair & 255, pair >> 8, pair % PAIRS_BEFORE_Q6 as u16, pair & (u16::MAX >> 1)];
+            let pairs = [&parts[..2], &[pair], &parts[2..]].concat();
+            let before = pairs.into_iter().flat_map(|pair| self.record_of(pair, &TO_HOME)).collect();
             let capture = self.capture_of([before, self.record_of(pair, &UNEXPLAINED)].concat());
             self.captures.add(format!("pair {pair}"), capture);
         }
@@ -207,6 +213,16 @@ impl Sweeping {
         let back = pairs().rev().flat_map(|pair| self.record_of(pair, &UNEXPLAINED));
         let capture = self.capture_of(there.chain(back).collect());
         self.captures.add("all pairs, there and back", capture);
+    }
+
+    /// Adds captures over pairs whose numbers are alike in part, a short one and one of more than a part.
+    fn pairs_alike_in_part(&mut self) {
+        for (how, pairs) in alike_pairs(&self.definition) {
+            for events in [100, self.definition.most_events + 100] {
+                let lent = good(&self.definition, &mut self.draw, events, &pairs, 2, 970);
+                self.captures.add(format!("{how}, {events} events"), of_trace(&self.definition, &lent));
+            }
+        }
     }
 
     /// Adds a capture in which both error fields of each row's answer go through their values together, each time for a pair of its
@@ -231,18 +247,18 @@ impl Sweeping {
 
     /// Adds captures in which one event is refused, or two are, or each byte of one is, or its request is just outside.
     fn refusals(&mut self) {
-        let part = self.definition.most_events;
+        let (part, damages) = (self.definition.most_events, Damage::to_event_over(self.definition.most_pairs));
         let events = [&[0, 1, 17, part - 2][..], &self.round_borders()].concat();
         for (turn, event) in events.into_iter().enumerate() {
-            for (n, what) in Damage::TO_EVENT.into_iter().enumerate() {
+            for (n, what) in damages.iter().enumerate() {
                 let after = [0, 3, 200][(turn + n) % 3];
-                self.add((event + 1 + after).min(self.whole.pairs.len() / 2), &[(event, what)], None);
+                self.add((event + 1 + after).min(self.whole.pairs.len() / 2), &[(event, *what)], None);
             }
         }
         for (first, second) in [(3, 3), (3, 4), (part - 1, part), (part + 5, 2 * part)] {
-            for (one, other) in [(0, 1), (1, 2), (2, 0)] {
-                let damages = [(first, Damage::TO_EVENT[one]), (second, Damage::TO_EVENT[other])];
-                self.add(second + 2, &damages, None);
+            for (n, one) in damages.iter().enumerate() {
+                let other = damages[(n + 1) % damages.len()];
+                self.add(second + 2, &[(first, *one), (second, other)], None);
             }
         }
         let five = of_trace(&self.definition, &self.first(5));
@@ -263,12 +279,13 @@ impl Sweeping {
     /// Adds captures that end within a record, some with an event that is refused in the same part or in one before.
     fn cuts(&mut self) {
         let (part, record) = (self.definition.most_events, record_bytes(&self.definition));
+        let damages = Damage::to_event_over(self.definition.most_pairs);
         for events in [&[3, 100, part - 2][..], &self.round_borders()].concat() {
             [1, 2 + events % 13, record - 1].iter().for_each(|rest| self.add(events + 1, &[], Some(*rest)));
         }
         let refused = [(2, 5), (part - 2, part - 1), (part - 1, part), (7, part + 4), (part + 2, part + 4), (part, 2 * part)];
         for (n, (event, events)) in refused.into_iter().enumerate() {
-            self.add(events + 1, &[(event, Damage::TO_EVENT[n % 3])], Some(9));
+            self.add(events + 1, &[(event, damages[n % damages.len()])], Some(9));
         }
     }
 
@@ -301,7 +318,7 @@ fn drawn(definition: &Definition, draw: &mut Draw, n: u64, damaged: bool, is_cut
     // Half of the long ones are damaged in a later part alone.
     let first = if n % 24 == 5 { part } else { 0 };
     for _ in 0..usize::from(damaged) * draw.one_of(&[1, 1, 2, 3]) {
-        let (event, what) = (first + draw.place(events - first), draw.one_of(&Damage::TO_EVENT));
+        let (event, what) = (first + draw.place(events - first), draw.one_of(&Damage::to_event_over(definition.most_pairs)));
         damage(definition, draw, &mut lent, event, what);
         how += &format!(", damage of event {event}: {what:?}");
     }

@@ -23,6 +23,12 @@ pub enum Damage {
 impl Damage {
     /// The damage that is done to an event.
     pub const TO_EVENT: [Damage; 3] = [Damage::Pair, Damage::Byte, Damage::Request];
+
+    /// The damage that can be done to an event over a table of so many pairs, which may have all pair numbers that there are.
+    pub fn to_event_over(table: usize) -> Vec<Damage> {
+        let has_all = table > usize::from(u16::MAX);
+        Damage::TO_EVENT.into_iter().filter(|damage| *damage != Damage::Pair || !has_all).collect()
+    }
 }
 
 /// Does damage to a trace, at an event where it is done to one.
@@ -79,18 +85,19 @@ pub fn requests_just_outside(definition: &Definition) -> Vec<u8> {
     (0..=255).filter(|request| !is_request(definition, *request) && is_near(*request)).collect()
 }
 
-/// A pair number that is not below a table's length.
+/// A pair number that is not below the length of a table, which doesn't have all pair numbers that there are.
 fn pair_outside(draw: &mut Draw, table: usize) -> u16 {
-    let length = table as u64;
+    let (length, last) = (table as u64, u64::from(u16::MAX));
+    assert!(length <= last, "a table of {table} pairs has all pair numbers");
     let pair = match draw.below(6) {
         0 | 1 => length,
         2 => length + 1,
-        3 => 65_535,
+        3 => last,
         // As a low byte alone it might be below.
         4 => 256 * (length / 256 + 1 + draw.below(200)) + draw.below(length.max(1)) % 256,
-        _ => length + draw.below(65_536 - length),
+        _ => length + draw.below(last + 1 - length),
     };
-    pair.min(65_535) as u16
+    pair.min(last) as u16
 }
 
 /// Puts a byte above 127 in the place of some set of a table that is not empty.
@@ -182,6 +189,17 @@ pub fn cut(draw: &mut Draw, bytes: &mut Vec<u8>, record: usize) -> usize {
 mod tests {
     use super::*;
     use std::collections::BTreeSet;
+
+    /// A pair number outside is not below the table's length, for every length but that of a table that has them all.
+    #[test]
+    fn pairs_outside() {
+        let mut draw = Draw::new(1, 1);
+        for table in [0, 1, 255, 256, 4_095, 4_096, 65_279, 65_280, 65_534, 65_535] {
+            assert!((0..200).all(|_| usize::from(pair_outside(&mut draw, table)) >= table), "{table}");
+            assert_eq!(Damage::to_event_over(table), Damage::TO_EVENT, "{table}");
+        }
+        assert_eq!(Damage::to_event_over(65_536), [Damage::Byte, Damage::Request]);
+    }
 
     /// The requests just outside are those by hand, and they come where one is drawn.
     #[test]

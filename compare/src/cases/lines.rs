@@ -23,9 +23,16 @@ pub const OTHER_REQUESTS: [&str; 19] = [
 
 /// Fields that are tried for a pair; a blank parts them.
 pub const PAIR_FIELDS: &str = "0 1 9 10 11 99 100 255 256 999 1000 1001 1023 2047 2048 3999 4000 4089 4090 4094 4095 \
-    4096 4097 4099 4100 4195 4999 5000 5095 8191 8192 9000 9999 10000 10001 40950 40960 65535 65536 65537 69631 99999 \
-    100000 4294967295 4294967296 4294967297 18446744073709551616 00 01 007 000 0000 0001 0095 04095 00000 1a a1 a -1 \
-    -0 +1 +0 1.0 1e3 0x1 / 1/ /1 : 1: :1 ? - 1_0 1,0 '1 \"1\" 12345678901234567890123456789012345678901 \u{ff11}";
+    4096 4097 4099 4100 4195 4999 5000 5095 8191 8192 9000 9999 10000 10001 16383 16384 32767 32768 32769 40950 40960 \
+    59999 60000 64999 65000 65499 65500 65529 65530 65534 65535 65536 65537 65538 65539 65540 65545 65600 66000 66535 \
+    69631 69632 70000 75535 98304 99999 100000 100001 131071 131072 165535 655350 655359 655360 999999 1000000 4294967295 \
+    4294967296 4294967297 4295032831 4295032832 18446744073709551615 18446744073709551616 18446744073709617151 00 01 007 \
+    000 0000 0001 0095 04095 04096 09999 00000 00001 010000 065535 065536 000000 000001 0065535 1a a1 a -1 -0 +1 +0 1.0 \
+    1e3 0x1 / 1/ /1 : 1: :1 ? - 1_0 1,0 '1 \"1\" 6553a 655a5 a5535 6553/ 6553: -6553 +65535 -65535 65.535 65,535 6_5535 \
+    0xffff \"65535\" 12345678901234567890123456789012345678901 \u{ff11} 6553\u{ff15}";
+
+/// Some pair numbers of each length.
+const PAIRS: [&str; 6] = ["0", "7", "16", "255", "4095", "65535"];
 
 /// The form of a sheet's lines under a definition.
 pub struct Form<'a> {
@@ -48,12 +55,17 @@ impl<'a> Form<'a> {
         self.definition.header.split(',').collect()
     }
 
-    /// The names that a column knows, or some pair numbers of each length.
+    /// The names that a column knows, or some pairs of each length.
     pub fn names(&self, column: &str) -> Vec<&'static str> {
         match self.columns.iter().find(|known| known.name == column) {
             Some(column) => column.names.iter().map(|(name, _)| *name).collect(),
-            None => vec!["0", "7", "16", "255", "4095"],
+            None => PAIRS.into_iter().filter(|pair| pair.parse().is_ok_and(|pair: usize| pair < self.definition.most_pairs)).collect(),
         }
+    }
+
+    /// The lowest number that is no pair.
+    pub fn no_pair(&self) -> String {
+        self.definition.most_pairs.to_string()
     }
 
     /// The names that forwarded data's errors have in the column fwdErr, if there is one.

@@ -1,5 +1,6 @@
 //! Bench sheets drawn at random: good ones, damaged ones, long ones, and ones whose lines borders between reads fall in.
 
+use crate::cases::alike::alike_pairs;
 use crate::cases::damage::{any_byte, damage_bytes};
 use crate::cases::draw::Draw;
 use crate::cases::drawn::{explained_event, lively_pair};
@@ -9,7 +10,7 @@ use crate::cases::text::{fields_of, line_of};
 use crate::definition::codes::ALL_STATES;
 use crate::definition::sheet::{Reader, CRLF};
 use crate::definition::steps::step;
-use crate::definition::values::Definition;
+use crate::definition::values::{Definition, PAIRS_BEFORE_Q6};
 
 /// What the lines of a sheet without damage are drawn to be.
 #[derive(Clone, Copy)]
@@ -64,8 +65,9 @@ fn good_lines(form: &Form, draw: &mut Draw, shape: &Shape, pairs: &[usize]) -> V
 
 /// Some pairs, of few digits as often as of many.
 fn some_pairs(definition: &Definition, draw: &mut Draw, count: usize) -> Vec<usize> {
+    let below: Vec<usize> = (1..=definition.pair_digits as u32).map(|digits| definition.most_pairs.min(10_usize.pow(digits))).collect();
     let pair = |_| {
-        let below = draw.one_of(&[10, 100, 1_000, definition.most_pairs]);
+        let below = draw.one_of(&below);
         draw.place(below)
     };
     (0..count).map(pair).collect()
@@ -127,7 +129,7 @@ fn damage_fields(form: &Form, draw: &mut Draw, line: &mut Vec<u8>) {
     let (column, other) = (draw.place(fields.len()), draw.place(fields.len()));
     match draw.below(12) {
         0..=5 => fields[column] = strange_name(form, draw, column, &fields[column]),
-        6..=8 => fields[0] = strange_pair(form.definition, draw),
+        6..=8 => fields[0] = strange_pair(form.definition, draw, &fields[0]),
         9 => drop(fields.remove(column)),
         10 => fields.insert(column, fields[column].clone()),
         _ => fields.swap(column, other),
@@ -159,17 +161,33 @@ fn strange_name(form: &Form, draw: &mut Draw, column: usize, field: &[u8]) -> Ve
     name
 }
 
-/// A field for a pair that is no pair, or any number.
-fn strange_pair(definition: &Definition, draw: &mut Draw) -> Vec<u8> {
-    let number = match draw.below(3) {
+/// A field for a pair that is no pair, or any number, or has other digits than the one that stood there.
+fn strange_pair(definition: &Definition, draw: &mut Draw, field: &[u8]) -> Vec<u8> {
+    let digits = definition.pair_digits as u32;
+    let number = match draw.below(5) {
         0 => return draw.one_of(&PAIR_FIELDS.split(' ').collect::<Vec<&str>>()).into(),
-        1 => definition.most_pairs - 6 + draw.place(12),
+        1 => return other_digits(draw, field),
+        2 => definition.most_pairs - 6 + draw.place(12),
+        3 => definition.most_pairs + draw.place(10_usize.pow(digits) - definition.most_pairs),
         _ => {
-            let below = draw.one_of(&[10, 100, 10_000, 100_000]);
+            let below = draw.one_of(&[10, 100, 10_000, 100_000, 10_000_000]);
             draw.place(below)
         }
     };
     number.to_string().into_bytes()
+}
+
+/// A number's digits with one more, one fewer or another one, or with a zero before them.
+fn other_digits(draw: &mut Draw, number: &[u8]) -> Vec<u8> {
+    let mut digits = number.to_vec();
+    let (place, digit) = (draw.place(digits.len() + 1), b'0' + draw.below(10) as u8);
+    match draw.below(4) {
+        0 => digits.insert(place, digit),
+        1 if place < digits.len() => drop(digits.remove(place)),
+        2 if place < digits.len() => digits[place] = digit,
+        _ => digits.insert(0, b'0'),
+    }
+    digits
 }
 
 /// Names, commas, ends of lines and bytes in any order, mostly after the header.
@@ -222,13 +240,20 @@ fn of_bytes(form: &Form, lines: &[Vec<u8>], bytes: usize) -> Vec<u8> {
     sheet
 }
 
-/// The pairs whose digits without the first are no pair, so that it can't get lost unseen.
+/// The most pairs of each length whose lines borders fall in, so few that most come again.
+const OF_EACH_LENGTH: usize = 150;
+
+/// Pairs of all lengths but two whose digits without the first are no pair, so that it can't get lost unseen.
 fn first_digit_matters(definition: &Definition) -> Vec<usize> {
-    let matters = |pair: &usize| {
+    let matters = |digits: &str| digits.len() == 1 || (digits.len() > 2 && digits[1..].starts_with('0'));
+    let mut by_length = vec![Vec::new(); definition.pair_digits + 1];
+    for pair in 0..definition.most_pairs {
         let digits = pair.to_string();
-        digits.len() == 1 || (digits.len() > 2 && digits[1..].starts_with('0'))
-    };
-    (0..definition.most_pairs).filter(matters).collect()
+        if matters(&digits) {
+            by_length[digits.len()].push(pair);
+        }
+    }
+    by_length.iter().flat_map(|pairs| pairs.iter().step_by(pairs.len().div_ceil(OF_EACH_LENGTH).max(1)).copied()).collect()
 }
 
 /// Adds sheets in which a border between two reads falls on every place of a line, of its CRLF and of its beginning.
@@ -265,37 +290,32 @@ pub fn borders(form: &Form, sheets: &mut Gathered, seed: u64) {
     }
 }
 
-/// The pair of each line, by the line's number and how many pairs there are.
+/// The place of each line's pair among some pairs, by the line's number and how many pairs there are.
 type Order = fn(usize, usize) -> usize;
 
-/// Orders in which every pair comes.
+/// Orders in which all of some pairs come.
 const ORDERS: [(&str, Order); 4] = [
-    ("every pair, from the first", |n, pairs| n % pairs),
-    ("every pair, from the last", |n, pairs| pairs - 1 - n % pairs),
-    ("every pair, not in order", |n, pairs| (n * 1_103 + 17) % pairs),
-    ("every pair, twice together", |n, _| n / 2),
+    ("many pairs, from the first", |n, pairs| n % pairs),
+    ("many pairs, from the last", |n, pairs| pairs - 1 - n % pairs),
+    ("many pairs, not in order", |n, pairs| (n * 1_103 + 17) % pairs),
+    ("many pairs, twice together", |n, _| n / 2),
 ];
 
-/// Pairs that are alike in part.
-const ALIKE: [(&str, &[usize]); 6] = [
-    ("pairs with the same low byte", &[1, 257, 513, 1_025, 2_049, 4_033, 3_841]),
-    ("pairs that differ in one bit", &[0, 1, 2, 4, 8, 16, 32, 64, 128, 256, 512, 1_024, 2_048, 4_095]),
-    ("pairs of the same digits", &[12, 21, 102, 120, 201, 210, 1_002, 2_001, 1_020, 2_010]),
-    ("pairs of which one begins another", &[4, 40, 409, 4_095, 1, 10, 100, 1_000]),
-    ("pairs near each other", &[0, 1, 2, 4_093, 4_094, 4_095]),
-    ("one pair", &[4_095]),
-];
-
-/// Adds sheets with as many pairs as there can be, one after another, and with pairs that are alike in part.
+/// Adds sheets with many pairs from all over, one after another, and with pairs that are alike in part.
 pub fn many_pairs(form: &Form, sheets: &mut Gathered, seed: u64) {
-    let pairs = form.definition.most_pairs;
+    // As many pairs as there were before Q-6, one of each stretch of pairs, and not always the same one.
+    let (pairs, stretch) = (PAIRS_BEFORE_Q6, form.definition.most_pairs / PAIRS_BEFORE_Q6);
     let long = Shape { lines: 2 * pairs, strays: 100, width: None };
     for (n, (how, order)) in ORDERS.into_iter().enumerate() {
-        let lines = lines_of_pairs(form, &mut Draw::new(seed, 1 + n as u64), &long, |n, _| order(n, pairs));
+        let pair = |n: usize, _: &[u8]| {
+            let place = order(n, pairs);
+            place * stretch + place % stretch
+        };
+        let lines = lines_of_pairs(form, &mut Draw::new(seed, 1 + n as u64), &long, pair);
         sheets.add(how, form.sheet(&lines));
     }
     let short = Shape { lines: 200, ..long };
-    for (n, (how, pairs)) in ALIKE.into_iter().enumerate() {
+    for (n, (how, pairs)) in alike_pairs(form.definition).into_iter().enumerate() {
         let order = |n: usize, _: &[u8]| pairs[(n * 5 + n / 7) % pairs.len()];
         let lines = lines_of_pairs(form, &mut Draw::new(seed, 10 + n as u64), &short, order);
         sheets.add(how, form.sheet(&lines));
@@ -330,7 +350,8 @@ pub fn most_lines(definition: &Definition, number: u64) -> Made {
     for n in 0..lines - 1 {
         let pair = n * 7 % definition.most_pairs;
         sheet.extend(format!("\r\n{pair}").as_bytes());
-        sheet.extend(match pair % 8 {
+        // Pairs that are equal modulo the pairs of before Q-6 have other lines.
+        sheet.extend(match (pair + pair / PAIRS_BEFORE_Q6) % 8 {
             0..=3 => &to_i,
             4 | 5 => &to_sc,
             6 => &to_sd,

@@ -1,8 +1,9 @@
-//! Bench sheets that go through names, bytes, pairs, fields, ends and lengths of lines one after another.
+//! The cases of a bench sheet: sheets that go through names, bytes, fields, ends and lengths of lines one after another, and others.
 
 use crate::cases::kinds::{share, Cases, Gathered, Kind};
-use crate::cases::lines::{without_crlf, Form, OTHER_ENDS, OTHER_REQUESTS, PAIR_FIELDS};
+use crate::cases::lines::{without_crlf, Form, OTHER_ENDS, OTHER_REQUESTS};
 use crate::cases::sheet_draws::{anything, borders, damaged, good, many_pairs, most_lines, MOST};
+use crate::cases::sheet_pairs::{cut_pairs, every_pair, pair_fields, pairs_after_others, EVERY_PAIR};
 use crate::cases::text::{fields_of, line_of, spoiled, spoiled_fields};
 use crate::definition::codes::NOTHING;
 use crate::definition::sheet::{CRLF, OUTPUT_HEADER};
@@ -12,13 +13,15 @@ use crate::definition::values::Definition;
 type Sweep = fn(&Form, &mut Gathered, u64);
 
 /// The kinds whose sheets are gathered one after another.
-const SWEEPS: [(&str, Sweep); 16] = [
+const SWEEPS: [(&str, Sweep); 18] = [
     ("the example", example),
     ("known names", known_names),
     ("from one state", from_one_state),
     ("names not known", names_not_known),
     ("each byte value", each_byte),
     ("pair fields", pair_fields),
+    ("pairs after others", pairs_after_others),
+    ("pairs cut by reads", cut_pairs),
     ("other fields", other_fields),
     ("forward and fwdErr", forward_and_error),
     ("other columns", other_columns),
@@ -51,6 +54,7 @@ pub fn sheets(definition: &Definition, seed: u64, random: u64) -> Cases {
         }),
         Kind::new("drawn, damaged", share(random, 5, 10), |d, draw, _| damaged(d, draw)),
         Kind::new("anything", share(random, 1, 10), |d, draw, _| anything(d, draw)),
+        Kind::new("every pair", EVERY_PAIR, |d, _, n| every_pair(d, n)),
         Kind::new("a million lines", MOST, |d, _, n| most_lines(d, n)),
     ]);
     Cases { definition: definition.clone(), seed, kinds }
@@ -229,38 +233,6 @@ fn each_byte(form: &Form, sheets: &mut Gathered, _: u64) {
     }
 }
 
-/// Adds sheets with one line of which the pair's field is tried, some of them with something else wrong besides.
-fn pair_fields(form: &Form, sheets: &mut Gathered, _: u64) {
-    for field in PAIR_FIELDS.split(' ').chain(["", " 1", "1 "]) {
-        let line = form.plain_with(&[("pair", field.as_bytes())]);
-        let how = format!("pair is \"{}\"", field.escape_debug());
-        sheets.add(how.clone(), form.between(&line));
-        let last = without_crlf(form.sheet(&[form.before(), line]));
-        sheets.add(how + ", at the very end", last);
-    }
-    for field in ["4095", "4096", "9999", "10000", "04096"] {
-        let good = form.plain_with(&[("pair", field.as_bytes())]);
-        let mut add = |how: &str, line: Vec<u8>| {
-            sheets.add(format!("pair is \"{field}\" and {how}"), form.between(&line));
-        };
-        for (n, column) in form.columns().into_iter().enumerate().skip(1) {
-            let mut fields = fields_of(&good);
-            fields[n].push(b'x');
-            add(&format!("{column} is not known"), line_of(&fields));
-            fields.truncate(n);
-            add(&format!("there are {n} fields"), line_of(&fields));
-        }
-        add("there is one more comma", [&good[..], b","].concat());
-        for length in form.definition.longest_line - 1..=form.definition.longest_line + 3 {
-            for byte in [b'?', b','] {
-                let mut long = good.clone();
-                long.resize(length, byte);
-                add(&format!("the line has {length} bytes, many of them {}", char::from(byte)), long);
-            }
-        }
-    }
-}
-
 /// Adds sheets with one line of more or fewer fields, or with a field at a wrong place.
 fn other_fields(form: &Form, sheets: &mut Gathered, _: u64) {
     let plain = form.plain();
@@ -310,7 +282,7 @@ const NO_ERRORS: &str = ";--;?;- ; -;Ok;OKAY;0;I;CompData_SC";
 /// Adds sheets with one line that has every field of forward with every one of fwdErr, and so often - in one of the two alone.
 fn forward_and_error(form: &Form, sheets: &mut Gathered, _: u64) {
     let fwded: [(&str, &[u8]); 3] = [("request", b"SnpCleanFwd"), ("tag", b"?"), ("response", b"SnpResp_SC_Fwded_SC")];
-    let long = "?".repeat(form.definition.longest_line);
+    let (long, no_pair) = ("?".repeat(form.definition.longest_line), form.no_pair());
     let forwards = [&form.names("forward")[..], &NO_FORWARDS.split(';').collect::<Vec<&str>>()].concat();
     let errors = [&[NOTHING][..], &form.forward_errors(), &NO_ERRORS.split(';').collect::<Vec<&str>>()].concat();
     for forward in forwards {
@@ -320,9 +292,9 @@ fn forward_and_error(form: &Form, sheets: &mut Gathered, _: u64) {
             sheets.add(how.clone(), form.between(&form.plain_with(&about)));
             sheets.add(format!("{how} with SnpCleanFwd"), form.between(&form.plain_with(&[&fwded[..], &about].concat())));
             let both_known = form.names("forward").contains(&forward) && form.names("fwdErr").contains(error);
-            for (besides, column, field) in [("no such pair", "pair", &b"4096"[..]), ("a long line", "final", long.as_bytes())] {
+            for (besides, column, field) in [("no such pair", "pair", &no_pair), ("a long line", "final", &long)] {
                 if both_known {
-                    let line = form.plain_with(&[&about[..], &[(column, field)]].concat());
+                    let line = form.plain_with(&[&about[..], &[(column, field.as_bytes())]].concat());
                     sheets.add(format!("{how}, and {besides}"), form.between(&line));
                 }
             }
@@ -478,7 +450,7 @@ fn headers(form: &Form, sheets: &mut Gathered, _: u64) {
 /// Adds sheets with a refusal at many lines, and with several.
 fn refusals(form: &Form, sheets: &mut Gathered, _: u64) {
     let refused = [
-        ("3", form.plain_with(&[("pair", b"4096")])),
+        ("3", form.plain_with(&[("pair", form.no_pair().as_bytes())])),
         ("8", form.plain_with(&[("final", b"sc")])),
         ("7", vec![b'0'; form.definition.longest_line + 1]),
         ("8 for nothing", vec![]),
@@ -532,7 +504,8 @@ fn line_lengths(form: &Form, sheets: &mut Gathered, _: u64) {
     let (before, after, longest) = (form.before(), form.after(), form.definition.longest_line);
     let plain = String::from_utf8_lossy(&form.plain()).to_string();
     let bytes = [b'x', b',', b'1', 0, 255, b'\r', b'\n'].map(|byte| ("", byte));
-    let begun = [(&plain[..], b'x'), (&plain, b' '), ("4096,SnpShared,0,0,0,Invalid,SnpResp_I", b'I')];
+    let no_pair = format!("{},SnpShared,0,0,0,Invalid,SnpResp_I", form.no_pair());
+    let begun = [(&plain[..], b'x'), (&plain, b' '), (&no_pair, b'I')];
     let near = bytes.iter().chain(&begun).flat_map(|filler| (longest - 2..=longest + 2).map(|length| (*filler, length)));
     let far = OTHER_LENGTHS.into_iter().flat_map(|length| [(bytes[0], length), (begun[0], length)]);
     for (filler, length) in near.chain(far) {

@@ -1,7 +1,7 @@
 //! How cases are written that a program takes one after another.
 
 use crate::definition::answers::QUESTION_BYTES;
-use crate::definition::trace::Lent;
+use crate::definition::trace::{Judged, Lent};
 use crate::definition::values::Definition;
 use std::io::{self, Read};
 
@@ -73,6 +73,14 @@ pub fn lent_in(case: &[u8]) -> Lent {
         rest = more;
     }
     lent
+}
+
+/// What a whole trace is answered with: refusal, place in 32 bits, and the four parts that a call may write.
+pub fn trace_answer(judged: &Judged) -> Vec<u8> {
+    let mut answer = vec![judged.refusal];
+    answer.extend((judged.place as u32).to_le_bytes());
+    judged.lent.parts()[2..].iter().for_each(|part| answer.extend(*part));
+    answer
 }
 
 /// How many bytes a part has by the lengths of its case.
@@ -162,6 +170,14 @@ mod tests {
             room.parts_mut()[part].truncate(most * Lent::PARTS[part].1);
             assert!(next_trace(&definition, &mut &trace_case(&room)[..]).is_ok());
         }
+    }
+
+    /// Of the rooms of a trace only the table's has grown with Q-6.
+    #[test]
+    fn rooms() {
+        let [before, now] = [5, 6].map(|stage| trace_rooms(&Definition::at_stage(stage).unwrap()));
+        assert_eq!(before, [65_536, 8_192, 8_192, 8_192, 8_192, 8_192]);
+        assert_eq!(now, [65_536, 8_192, 131_072, 8_192, 8_192, 8_192]);
     }
 
     /// An event's record hands over as many bytes as it says, which are at most the room.

@@ -3,7 +3,7 @@
 use crate::definition::codes::{ALL_STATES, UNEXPLAINED};
 use crate::definition::event::{ACCEPTED, WRONG_LENGTH};
 use crate::definition::sheet::{each_event, lines};
-use crate::definition::trace::{event_of, judge, Lent};
+use crate::definition::trace::{event_of, judge, Judged, Lent};
 use crate::definition::values::Definition;
 
 /// What a capture is answered with.
@@ -40,6 +40,14 @@ pub fn records_in<'a>(definition: &Definition, capture: &'a [u8]) -> Option<&'a 
 
 /// The answer to a whole capture, of which as many events as a trace can have are judged at a time.
 pub fn answer(definition: &Definition, capture: &[u8]) -> Answered {
+    answer_by(definition, capture, |lent| judge(definition, lent))
+}
+
+/// The answer to a whole capture by the judgment of each part, which is lent a table of as many pairs as there can be.
+pub fn answer_by<J>(definition: &Definition, capture: &[u8], mut judge: J) -> Answered
+where
+    J: FnMut(&Lent) -> Judged,
+{
     let mut answered = Answered::default();
     let Some(records) = records_in(definition, capture) else {
         // What has no mark, or another, may hold events of another length.
@@ -54,7 +62,7 @@ pub fn answer(definition: &Definition, capture: &[u8]) -> Answered {
             answered.stop = Some((0, first + part.len() / record));
             return answered;
         }
-        let judged = judge(definition, &lent(part, record, table));
+        let judged = judge(&lent(part, record, table));
         if judged.refusal != ACCEPTED {
             answered.stop = Some((judged.refusal, first + judged.place));
             return answered;

@@ -30,15 +30,26 @@ pub struct Answered {
     pub told: Vec<(u8, u8)>,
 }
 
-/// The answer to a whole sheet.
+/// The answer to a whole sheet, every pair of which starts from any state.
 pub fn answer(definition: &Definition, sheet: &[u8]) -> Answered {
+    let mut table = vec![ALL_STATES; definition.most_pairs];
+    answer_by(definition, sheet, |pair, event| {
+        let judged = judge_event(definition, event, table[pair]);
+        table[pair] = judged[2];
+        judged
+    })
+}
+
+/// The answer to a whole sheet by the judgment of each event, which is its verdict, its duty and the set after it.
+pub fn answer_by<J>(definition: &Definition, sheet: &[u8], mut judge: J) -> Answered
+where
+    J: FnMut(usize, &[u8]) -> [u8; 3],
+{
     let lines = lines(sheet);
     let mut output = format!("{OUTPUT_HEADER}\r\n");
-    let mut table = vec![ALL_STATES; definition.most_pairs];
     let mut told = Vec::new();
     let refusal = each_event(definition, &lines, |pair, event| {
-        let [verdict, duty, after] = judge_event(definition, event, table[pair]);
-        table[pair] = after;
+        let [verdict, duty, after] = judge(pair, event);
         let (n, states) = (told.len(), states_of(after).join(" "));
         output += &format!("{n},{},{},{states}\r\n", VERDICTS[usize::from(verdict)], DUTIES[usize::from(duty)]);
         told.push((verdict, duty));

@@ -777,7 +777,7 @@ fn before_q5(sheet: &[u8]) -> Vec<u8> {
 fn samples_of_q4() {
     for (sample, answer, told) in SAMPLES_OF_Q4 {
         let before = before_q5(sample);
-        answered(&Definition::at_stage(5).unwrap(), sample, told);
+        (5..=6).for_each(|stage| answered(&Definition::at_stage(stage).unwrap(), sample, told));
         answered(&Definition::at_stage(4).unwrap(), &before, told);
         answered(&Definition::at_stage(3).unwrap(), &before, "0,explained,none,SD\r\nrefused,8,3\r\n");
         assert_eq!(String::from_utf8_lossy(answer), format!("event,verdict,duty,states\r\n{told}"));
@@ -847,7 +847,7 @@ fn judged_by_hand<const BYTES: usize>(definition: &Definition, traces: &[ByHand<
     }
 }
 
-/// Traces worked out by hand, which requests up to Q-5 leave as they are.
+/// Traces worked out by hand, which requests up to Q-6 leave as they are.
 #[test]
 fn traces() {
     let traces: [ByHand; 9] = [
@@ -861,7 +861,7 @@ fn traces() {
         (&[], &[], &[0, 5, 127], [&[], &[], &[], &[0, 5, 127]]),
         (&[], &[], &[], [&[]; 4]),
     ];
-    (0..=5).for_each(|stage| judged_by_hand(&Definition::at_stage(stage).unwrap(), &traces));
+    (0..=6).for_each(|stage| judged_by_hand(&Definition::at_stage(stage).unwrap(), &traces));
 }
 
 /// SnpMakeInvalid answered with SnpResp_I, tags and state after not seen.
@@ -913,7 +913,7 @@ fn traces_with_q4() {
             [&[0, 0, 0, 1], &[0, 3, 0, 0], &[64, 1, 1, 0], &[0, 0]],
         ),
     ];
-    [4, 5].iter().for_each(|stage| judged_by_hand(&Definition::at_stage(*stage).unwrap(), &traces));
+    (4..=6).for_each(|stage| judged_by_hand(&Definition::at_stage(stage).unwrap(), &traces));
 }
 
 /// Refused traces: what is changed in the example over five pairs, and the refusal with its place; nothing lent changes.
@@ -1380,7 +1380,7 @@ fn traces_with_q5() {
         (&[NO_FORWARD_WITH_DERR, no_error, no_error], &[0, 0, 1], &[127, 32], [&[1, 2, 0], &[0; 3], &[0, 0, 33], &[0, 33]]),
         (&[ok, TO_REQUESTER_WITH_DERR], &[0, 0], &[72], [&[0, 1], &[2, 0], &[33, 0], &[0]]),
     ];
-    judged_by_hand(&Definition::at_stage(5).unwrap(), &traces);
+    (5..=6).for_each(|stage| judged_by_hand(&Definition::at_stage(stage).unwrap(), &traces));
 }
 
 /// A trace of so many bytes of events and so many of all that goes with events, all of them 0, over one pair.
@@ -1585,4 +1585,263 @@ fn samples_of_q5() {
     answered(&five, before, "refused,6,1\r\n");
     assert_eq!(before_q5(now), before);
     assert_eq!(sheet::answer(&four, before).output, sheet::answer(&five, now).output);
+}
+
+/// A table of so many pairs, all of them in any state but some that have these sets.
+fn table_of(pairs: usize, others: &[(usize, u8)]) -> Vec<u8> {
+    let mut table = vec![ALL_STATES; pairs];
+    others.iter().for_each(|(pair, set)| table[*pair] = *set);
+    table
+}
+
+/// Traces over as many pairs as there can be with Q-6, worked out by hand; pairs 4095 and 65535 are equal modulo 4,096, as are 0, 4096
+/// and 32768.
+#[test]
+fn traces_with_q6() {
+    let six = Definition::at_stage(6).unwrap();
+    let events = [EXAMPLE[2], TO_SC, EXAMPLE[0], TO_REQUESTER, WITH_NDERR, EXAMPLE[2], TO_SC, TO_SC];
+    let pairs = [4_095, 65_535, 4_096, 0, 4_095, 65_535, 32_767, 32_768];
+    let told: [&[u8]; 3] = [&[0, 0, 0, 0, 0, 1, 0, 0], &[0, 0, 1, 2, 3, 0, 0, 0], &[64, 33, 33, 33, 1, 0, 33, 33]];
+    let after = [(4_095, 1), (65_535, 0), (4_096, 33), (0, 33), (32_767, 33), (32_768, 33)];
+    let table = table_of(65_536, &after);
+    judged_by_hand(&six, &[(&events, &pairs, &[ALL_STATES; 65_536], [told[0], told[1], told[2], &table])]);
+    // Sets that are lent far back, and events of the last pairs alone.
+    let (before, after) = ([(65_534, 0), (65_535, 8), (4_095, 0)], [(65_534, 0), (65_535, 1), (4_095, 0)]);
+    let [before, after] = [before, after].map(|others| table_of(65_536, &others));
+    let expected: [&[u8]; 4] = [&[2, 0, 0], &[0, 3, 0], &[0, 1, 1], &after];
+    judged_by_hand(&six, &[(&[WITH_NDERR; 3], &[65_534, 65_535, 65_535], &before, expected)]);
+}
+
+/// What is told of a trace with more pairs than there can be.
+const TOO_MANY: (u8, usize) = (1, 0);
+
+/// Asserts what traces are refused with and where, or that they are accepted, with Q-6 and before it.
+fn refused_with_q6(traces: &[(Lent, (u8, usize), (u8, usize))]) {
+    let [five, six] = [5, 6].map(|stage| Definition::at_stage(stage).unwrap());
+    for (n, (lent, now, before)) in traces.iter().enumerate() {
+        for (definition, expected) in [(&six, now), (&five, before)] {
+            let judged = judge(definition, lent);
+            assert_eq!((judged.refusal, judged.place), *expected, "trace {n}");
+            assert!(judged.refusal == 0 || judged.lent == *lent, "trace {n}");
+        }
+    }
+}
+
+/// A trace of events of these pairs that are good, over a table.
+fn good_events(pairs: &[u16], table: Vec<u8>) -> Lent {
+    lent(&vec![TO_REQUESTER_WITH_DERR; pairs.len()], pairs, &table)
+}
+
+/// Numbers of pairs and of events, and pair numbers that a table just has and just lacks.
+#[test]
+fn many_pairs_with_q6() {
+    let over = |pairs: &[u16], length: usize| good_events(pairs, table_of(length, &[]));
+    let most = |events: usize, length: usize| over(&vec![65_535; events], length);
+    refused_with_q6(&[
+        (over(&[], 4_096), (0, 0), (0, 0)),
+        (over(&[], 4_097), (0, 0), TOO_MANY),
+        (over(&[], 65_536), (0, 0), TOO_MANY),
+        (over(&[], 65_537), TOO_MANY, TOO_MANY),
+        (over(&[4_095], 4_096), (0, 1), (0, 1)),
+        (over(&[0, 4_096], 4_096), (3, 1), (3, 1)),
+        (over(&[0, 4_096], 4_097), (0, 2), TOO_MANY),
+        (over(&[0, 65_535], 4_097), (3, 1), TOO_MANY),
+        (over(&[0, 32_768], 32_768), (3, 1), TOO_MANY),
+        (over(&[0, 32_768], 32_769), (0, 2), TOO_MANY),
+        (over(&[65_534, 0, 65_535], 65_535), (3, 2), TOO_MANY),
+        (over(&[65_534, 0, 65_535], 65_536), (0, 3), TOO_MANY),
+        (over(&[0, 65_535], 65_537), TOO_MANY, TOO_MANY),
+        // There can be no more events than before.
+        (most(4_095, 65_536), (0, 4_095), TOO_MANY),
+        (most(4_096, 65_536), (0, 4_096), TOO_MANY),
+        (most(4_097, 65_536), (1, 0), TOO_MANY),
+        (most(4_096, 65_535), (3, 0), TOO_MANY),
+        (zeros(15 * 4_097, 4_097), (1, 0), (1, 0)),
+    ]);
+}
+
+/// Bad sets of large tables, and the order of the refusals over them.
+#[test]
+fn bad_sets_with_q6() {
+    let bad_set = |pair: usize, length: usize| table_of(length, &[(pair, 128)]);
+    // Puts a value into a byte of the first event.
+    let with = |place: usize, value: u8, lent: Lent| Lent { events: changed(&lent.events, place, value), ..lent };
+    let all_bad = with(byte::AFTER, 8, good_events(&[65_535, 0], bad_set(65_536, 65_537)));
+    refused_with_q6(&[
+        (good_events(&[], bad_set(4_095, 4_096)), (2, 4_095), (2, 4_095)),
+        (good_events(&[], bad_set(4_096, 65_536)), (2, 4_096), TOO_MANY),
+        (good_events(&[], bad_set(65_535, 65_536)), (2, 65_535), TOO_MANY),
+        (good_events(&[], table_of(65_536, &[(65_535, 255), (4_096, 128), (32_768, 200)])), (2, 4_096), TOO_MANY),
+        // 1 comes before 2, and 2 before 3, 4 and 5.
+        (good_events(&[], bad_set(65_536, 65_537)), TOO_MANY, TOO_MANY),
+        (Lent { duties: vec![], ..good_events(&[65_535], bad_set(65_535, 65_536)) }, (1, 0), TOO_MANY),
+        (Lent { verdicts: vec![0; 9], ..all_bad.clone() }, TOO_MANY, TOO_MANY),
+        (all_bad, TOO_MANY, TOO_MANY),
+        (good_events(&[65_535], bad_set(65_534, 65_535)), (2, 65_534), TOO_MANY),
+        (with(byte::AFTER, 8, good_events(&[0], bad_set(65_535, 65_536))), (2, 65_535), TOO_MANY),
+        (with(byte::REQUEST, 3, good_events(&[0], bad_set(65_535, 65_536))), (2, 65_535), TOO_MANY),
+        // Of one event 3 comes before 4 and 5, and of two the first.
+        (with(byte::AFTER, 8, good_events(&[65_535], table_of(65_535, &[]))), (3, 0), TOO_MANY),
+        (with(byte::AFTER, 8, good_events(&[65_535], table_of(65_536, &[]))), (4, 0), TOO_MANY),
+        (with(byte::REQUEST, 3, good_events(&[65_535], table_of(65_535, &[]))), (3, 0), TOO_MANY),
+        (with(byte::REQUEST, 3, good_events(&[65_535], table_of(65_536, &[]))), (5, 0), TOO_MANY),
+        (with(byte::REQUEST, 3, good_events(&[0, 65_535], table_of(65_535, &[]))), (5, 0), TOO_MANY),
+    ]);
+}
+
+/// A line of before Q-5 with this field for its pair and with a last field more.
+fn line_of_pair(pair: &str, line: &str) -> String {
+    format!("{pair},{},-\r\n", line.split_once(',').unwrap().1)
+}
+
+/// Asserts that lines after a sheet's header are answered with this after the output's header with Q-6, and with that before it.
+fn answered_with_q6(lines: &str, now: &str, before: &str) {
+    for (stage, output) in [(6, now), (5, before)] {
+        let definition = Definition::at_stage(stage).unwrap();
+        answered(&definition, format!("{}\r\n{lines}", definition.header).as_bytes(), output);
+    }
+}
+
+/// Sheets with pairs of five digits, worked out by hand, and how they were answered before Q-6.
+#[test]
+fn sheets_with_q6() {
+    let home = |pair: &str| line_of_pair(pair, GOOD);
+    let to_sd = |pair: &str| line_of_pair(pair, "0,SnpClean,0,0,0,?,SnpRespData_SD,Transfer,OK,-,?");
+    let not_known = |pair: &str| line_of_pair(pair, "0,SnpShared,0,0,0,Invalid,SnpRespData_SC_PD,Invalid,OK,-,x");
+    let told = |n: usize| format!("{n},explained,Home,I SC\r\n");
+    let refused = |number: usize, line: usize| format!("refused,{number},{line}\r\n");
+    let both = |output: String| (output.clone(), output);
+    let sheets = [
+        (home("4095"), both(told(0))),
+        (home("4096"), (told(0), refused(3, 2))),
+        (home("9999"), (told(0), refused(3, 2))),
+        (home("10000"), (told(0), refused(8, 2))),
+        (home("65535"), (told(0), refused(8, 2))),
+        (home("65536"), (refused(3, 2), refused(8, 2))),
+        (home("99999"), (refused(3, 2), refused(8, 2))),
+        (home("100000"), both(refused(8, 2))),
+        (home("04095"), both(refused(8, 2))),
+        (home("065535"), both(refused(8, 2))),
+        // 8 comes before 3, and 7 before 8.
+        (not_known("4096"), both(refused(8, 2))),
+        (not_known("65535"), both(refused(8, 2))),
+        (not_known("65536"), both(refused(8, 2))),
+        (format!("65536{}\r\n", ",".repeat(155)), both(refused(8, 2))),
+        (format!("65536{}\r\n", ",".repeat(156)), both(refused(7, 2))),
+        // What stands before a refusal stays.
+        (home("7") + &home("65536"), (told(0) + &refused(3, 3), told(0) + &refused(8, 3))),
+        (home("7") + &home("4096") + &home("x"), (told(0) + &told(1) + &refused(8, 4), told(0) + &refused(3, 3))),
+        (home("7") + &home("10000") + &home("7"), (told(0) + &told(1) + "2,unexplained,none,\r\n", told(0) + &refused(8, 3))),
+        // Pairs that are equal modulo 4,096 or 65,536, and ones of which one begins or ends the other.
+        (home("0") + &home("4096") + &home("32768"), (told(0) + &told(1) + &told(2), told(0) + &refused(3, 3))),
+        (home("65535") + &home("4095") + &home("32767"), (told(0) + &told(1) + &told(2), refused(8, 2))),
+        (home("65535") + &home("6553") + &home("5535"), (told(0) + &told(1) + &told(2), refused(8, 2))),
+        (home("0") + &home("65536"), (told(0) + &refused(3, 3), told(0) + &refused(8, 3))),
+        (home("65535") + &to_sd("65535") + &home("65535"), (told(0) + "1,unexplained,none,\r\n2,not judged,none,\r\n", refused(8, 2))),
+        (to_sd("65535") + &home("65534") + &home("65535"), ("0,explained,none,SD\r\n".to_string() + &told(1) + &told(2), refused(8, 2))),
+    ];
+    sheets.iter().for_each(|(lines, (now, before))| answered_with_q6(lines, now, before));
+}
+
+/// Numbers of more than five digits, and fields that are no numbers as pairs are written.
+const NO_PAIRS: &str = "100000 131071 999999 4294967295 4294967296 4295032831 18446744073709551615 18446744073709551616 00 01 00000 \
+    000000 065535 6553x x5535 -65535 +65535";
+
+/// Every number of up to five digits is a pair if it is below 65,536, and else refused with 3; before Q-6 it was a pair if it was below
+/// 4,096, and else refused with 3 if it had up to four digits and with 8 if it had five.
+#[test]
+fn pairs_with_q6() {
+    for (stage, most, digits) in [(5, 4_096, 4), (6, 65_536, 5)] {
+        let definition = Definition::at_stage(stage).unwrap();
+        let read = |pair: &str| {
+            let line = line_of_pair(pair, GOOD);
+            let mut read = None;
+            let refusal =
+                sheet::each_event(&definition, &[definition.header.as_bytes(), line.trim_end().as_bytes()], |pair, _| read = Some(pair));
+            read.ok_or(refusal)
+        };
+        for number in 0..100_000 {
+            let expected = match number {
+                _ if number < most => Ok(number),
+                _ if number.to_string().len() <= digits => Err(Some((3, 2))),
+                _ => Err(Some((8, 2))),
+            };
+            assert_eq!(read(&number.to_string()), expected, "{number}");
+        }
+        NO_PAIRS.split(' ').for_each(|field| assert_eq!(read(field), Err(Some((8, 2))), "{field}"));
+    }
+}
+
+/// Captures with pairs that there could not be before Q-6, worked out by hand: no pair number is refused any more.
+#[test]
+#[rustfmt::skip]
+fn captures_with_q6() {
+    let [five, six] = [5, 6].map(|stage| Definition::at_stage(stage).unwrap());
+    let record = |pair: u16, event: &[u8]| [&pair.to_le_bytes()[..], &event_at(&six, event)].concat();
+    let capture = |records: &[Vec<u8>]| [b"CHI\x0f", &records.concat()[..]].concat();
+    let plain = |count: usize| record(1, &[1, 0, 0, 0, 3, 0, 1, 0, 0, 0, 0, 0, 0, 7]).repeat(count);
+    let captures: [(Vec<u8>, &str, (&str, usize)); 7] = [
+        (capture(&[record(4_096, &EXAMPLE[0])]),
+             "event 0, pair 4096: Home holds the duty\n1 events: 1 explained, 0 unexplained, 0 not judged\n", ("", 0)),
+        (capture(&[record(4_095, &EXAMPLE[0]), record(65_535, &EXAMPLE[0]), record(65_535, &EXAMPLE[2]), record(65_535, &TO_SC)]),
+             "event 0, pair 4095: Home holds the duty\nevent 1, pair 65535: Home holds the duty\n\
+             event 2, pair 65535: unexplained\n4 events: 2 explained, 1 unexplained, 1 not judged\n", ("", 1)),
+        (capture(&[record(0, &EXAMPLE[2]), record(4_096, &TO_SC), record(32_768, &TO_REQUESTER), record(65_534, &WITH_NDERR)]),
+             "event 2, pair 32768: the Requester holds the duty\nevent 3, pair 65534: the duty is lost\n\
+             4 events: 4 explained, 0 unexplained, 0 not judged\n", ("", 1)),
+        // A set is kept from one part to the next.
+        (capture(&[record(65_535, &EXAMPLE[2]), plain(4_095), record(65_535, &WITH_NDERR), record(4_095, &WITH_NDERR)]),
+             "event 4096, pair 65535: the duty is lost\nevent 4097, pair 4095: the duty is lost\n\
+             4098 events: 4098 explained, 0 unexplained, 0 not judged\n", ("", 0)),
+        (capture(&[record(3, &EXAMPLE[0]), plain(4_095), record(65_535, &EXAMPLE[0])]),
+             "event 0, pair 3: Home holds the duty\nevent 4096, pair 65535: Home holds the duty\n\
+             4097 events: 4097 explained, 0 unexplained, 0 not judged\n", ("event 0, pair 3: Home holds the duty\n", 4_096)),
+        (capture(&[plain(4_095), record(9_999, &TO_SC)]), "4096 events: 4096 explained, 0 unexplained, 0 not judged\n", ("", 4_095)),
+        (capture(&[plain(4_096), record(10_000, &TO_SC)]), "4097 events: 4097 explained, 0 unexplained, 0 not judged\n", ("", 4_096)),
+    ];
+    for (n, (capture, output, (before, event))) in captures.into_iter().enumerate() {
+        for (definition, output, stop) in [(&six, output, None), (&five, before, Some((3, event)))] {
+            let own = capture::answer(definition, &capture);
+            assert_eq!((String::from_utf8_lossy(&own.output), own.stop), (output.into(), stop), "capture {n}");
+        }
+    }
+}
+
+/// What was refused with 3 for its pair is refused with Q-6 for what else is wrong with the event; a sheet's last pair comes into its
+/// capture, and no pair after it.
+#[test]
+fn captures_refused_with_q6() {
+    let [five, six] = [5, 6].map(|stage| Definition::at_stage(stage).unwrap());
+    let record = |event: &[u8]| [&b"CHI\x0f\xff\xff"[..], &event_at(&six, event)].concat();
+    let stops = |capture: &[u8]| [&five, &six].map(|definition| capture::answer(definition, capture).stop);
+    assert_eq!(stops(&record(&changed(&EXAMPLE[0], byte::AFTER, 8))), [Some((3, 0)), Some((4, 0))]);
+    assert_eq!(stops(&record(&changed(&EXAMPLE[0], byte::REQUEST, 3))), [Some((3, 0)), Some((5, 0))]);
+    assert_eq!(stops(&record(&EXAMPLE[0])[..20]), [Some((0, 0)), Some((0, 0))]);
+    // The mark twice is a pair too.
+    assert_eq!(stops(&[&b"CHI\x0fCHI\x0f"[..], &[0; 13]].concat()), [Some((3, 0)), Some((4, 0))]);
+    let sheet = format!("{}\r\n{}{}", six.header, line_of_pair("65535", GOOD), line_of_pair("65536", GOOD));
+    assert_eq!(capture::of_sheet(&six, sheet.as_bytes()), (record(&EXAMPLE[0]), Some((3, 3))));
+}
+
+/// The samples of Q-6 are answered as they are by hand, and before it were refused at the first pair of five digits.
+#[test]
+fn samples_of_q6() {
+    let [five, six] = [5, 6].map(|stage| Definition::at_stage(stage).unwrap());
+    let sample = include_bytes!("../../../samples/high_pairs.csv");
+    answered(
+        &six,
+        sample,
+        "0,explained,none,SD\r\n1,explained,none,SC\r\n2,explained,Home,SC\r\n3,explained,Requester,I SC\r\n\
+         4,explained,none,I\r\n5,explained,none,SC\r\n6,explained,Home,I\r\n7,unexplained,none,\r\n\
+         8,explained,none,I\r\n9,not judged,none,\r\n10,explained,none,SC\r\n11,explained,none,I SC\r\n",
+    );
+    answered(&five, sample, "0,explained,none,SD\r\nrefused,8,3\r\n");
+    let told = capture::answer(&six, include_bytes!("../../../samples/high_pairs.capture"));
+    let by_hand = "event 2, pair 4096: Home holds the duty\nevent 3, pair 9999: the Requester holds the duty\n\
+         event 6, pair 4095: Home holds the duty\nevent 7, pair 10000: unexplained\n\
+         12 events: 10 explained, 1 unexplained, 1 not judged\n";
+    assert_eq!((String::from_utf8_lossy(&told.output), told.stop), (by_hand.into(), None));
+    let refused = include_bytes!("../../../samples/refused-3.csv");
+    answered(&six, refused, &format!("{TOLD}refused,3,3\r\n"));
+    answered(&five, refused, &format!("{TOLD}refused,8,3\r\n"));
 }

@@ -23,7 +23,7 @@ pub struct Definition {
     pub forwarded_errors: Vec<u8>,
     /// The most events that a trace can have.
     pub most_events: usize,
-    /// The most pairs that a table of sets can have, and how many a sheet has.
+    /// The most pairs that a table of sets can have, and how many a sheet and a capture have.
     pub most_pairs: usize,
     /// The header that a sheet begins with.
     pub header: &'static str,
@@ -37,14 +37,17 @@ pub struct Definition {
     pub capture_mark: &'static [u8],
 }
 
+/// The most pairs that there could be before Q-6.
+pub const PAIRS_BEFORE_Q6: usize = 4_096;
+
 /// The last follow-up request that is in force, or 0 where none is.
-pub const IN_FORCE: usize = 5;
+pub const IN_FORCE: usize = 6;
 
 /// Changes a definition as a follow-up request asks.
 type Change = fn(&mut Definition);
 
 /// What follow-up requests change, each by its number.
-const CHANGES: &[(usize, Change)] = &[(2, tags_of_plain_snoops), (4, invalidating_snoops), (5, error_of_forwarded_data)];
+const CHANGES: &[(usize, Change)] = &[(2, tags_of_plain_snoops), (4, invalidating_snoops), (5, error_of_forwarded_data), (6, more_pairs)];
 
 /// plain data no longer carries any TagOp up to Update.
 fn tags_of_plain_snoops(definition: &mut Definition) {
@@ -72,6 +75,12 @@ fn error_of_forwarded_data(definition: &mut Definition) {
     definition.capture_mark = &[b'C', b'H', b'I', 15];
 }
 
+/// there can be as many pairs as there are pair numbers of 16 bits, and a pair on a sheet has up to five digits.
+fn more_pairs(definition: &mut Definition) {
+    definition.most_pairs = 65_536;
+    definition.pair_digits = 5;
+}
+
 impl Definition {
     /// Document 01 alone.
     pub fn base() -> Definition {
@@ -97,7 +106,7 @@ impl Definition {
             discarding: vec![],
             forwarded_errors: vec![],
             most_events: 4_096,
-            most_pairs: 4_096,
+            most_pairs: PAIRS_BEFORE_Q6,
             header: "pair,request,RetToSrc,DoNotGoToSD,excl,tag,response,TagOp,RespErr,forward,final",
             pair_digits: 4,
             longest_line: 160,
@@ -194,9 +203,10 @@ mod tests {
     /// change no value, so that stage 1 is document 01 and stage 3 is stage 2.
     #[test]
     fn stages_without_a_change() {
-        let [zero, one, two, three, four, five] = [0, 1, 2, 3, 4, 5].map(|request| format!("{:?}", Definition::at_stage(request).unwrap()));
+        let stages = [0, 1, 2, 3, 4, 5, 6].map(|request| format!("{:?}", Definition::at_stage(request).unwrap()));
+        let [zero, one, two, three, four, five, six] = stages;
         assert_eq!((&zero, &two), (&one, &three));
-        assert!(one != two && three != four && four != five);
+        assert!(one != two && three != four && four != five && five != six);
     }
 
     /// Q-4 keeps all requests, tables, rows, tag columns and limits that there were, and adds three snoops with their rows.
@@ -224,5 +234,19 @@ mod tests {
         five.forwarded_errors.clear();
         (five.header, five.capture_mark) = (four.header, four.capture_mark);
         assert_eq!(format!("{five:?}"), format!("{four:?}"));
+    }
+
+    /// Q-6 raises the pairs to as many as there are numbers of 16 bits, gives a pair on a sheet a digit more, and changes nothing else.
+    #[test]
+    fn q6_keeps_what_was() {
+        let [five, mut six] = [5, 6].map(|request| Definition::at_stage(request).unwrap());
+        assert_eq!([five.most_pairs, six.most_pairs], [4_096, 65_536]);
+        assert_eq!([five.pair_digits, six.pair_digits], [4, 5]);
+        assert_eq!(six.most_pairs - 1, usize::from(u16::MAX));
+        // The last pair has as many digits as a pair can have, so that a number of more digits is never a pair.
+        assert_eq!([&five, &six].map(|definition| (definition.most_pairs - 1).to_string().len()), [five.pair_digits, six.pair_digits]);
+        assert_eq!((six.most_events, six.event_bytes()), (4_096, 15));
+        (six.most_pairs, six.pair_digits) = (five.most_pairs, five.pair_digits);
+        assert_eq!(format!("{six:?}"), format!("{five:?}"));
     }
 }

@@ -1,16 +1,16 @@
 //! The wrong judges, each with what it does.
 
 use crate::cases::text::{fields_of, line_of, Fields};
-use crate::cases::wire::{handed_over, lent_in, number, question_in, trace_case, LIST_PLACE};
+use crate::cases::wire::{handed_over, lent_in, number, question_in, trace_answer, trace_case, LIST_PLACE};
 use crate::definition::answers::{answer_bytes, answers, list, BEFORE, QUESTION_BYTES};
 use crate::definition::capture::{self, record_bytes, records_in};
 use crate::definition::codes::*;
 use crate::definition::event::{alone, is_request, refusal};
 use crate::definition::rows::{rows as printed, Row, B4_46, B4_60, NDERR_ROW, SNP_CLEAN_INVALID, SNP_MAKE_INVALID, SNP_UNIQUE};
-use crate::definition::sheet::{lines, CRLF, OUTPUT_HEADER};
+use crate::definition::sheet::{self, lines, CRLF, OUTPUT_HEADER};
 use crate::definition::tag_ops::TagColumn;
-use crate::definition::trace::{event_of, judge_event, refused, whole_events, Lent};
-use crate::definition::values::Definition;
+use crate::definition::trace::{event_of, judge, judge_event, refused, whole_events, Judged, Lent};
+use crate::definition::values::{Definition, PAIRS_BEFORE_Q6};
 use crate::running::arrival::Arrival;
 use crate::running::call::Answer;
 use crate::wrong::noticing::{Flaw, Wrong};
@@ -22,6 +22,11 @@ const OF_Q4: [u8; 3] = [7, 9, 10];
 
 /// How many bytes an event had before Q-5.
 const OLD_BYTES: usize = 14;
+
+/// How many pair numbers there are of 15 bits.
+const HALF: usize = 1 << 15;
+/// A pair that is like all others.
+const ONE_OF_MANY: usize = 54_321;
 
 /// The places of columns of a sheet that Q-5 is about.
 mod column {
@@ -309,8 +314,10 @@ pub const WRONG: &[Wrong] = &[
         }
     })),
     wrong("trace", "a set in the middle of a table may be anything", Given(|d, case| {
-        if let (2, pair @ 301..=4_094) = refused(d, &lent_in(case)) {
-            change(case, |lent| lent.table[pair] = 0);
+        let lent = lent_in(case);
+        match refused(d, &lent) {
+            (2, pair) if pair > 300 && pair + 1 < lent.table.len() => change(case, |lent| lent.table[pair] = 0),
+            _ => {}
         }
     })),
     wrong("trace", "an event in the middle of a trace may be anything", Given(|d, case| {
@@ -347,7 +354,8 @@ pub const WRONG: &[Wrong] = &[
         }
     })),
     wrong("trace", "4,096 events are too many", Value(|d| d.most_events -= 1)),
-    wrong("trace", "4,097 pairs are not too many", Value(|d| d.most_pairs += 1)),
+    wrong("trace", "4,097 events are not too many", Value(|d| d.most_events += 1)),
+    wrong("trace", "65,537 pairs are not too many", Value(|d| d.most_pairs += 1)),
     wrong("trace", "bytes past the last whole event are passed over", Given(|d, case| {
         change(case, |lent| lent.events.truncate(whole_events(d, lent) * d.event_bytes()));
     })),
@@ -503,7 +511,7 @@ pub const WRONG: &[Wrong] = &[
     wrong("trace", "more than 57,344 bytes of events are too many", Tells(|d, case, answer| {
         let lent = lent_in(case);
         if lent.events.len() > OLD_BYTES * d.most_events {
-            answer.output = [&[1, 0, 0, 0, 0][..], &lent.parts()[2..].iter().flat_map(|part| part.to_vec()).collect::<Vec<u8>>()].concat();
+            answer.output = trace_answer(&Judged { refusal: 1, place: 0, lent });
         }
     })),
     wrong("trace", "DERR on forwarded data takes the duty from the Requester", Tells(|d, case, answer| {
@@ -514,6 +522,91 @@ pub const WRONG: &[Wrong] = &[
     })),
     wrong("trace", "DERR on forwarded data leaves the pair lost", Tells(|d, case, answer| {
         retell_derr(d, case, answer, |told| [told[0], told[1], 0]);
+    })),
+    // A whole trace with Q-6's pairs.
+    wrong("trace", "there can be as many events as pairs", Value(|d| d.most_events = d.most_pairs)),
+    wrong("trace", "65,536 pairs are too many", Value(|d| d.most_pairs -= 1)),
+    wrong("trace", "4,097 pairs are too many", Value(old_limit)),
+    wrong("trace", "a table's length is kept in 16 bits", Tells(|d, case, answer| {
+        let lent = lent_in(case);
+        let (kept, past) = lent.table.split_at(lent.table.len() % (usize::from(u16::MAX) + 1));
+        if !past.is_empty() {
+            let mut judged = judge(d, &Lent { table: kept.to_vec(), ..lent.clone() });
+            judged.lent.table.extend(past);
+            answer.output = trace_answer(&judged);
+        }
+    })),
+    wrong("trace", "a bad set is told before too many pairs", Tells(|d, case, answer| {
+        let (lent, most) = (lent_in(case), Definition { most_pairs: usize::MAX, ..d.clone() });
+        if let (1, (2, pair)) = (answer.output[0], refused(&most, &lent)) {
+            refuse(answer, 2, pair);
+        }
+    })),
+    wrong("trace", "a pair's number is its low 12 bits", Given(|_, case| {
+        change(case, |lent| renumber(lent, |pair| pair % PAIRS_BEFORE_Q6));
+    })),
+    wrong("trace", "a pair's number is its low 15 bits", Given(|_, case| change(case, |lent| renumber(lent, |pair| pair % HALF)))),
+    wrong("trace", "pairs that are equal modulo 4,096 have one set", Given(|d, case| {
+        if refused(d, &lent_in(case)).0 == 0 {
+            change(case, |lent| renumber(lent, |pair| pair % PAIRS_BEFORE_Q6));
+        }
+    })),
+    wrong("trace", "pairs that are equal modulo 32,768 have one set", Given(|d, case| {
+        if refused(d, &lent_in(case)).0 == 0 {
+            change(case, |lent| renumber(lent, |pair| pair % HALF));
+        }
+    })),
+    wrong("trace", "pairs 0 and 4,096 have one set", Given(|d, case| {
+        if refused(d, &lent_in(case)).0 == 0 {
+            change(case, |lent| renumber(lent, |pair| if pair == PAIRS_BEFORE_Q6 { 0 } else { pair }));
+        }
+    })),
+    wrong("trace", "pair number 4,096 is refused", Tells(|d, case, answer| refuse_pairs(d, case, answer, |pair| pair == PAIRS_BEFORE_Q6))),
+    wrong("trace", "pair numbers above 4,095 are refused", Tells(|d, case, answer| {
+        refuse_pairs(d, case, answer, |pair| pair >= PAIRS_BEFORE_Q6);
+    })),
+    wrong("trace", "pair numbers above 32,767 are refused", Tells(|d, case, answer| refuse_pairs(d, case, answer, |pair| pair >= HALF))),
+    wrong("trace", "pair number 65,535 is taken for none", Tells(|d, case, answer| {
+        refuse_pairs(d, case, answer, |pair| pair == usize::from(u16::MAX));
+    })),
+    wrong("trace", "pair numbers above 32,767 are below any length", Given(|_, case| change(case, |lent| {
+        let length = lent.table.len();
+        renumber(lent, |pair| if pair >= HALF.max(length) { 0 } else { pair });
+    }))),
+    wrong("trace", "the set of pair 4,096 may be anything", Given(|d, case| {
+        if let (2, PAIRS_BEFORE_Q6) = refused(d, &lent_in(case)) {
+            change(case, |lent| lent.table[PAIRS_BEFORE_Q6] = 0);
+        }
+    })),
+    wrong("trace", "from pair 4,096 on a set may be anything", Given(|d, case| {
+        if let (2, PAIRS_BEFORE_Q6..) = refused(d, &lent_in(case)) {
+            change(case, |lent| lent.table[PAIRS_BEFORE_Q6..].iter_mut().for_each(|set| *set &= ALL_STATES));
+        }
+    })),
+    wrong("trace", "the place of a bad set is told modulo 4,096", Tells(|_, _, answer| {
+        other_place(answer, 2, |pair| pair % PAIRS_BEFORE_Q6);
+    })),
+    wrong("trace", "the place of a bad set is told as a number with a sign", Tells(|_, _, answer| {
+        other_place(answer, 2, |pair| pair as i16 as usize);
+    })),
+    wrong("trace", "sets from pair 4,096 on are cleared", Tells(|_, case, answer| {
+        retell_high_sets(case, answer, |_, high| high.fill(0));
+    })),
+    wrong("trace", "sets from pair 4,096 on are left as lent", Tells(|_, case, answer| {
+        retell_high_sets(case, answer, |lent, high| high.copy_from_slice(&lent.table[PAIRS_BEFORE_Q6..]));
+    })),
+    wrong("trace", "sets from pair 4,096 on become all states where no event is", Tells(|_, case, answer| {
+        retell_high_sets(case, answer, |lent, high| {
+            let used: Vec<usize> = (0..lent.verdicts.len()).filter_map(|n| lent.pair(n)).collect();
+            let others = high.iter_mut().enumerate().filter(|(n, _)| !used.contains(&(PAIRS_BEFORE_Q6 + n)));
+            others.for_each(|(_, set)| *set = ALL_STATES);
+        });
+    })),
+    wrong("trace", "the set of pair 65,535 is left as lent", Tells(|_, case, answer| {
+        let table = lent_in(case).table;
+        if let (0, Some(set)) = (answer.output[0], table.get(usize::from(u16::MAX))) {
+            answer.output[5 + usize::from(u16::MAX)] = *set;
+        }
     })),
     // A bench sheet.
     wrong("sheet", "LF alone ends a line", Given(|_, sheet| *sheet = replaced(&replaced(sheet, CRLF, b"\n"), b"\n", CRLF))),
@@ -546,8 +639,8 @@ pub const WRONG: &[Wrong] = &[
     wrong("sheet", "a line can have 161 bytes", Value(|d| d.longest_line += 1)),
     wrong("sheet", "the CRLF counts among the 160 bytes", Value(|d| d.longest_line -= 2)),
     wrong("sheet", "there can be a line more", Value(|d| d.most_lines += 1)),
-    wrong("sheet", "pair 4095 is refused", Value(|d| d.most_pairs -= 1)),
-    wrong("sheet", "a pair can have five digits", Value(|d| d.pair_digits += 1)),
+    wrong("sheet", "pair 65535 is refused with 3", Value(|d| d.most_pairs -= 1)),
+    wrong("sheet", "six digits are refused with 3", Value(|d| d.pair_digits += 1)),
     wrong("sheet", "plain data carries any TagOp up to Update", Value(|d| d.set_tag_column(B4_46, TagColumn::UpToUpdate))),
     wrong("sheet", "CompData_UC is not known", Value(|d| rows(d, |row| {
         if row.forward.name == "CompData_UC" {
@@ -555,13 +648,7 @@ pub const WRONG: &[Wrong] = &[
         }
     }))),
     wrong("sheet", "3 is told before 8", Tells(|d, sheet, answer| {
-        let number = lines(&answer.output).len();
-        if answer.output.ends_with(format!("refused,8,{number}\r\n").as_bytes()) {
-            let pair = String::from_utf8_lossy(&fields_of(lines(sheet)[number - 1])[0]).to_string();
-            if pair.len() <= 4 && pair.parse().is_ok_and(|pair: usize| pair >= d.most_pairs) {
-                answer.output = replaced(&answer.output, b"refused,8", b"refused,3");
-            }
-        }
+        no_pair_first(sheet, answer, |pair| pair.len() <= d.pair_digits && pair.parse().is_ok_and(|pair: usize| pair >= d.most_pairs));
     })),
     wrong("sheet", "lines end in LF", Tells(|_, _, answer| answer.output = replaced(&answer.output, CRLF, b"\n"))),
     wrong("sheet", "event 1000 is told as 000", Tells(|_, _, answer| answer.output = replaced(&answer.output, b"\n1000,", b"\n000,"))),
@@ -687,7 +774,7 @@ pub const WRONG: &[Wrong] = &[
         }
     }))),
     wrong("sheet", "- alone is told after 3", Given(|d, sheet| change_fields(d, sheet, |fields| {
-        if fields[0] == b"4096" && fields[column::FORWARD] != b"-" && fields[column::FWD_ERR] == b"-" {
+        if fields[0] == d.most_pairs.to_string().as_bytes() && fields[column::FORWARD] != b"-" && fields[column::FWD_ERR] == b"-" {
             fields[column::FWD_ERR] = b"OK".to_vec();
         }
     }))),
@@ -723,6 +810,72 @@ pub const WRONG: &[Wrong] = &[
             _ => line.to_vec(),
         });
     })),
+    // A bench sheet with Q-6's pairs.
+    wrong("sheet", "65536 is taken for pair 0", Given(|d, sheet| {
+        change_pairs(d, sheet, |pair| (pair == d.most_pairs.to_string()).then_some(0));
+    })),
+    wrong("sheet", "five digits above 65535 are taken modulo 65,536", Given(|d, sheet| {
+        change_pairs(d, sheet, |pair| number_of(pair, d.pair_digits).map(|pair| pair % d.most_pairs));
+    })),
+    wrong("sheet", "six digits are taken modulo 65,536", Given(|d, sheet| {
+        let six = d.pair_digits + 1;
+        change_pairs(d, sheet, |pair| number_of(pair, six).filter(|_| pair.len() == six).map(|pair| pair % d.most_pairs));
+    })),
+    wrong("sheet", "any number is taken modulo 65,536", Given(|d, sheet| {
+        change_pairs(d, sheet, |pair| number_of(pair, usize::MAX).map(|pair| pair % d.most_pairs));
+    })),
+    wrong("sheet", "65536 is refused with 8", Given(|d, sheet| {
+        change_pair_fields(d, sheet, |pair| (pair == d.most_pairs.to_string()).then_some("x".to_string()));
+    })),
+    wrong("sheet", "five digits above 65535 are refused with 8", Given(|d, sheet| {
+        change_pair_fields(d, sheet, |pair| number_of(pair, d.pair_digits).filter(|pair| *pair >= d.most_pairs).map(|_| "x".to_string()));
+    })),
+    wrong("sheet", "five digits are refused with 8", Value(|d| d.pair_digits -= 1)),
+    wrong("sheet", "five digits are refused with 3", Given(|d, sheet| {
+        change_pairs(d, sheet, |pair| number_of(pair, d.pair_digits).filter(|_| pair.len() == d.pair_digits).map(|_| d.most_pairs));
+    })),
+    wrong("sheet", "pairs above 4095 are refused with 3", Value(old_limit)),
+    wrong("sheet", "pairs above 32767 are refused with 3", Value(|d| d.most_pairs = HALF)),
+    wrong("sheet", "65535 is not known for a pair", Given(|d, sheet| {
+        change_pair_fields(d, sheet, |pair| (pair == (d.most_pairs - 1).to_string()).then_some("x".to_string()));
+    })),
+    wrong("sheet", "pairs that are equal modulo 4,096 have one set", Given(|d, sheet| {
+        change_pairs(d, sheet, |pair| pair_of(d, pair).map(|pair| pair % PAIRS_BEFORE_Q6));
+    })),
+    wrong("sheet", "pairs that are equal modulo 32,768 have one set", Given(|d, sheet| {
+        change_pairs(d, sheet, |pair| pair_of(d, pair).map(|pair| pair % HALF));
+    })),
+    wrong("sheet", "pairs 0 and 4096 have one set", Given(|d, sheet| {
+        change_pairs(d, sheet, |pair| pair_of(d, pair).filter(|pair| *pair == PAIRS_BEFORE_Q6).map(|_| 0));
+    })),
+    wrong("sheet", "the fifth digit is not read", Given(|d, sheet| {
+        change_pair_fields(d, sheet, |pair| (pair.len() == d.pair_digits).then(|| pair[..d.pair_digits - 1].to_string()));
+    })),
+    wrong("sheet", "the first of five digits is not read", Given(|d, sheet| {
+        change_pair_fields(d, sheet, |pair| (pair.len() == d.pair_digits && !pair.starts_with('0')).then(|| pair[1..].to_string()));
+    })),
+    wrong("sheet", "a leading zero is taken where four digits follow", Given(|d, sheet| {
+        change_pair_fields(d, sheet, |pair| pair.strip_prefix('0').filter(|rest| rest.len() + 1 == d.pair_digits).map(str::to_string));
+    })),
+    wrong("sheet", "a leading zero is taken where five digits follow", Given(|d, sheet| {
+        change_pair_fields(d, sheet, |pair| pair.strip_prefix('0').filter(|rest| rest.len() == d.pair_digits).map(str::to_string));
+    })),
+    wrong("sheet", "3 is told before 8 for 65536", Tells(|d, sheet, answer| {
+        no_pair_first(sheet, answer, |pair| pair == d.most_pairs.to_string());
+    })),
+    wrong("sheet", "only the first 4,096 pairs start from all states", Tells(|d, sheet, answer| {
+        retell_sheet(d, sheet, answer, |pair| if pair < PAIRS_BEFORE_Q6 { ALL_STATES } else { 0 }, |_| true);
+    })),
+    wrong("sheet", "pair 54321 starts from no state", Tells(|d, sheet, answer| {
+        retell_sheet(d, sheet, answer, |pair| if pair == ONE_OF_MANY { 0 } else { ALL_STATES }, |_| true);
+    })),
+    wrong("sheet", "the sets of pairs from 4,096 on are not kept", Tells(|d, sheet, answer| {
+        retell_sheet(d, sheet, answer, |_| ALL_STATES, |pair| pair < PAIRS_BEFORE_Q6);
+    })),
+    wrong("sheet", "the set of pair 65535 is not kept", Tells(|d, sheet, answer| {
+        retell_sheet(d, sheet, answer, |_| ALL_STATES, |pair| pair < usize::from(u16::MAX));
+    })),
+    wrong("sheet", "a pair's fifth digit is lost where a read of several bytes ends before it", Gets(lose_fifth_digits)),
     // A capture.
     wrong("capture", "one read is taken for all", Gets(first_piece)),
     wrong("capture", "standard input is read though a file is named", Gets(|arrival, capture| match arrival {
@@ -875,6 +1028,40 @@ pub const WRONG: &[Wrong] = &[
         if answer.complaint == NO_MARK {
             answer.output = b"0 events: 0 explained, 0 unexplained, 0 not judged\n".to_vec();
         }
+    })),
+    // A capture with Q-6's pairs.
+    wrong("capture", "pairs above 4,095 are refused with 3", Value(old_limit)),
+    wrong("capture", "pairs above 32,767 are refused with 3", Value(|d| d.most_pairs = HALF)),
+    wrong("capture", "pair 65,535 is refused with 3", Value(|d| d.most_pairs -= 1)),
+    wrong("capture", "events of pair 65,535 are passed over", Given(|d, capture| change_records(d, capture, |records| {
+        let kept = records.chunks(record_bytes(d)).filter(|record| !record.starts_with(&u16::MAX.to_le_bytes()));
+        *records = kept.collect::<Vec<&[u8]>>().concat();
+    }))),
+    wrong("capture", "a pair is told modulo 4,096", Tells(|_, _, answer| other_pairs(answer, |pair| (pair % PAIRS_BEFORE_Q6).to_string()))),
+    wrong("capture", "a pair is told as a number with a sign", Tells(|_, _, answer| other_pairs(answer, |pair| (pair as i16).to_string()))),
+    wrong("capture", "pairs that are equal modulo 4,096 have one set", Tells(|d, capture, answer| {
+        retell_parts(d, capture, answer, |_, lent| renumber(lent, |pair| pair % PAIRS_BEFORE_Q6));
+    })),
+    wrong("capture", "pairs that are equal modulo 32,768 have one set", Tells(|d, capture, answer| {
+        retell_parts(d, capture, answer, |_, lent| renumber(lent, |pair| pair % HALF));
+    })),
+    wrong("capture", "pairs 0 and 4,096 have one set", Tells(|d, capture, answer| {
+        retell_parts(d, capture, answer, |_, lent| renumber(lent, |pair| if pair == PAIRS_BEFORE_Q6 { 0 } else { pair }));
+    })),
+    wrong("capture", "only the first 4,096 pairs start from all states", Tells(|d, capture, answer| {
+        retell_parts(d, capture, answer, |part, lent| lent.table[PAIRS_BEFORE_Q6..].iter_mut().for_each(|set| *set *= u8::from(part > 0)));
+    })),
+    wrong("capture", "pair 54,321 starts from no state", Tells(|d, capture, answer| {
+        retell_parts(d, capture, answer, |part, lent| lent.table[ONE_OF_MANY] *= u8::from(part > 0));
+    })),
+    wrong("capture", "pairs from 4,096 on start from all states again with each part", Tells(|d, capture, answer| {
+        retell_parts(d, capture, answer, |_, lent| lent.table[PAIRS_BEFORE_Q6..].fill(ALL_STATES));
+    })),
+    wrong("capture", "pairs from 4,096 on are lost with each part", Tells(|d, capture, answer| {
+        retell_parts(d, capture, answer, |part, lent| lent.table[PAIRS_BEFORE_Q6..].iter_mut().for_each(|set| *set *= u8::from(part == 0)));
+    })),
+    wrong("capture", "pair 65,535 starts from all states again with each part", Tells(|d, capture, answer| {
+        retell_parts(d, capture, answer, |_, lent| lent.table[usize::from(u16::MAX)] = ALL_STATES);
     })),
     // The list of answers. Its answer has refusal, place in three bytes, count in four, and the lent bytes with those past them.
     wrong("answers", "an answer is listed twice", Tells(|d, record, answer| relist(d, record, answer, |list| {
@@ -1180,6 +1367,11 @@ fn refuse_request(definition: &mut Definition, request: u8) {
     definition.requests.retain(|(_, code)| *code != request);
 }
 
+/// Lets there be no more pairs than before Q-6.
+fn old_limit(definition: &mut Definition) {
+    definition.most_pairs = PAIRS_BEFORE_Q6;
+}
+
 /// Whether a record's event has a request.
 fn asks(record: &[u8], request: u8) -> bool {
     handed_over(record).len() > byte::RESP_ERR && record[1 + byte::REQUEST] == request
@@ -1309,6 +1501,43 @@ fn refuse(answer: &mut Answer, number: u8, place: usize) {
     answer.output[1..5].copy_from_slice(&(place as u32).to_le_bytes());
 }
 
+/// Gives the place of a refused trace another number if it was refused with this number.
+fn other_place(answer: &mut Answer, refusal: u8, place: fn(usize) -> usize) {
+    if answer.output[0] == refusal {
+        let right = number(&answer.output[1..]);
+        refuse(answer, refusal, place(right));
+    }
+}
+
+/// Gives the events of a trace other pair numbers.
+fn renumber(lent: &mut Lent, number: impl Fn(usize) -> usize) {
+    for event in 0..lent.pairs.len() / 2 {
+        let pair = lent.pair(event).expect("an event that a number is lent for has a pair");
+        lent.set_pair(event, number(pair) as u16);
+    }
+}
+
+/// Refuses a trace with 3 at the first event that has one of some pair numbers, if nothing else is told before.
+fn refuse_pairs(definition: &Definition, case: &[u8], answer: &mut Answer, some: fn(usize) -> bool) {
+    let lent = lent_in(case);
+    let looked_at = match refused(definition, &lent) {
+        (1 | 2, _) => 0,
+        (0, events) => events,
+        (_, event) => event + 1,
+    };
+    if let Some(place) = (0..looked_at).find(|event| lent.pair(*event).is_some_and(some)) {
+        answer.output = trace_answer(&Judged { refusal: 3, place, lent });
+    }
+}
+
+/// Changes the sets after an accepted trace of those pairs that there could not be before Q-6.
+fn retell_high_sets(case: &[u8], answer: &mut Answer, change: fn(&Lent, &mut [u8])) {
+    let lent = lent_in(case);
+    if answer.output[0] == 0 && lent.table.len() > PAIRS_BEFORE_Q6 {
+        change(&lent, &mut answer.output[5..][PAIRS_BEFORE_Q6..lent.table.len()]);
+    }
+}
+
 /// Tells the events of a trace anew, all of an accepted one: an event's number, its pair's set before and what is right of it
 /// give its verdict, its duty and the set after.
 fn retell<T>(definition: &Definition, case: &[u8], answer: &mut Answer, before_refusal: bool, mut tell: T)
@@ -1369,6 +1598,58 @@ fn change_fields(definition: &Definition, sheet: &mut Vec<u8>, change: impl Fn(&
         }
         line_of(&fields)
     });
+}
+
+/// The number of a pair's field that has at most so many digits and no leading zero.
+fn number_of(field: &str, digits: usize) -> Option<usize> {
+    let no_leading_zero = field == "0" || !field.starts_with('0');
+    field.parse().ok().filter(|_| no_leading_zero && field.len() <= digits)
+}
+
+/// The pair of a field, if there is such a pair.
+fn pair_of(definition: &Definition, field: &str) -> Option<usize> {
+    number_of(field, definition.pair_digits).filter(|pair| *pair < definition.most_pairs)
+}
+
+/// Puts another number in the place of a pair's field of digits, if there is one for it.
+fn change_pairs(definition: &Definition, sheet: &mut Vec<u8>, other: impl Fn(&str) -> Option<usize>) {
+    change_pair_fields(definition, sheet, |field| other(field).map(|number| number.to_string()));
+}
+
+/// Puts another field in the place of a pair's field of digits, if there is one for it, in the lines after the header that are not
+/// too long.
+fn change_pair_fields(definition: &Definition, sheet: &mut Vec<u8>, other: impl Fn(&str) -> Option<String>) {
+    change_lines(sheet, |n, line| {
+        let mut fields = fields_of(line);
+        let digits = fields[0].iter().all(u8::is_ascii_digit) && !fields[0].is_empty();
+        if n > 0 && digits && line.len() <= definition.longest_line {
+            let changed = other(&String::from_utf8_lossy(&fields[0]));
+            fields[0] = changed.map_or(fields[0].clone(), String::into_bytes);
+        }
+        line_of(&fields)
+    });
+}
+
+/// Refuses a line with 3 that was refused with 8, if its pair is one of some.
+fn no_pair_first(sheet: &[u8], answer: &mut Answer, some: impl Fn(&str) -> bool) {
+    let number = lines(&answer.output).len();
+    if answer.output.ends_with(format!("refused,8,{number}\r\n").as_bytes()) {
+        let fields = fields_of(lines(sheet)[number - 1]);
+        if some(&String::from_utf8_lossy(&fields[0])) {
+            answer.output = replaced(&answer.output, b"refused,8", b"refused,3");
+        }
+    }
+}
+
+/// Answers a sheet by other sets that its pairs start from, and of which not all are kept from line to line.
+fn retell_sheet(definition: &Definition, sheet: &[u8], answer: &mut Answer, start: fn(usize) -> u8, is_kept: fn(usize) -> bool) {
+    let mut table: Vec<u8> = (0..definition.most_pairs).map(start).collect();
+    let own = sheet::answer_by(definition, sheet, |pair, event| {
+        let judged = judge_event(definition, event, table[pair]);
+        table[pair] = if is_kept(pair) { judged[2] } else { table[pair] };
+        judged
+    });
+    answer.output = own.output;
 }
 
 /// How many columns a sheet has.
@@ -1465,6 +1746,46 @@ fn first_piece(arrival: Arrival, input: &[u8]) -> Vec<u8> {
 fn lose(sheet: &[u8], border: usize, bytes: RangeInclusive<u8>) -> Vec<u8> {
     let lost = |n: usize, byte: u8| n % border == border - 1 && bytes.contains(&byte);
     sheet.iter().enumerate().filter(|(n, byte)| !lost(*n, **byte)).map(|(_, byte)| *byte).collect()
+}
+
+/// What is left of a sheet where a digit is lost that follows four others at the beginning of a line if a read of several bytes ends
+/// before it.
+fn lose_fifth_digits(arrival: Arrival, sheet: &[u8]) -> Vec<u8> {
+    let mut left: Vec<u8> = Vec::with_capacity(sheet.len());
+    let mut last = 0;
+    for piece in arrival.pieces(sheet) {
+        let begun = left.rsplit(|byte| *byte == b'\n').next().unwrap_or(&[]);
+        let lost = last > 1 && begun.len() == 4 && begun.iter().chain(&piece[..1]).all(u8::is_ascii_digit);
+        left.extend(&piece[usize::from(lost)..]);
+        last = piece.len();
+    }
+    left
+}
+
+/// Answers a capture by other things lent for each of its parts, each by its number.
+fn retell_parts(definition: &Definition, capture: &[u8], answer: &mut Answer, change: fn(usize, &mut Lent)) {
+    let mut part = 0;
+    let own = capture::answer_by(definition, capture, |lent| {
+        let mut other = lent.clone();
+        change(part, &mut other);
+        part += 1;
+        let mut judged = judge(definition, &other);
+        judged.lent.pairs.clone_from(&lent.pairs);
+        judged
+    });
+    (answer.complaint, answer.status) = (own.message().into_bytes(), i32::from(own.stop.is_some()));
+    answer.output = own.output;
+}
+
+/// Tells the events of a capture with other numbers of their pairs.
+fn other_pairs(answer: &mut Answer, number: fn(usize) -> String) {
+    let line = |line: &[u8]| {
+        let text = String::from_utf8_lossy(line).to_string();
+        let pair = text.split_once(", pair ").and_then(|(event, rest)| Some((event, rest.split_once(':')?)));
+        let other = pair.and_then(|(event, (pair, what))| Some(format!("{event}, pair {}:{what}", number(pair.parse().ok()?))));
+        other.unwrap_or(text).into_bytes()
+    };
+    answer.output = answer.output.split_inclusive(|byte| *byte == b'\n').flat_map(line).collect();
 }
 
 /// The lines of an output to a capture, with other numbers of events.

@@ -29,19 +29,20 @@ pub enum Flaw {
 }
 
 impl Wrong {
-    /// What it answers to a case that arrives in a way, the definition being the one it goes by.
-    fn answer(&self, call: &Call, definition: &Definition, input: &[u8], arrival: Arrival) -> Answer {
-        let right = |input: &[u8]| (call.right)(definition, input).answer;
+    /// What it answers to a case that arrives in a way and has this right answer, the definition being the one it goes by.
+    fn answer(&self, call: &Call, definition: &Definition, input: &[u8], arrival: Arrival, right: &Answer) -> Answer {
+        // Only a judge that goes by another definition answers the same input otherwise.
+        let answer_to = |other: &[u8]| if other == input { right.clone() } else { (call.right)(definition, other).answer };
         match self.flaw {
-            Flaw::Value(_) => right(input),
+            Flaw::Value(_) => (call.right)(definition, input).answer,
             Flaw::Given(change) => {
                 let mut other = input.to_vec();
                 change(definition, &mut other);
-                right(&other)
+                answer_to(&other)
             }
-            Flaw::Gets(gets) => right(&gets(arrival, input)),
+            Flaw::Gets(gets) => answer_to(&gets(arrival, input)),
             Flaw::Tells(change) => {
-                let mut answer = right(input);
+                let mut answer = right.clone();
                 change(definition, input, &mut answer);
                 answer
             }
@@ -93,7 +94,8 @@ pub fn noticed<'a>(call: &Call, cases: &Cases, wrongs: &'a [Wrong]) -> Vec<(&'a 
         for (wrong, definition, noticed) in judges.iter_mut().filter(|(_, _, noticed)| noticed.is_none()) {
             // Only to a judge that gets something else the way matters.
             let ways = if matches!(wrong.flaw, Flaw::Gets(_)) { &arrivals[..] } else { &arrivals[..1] };
-            let way = ways.iter().find(|way| !is_right(&right, &wrong.answer(call, definition, &case.input, **way)));
+            let differs = |way: &Arrival| !is_right(&right, &wrong.answer(call, definition, &case.input, *way, &right.answer));
+            let way = ways.iter().find(|way| differs(way));
             *noticed = way.map(|way| {
                 let how = [&case.how, &format!("case {number}")][usize::from(case.how.is_empty())].clone();
                 format!(
