@@ -1,7 +1,7 @@
 -- What `choices`, `allBelow` and `keep` hold, and that they ascend.
 -- Assumes nothing.
 use mathlib.Core.Path.{_≡_, refl, sym, _∙_, ap, ap₂, subst}
-use mathlib.Core.Bool.{Bool, true, false, cond, _&&_, _||_, false≢true, and-false, and-true, and-assoc, and-comm, or-assoc, and-or-distrib-left, and-or-distrib-right}
+use mathlib.Core.Bool.{Bool, true, false, cond, _&&_, _||_, false≢true, and-false, and-true, and-comm, or-assoc, and-or-distrib-left, and-or-distrib-right}
 use mathlib.Core.List.{List, [], _∷_, _++_, map}
 use Prim.Native.Nat.{ℕ, zero, suc, _+_, _<_, _≤_}
 use native.Mathlib.Nat.{add-suc, suc-add, zero-add}
@@ -10,21 +10,17 @@ use borrow.Author.Tests.{ltb-true, eqb-true, eqb-false, eq-eqb, lt-ltb}
 use lib.Dec.{eqb, ltb, eqb·zero-suc, eqb·suc-zero, eqb·suc-suc}
 use lib.ListN.{length, getD}
 use Rattle.kinds.specs.Tests.{any, all, same, _∈?_}
-use Rattle.kinds.proofs.Lists.{and-left, and-right, and-both, or-left, or-right, same-truth, same-equal}
+use Rattle.kinds.proofs.Lists.{and-left, and-right, and-both, or-left, or-right, same-truth, same-equal, all-append}
 use Rattle.rows.specs.Event.{byte}
 use Rattle.event.specs.Refusals.{below}
 use Rattle.answers.specs.Answers.{numbersFrom, inFront, choices, allBelow, keep}
 use Rattle.answers.specs.Ascending.{comesBefore, ascending}
 use Rattle.answers.proofs.Ascending.{behind-same, same-self}
 
--- `any` and `all` of two lists joined
+-- `any` of two lists joined; of `all` it is `all-append` of kinds
 pub any-append : {A : Type 0} (p : A → Bool) (xs ys : List A) → any p (xs ++ ys) ≡ any p xs || any p ys
 any-append p [] ys = refl
 any-append p (x ∷ xs) ys = ap (λ (b : Bool). p x || b) (any-append p xs ys) ∙ sym (or-assoc (p x) (any p xs) (any p ys))
-
-all-append : {A : Type 0} (p : A → Bool) (xs ys : List A) → all p (xs ++ ys) ≡ all p xs && all p ys
-all-append p [] ys = refl
-all-append p (x ∷ xs) ys = ap (λ (b : Bool). p x && b) (all-append p xs ys) ∙ sym (and-assoc (p x) (all p xs) (all p ys))
 
 -- a list among those with the number x in front
 front-members : (x y : ℕ) (ys : List ℕ) (ls : List (List ℕ)) → any (same (y ∷ ys)) (map (λ l. x ∷ l) ls) ≡ eqb y x && any (same ys) ls

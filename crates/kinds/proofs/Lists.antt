@@ -1,7 +1,7 @@
 -- Laws about tests on lists: `any`, `all`, the equality of lists, and the seven states one by one.
 -- Assumes nothing.
 use mathlib.Core.Path.{_≡_, refl, sym, _∙_, ap, ap₂}
-use mathlib.Core.Bool.{Bool, true, false, _&&_, _||_, not, false≢true, or-false, or-assoc}
+use mathlib.Core.Bool.{Bool, true, false, _&&_, _||_, not, false≢true, or-false, or-assoc, and-assoc}
 use mathlib.Core.List.{List, [], _∷_, _++_, map}
 use Prim.Native.Nat.{ℕ, zero, suc, _+_, _/_, _%_, _^_, _<_, _≤_}
 use native.Mathlib.Nat.{mod-eq-of-lt}
@@ -130,6 +130,11 @@ module _ {ℓ} {A : Type ℓ} where
   pub all-at : (p : A → Bool) {x : A} {xs : List A} → all p xs ≡ true → In x xs → p x ≡ true
   all-at p {xs = xs} h (here {x = x} {xs = ys}) = and-left (p x) (all p ys) h
   all-at p {xs = xs} h (there {y = y} {xs = ys} i) = all-at p (and-right (p y) (all p ys) h) i
+
+  -- `all` of two lists joined
+  pub all-append : (p : A → Bool) (xs ys : List A) → all p (xs ++ ys) ≡ all p xs && all p ys
+  all-append p [] ys = refl
+  all-append p (x ∷ xs) ys = ap (λ (b : Bool). p x && b) (all-append p xs ys) ∙ sym (and-assoc (p x) (all p xs) (all p ys))
 
   -- `any` of tests that share one side of `&&`
   pub any-and : (p : A → Bool) (b : Bool) (xs : List A) → any (λ x. p x && b) xs ≡ any p xs && b
