@@ -33,7 +33,7 @@ crlf-at s i h =
     ∙ ap (λ n. eqb (getD s i 0) CR && eqb (getD s n 0) LF) (sym (add-one i)))
 
 -- bytes that do not begin with CR do not begin with CR LF
-first-CR : (x : ℕ) (s : List ℕ) → eqb x CR ≡ false → crlf (x ∷ s) ≡ false
+pub first-CR : (x : ℕ) (s : List ℕ) → eqb x CR ≡ false → crlf (x ∷ s) ≡ false
 first-CR x [] h = refl
 first-CR x (y ∷ s) h = ap (λ b. b && eqb y LF) h
 

@@ -23,7 +23,7 @@ pub mod columns;
 pub const UNKNOWN: u32 = 4294967295;
 
 // The most digits of a pair number.
-const MOST_DIGITS: usize = 5;
+pub const MOST_DIGITS: usize = 5;
 
 // The first digit.
 const ZERO: u8 = 48;

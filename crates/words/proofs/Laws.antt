@@ -32,7 +32,7 @@ half-of b at =
     sum-of : (x₀ x₁ x₂ x₃ : ℕ) → x₀ + x₁ * 256 + x₂ * 65536 + x₃ * 16777216 ≡ wordOf (x₀ ∷ x₁ ∷ x₂ ∷ x₃ ∷ [])
     sum-of x₀ x₁ x₂ x₃ = omega arith
 
-word-of : (b : List ℕ) (at : ℕ) → word b at ≡ wordOf (bytesFrom b at 8)
+pub word-of : (b : List ℕ) (at : ℕ) → word b at ≡ wordOf (bytesFrom b at 8)
 unfolding word
 word-of b at =
     ap₂ (λ (x y : ℕ). x + y * 4294967296) (half-of b at) (half-of b (at + 4) ∙ ap (λ (n : ℕ). wordOf (bytesFrom b n 4)) next)
