@@ -1,6 +1,6 @@
 -- Laws about the event of a line: every code of a well-formed line is below its column's limit, so none is truncated.
 -- Assumes nothing.
-use mathlib.Core.Path.{_≡_, refl, sym, _∙_, ap, ap₂, subst}
+use mathlib.Core.Path.{_≡_, refl, sym, _∙_, ap, ap₂}
 use mathlib.Core.Bool.{Bool, true, false, cond, not, _&&_, false≢true}
 use mathlib.Core.List.{List, [], _∷_, map}
 use mathlib.Core.Logic.{_⊎_, inl, inr}
@@ -20,7 +20,7 @@ use Rattle.names.proofs.Names.{pairLimit, limits, Limited, AllLimited, none-mor
 use Rattle.parser.specs.declared.ParsedLine.{ParsedLine}
 use Rattle.parser.specs.declared.Found.{Found}
 use Rattle.parser.specs.Parsed.{codesOf, lineCodes, known, dashesAgree, wellFormed, eventOf, parsedAs, refusedParse, parsed}
-use Rattle.parser.specs.Code.{codesIn, asByte}
+use Rattle.parser.specs.Code.{codesIn, asByte, lineOf}
 
 -- as many numbers as limits, each below its own
 abbrev pub under : List ℕ → List ℕ → Bool
@@ -90,22 +90,31 @@ module _ (line : List ℕ) where
   unfolding parsed saying
   parsed-fine w h = ap₂ saying w (le-ltb highestPair (pairCode (lineCodes line)) h)
 
+-- A LINE AND ITS CODES
+pub line-high : (codes : List ℕ) → highestPair < pairCode codes → refusedParse 3 ≡ lineOf codes
+line-high codes h =
+    sym (ap (λ (b : Bool). cond b (refusedParse 3) (parsedAs (pairCode codes) (eventOf (map asByte codes)))) (lt-ltb highestPair (pairCode codes) h))
+
+pub line-fine : (codes bytes event : List ℕ) → pairCode codes ≤ highestPair → bytes ≡ map asByte codes → event ≡ eventOf bytes
+    → parsedAs (pairCode codes) event ≡ lineOf codes
+line-fine codes bytes event h b v =
+    ap (parsedAs (pairCode codes)) (v ∙ ap eventOf b)
+    ∙ sym (ap (λ (t : Bool). cond t (refusedParse 3) (parsedAs (pairCode codes) (eventOf (map asByte codes)))) (le-ltb highestPair (pairCode codes) h))
+
+pub line-well : (line : List ℕ) → wellFormed line ≡ true → lineOf (lineCodes line) ≡ parsed line
+unfolding parsed
+line-well line w =
+    let high : Bool = ltb highestPair (pairCode (lineCodes line)) in
+    let saying : List ℕ → ParsedLine = λ event. cond high (refusedParse 3) (parsedAs (pairCode (lineCodes line)) event) in
+    ap saying (event-kept (lineCodes line) (codes-under line w)) ∙ sym (ap (λ (b : Bool). cond b (saying (eventOf (lineCodes line))) (refusedParse 8)) w)
+
 -- the same from what `codes_of` finds
 module _ (line : List ℕ) (f : Found) (e : f ≡ codesIn line) where
   good-so : {b : Bool} → f .good ≡ b → wellFormed line ≡ b
   good-so g = sym (ap (λ (x : Found). x .good) e) ∙ g
 
-  codes-so : f .codes ≡ lineCodes line
-  codes-so = ap (λ (x : Found). x .codes) e
-
   pub found-ill : f .good ≡ false → refusedParse 8 ≡ parsed line
   found-ill g = sym (parsed-ill line (good-so g))
 
-  pub found-high : f .good ≡ true → highestPair < pairCode (f .codes) → refusedParse 3 ≡ parsed line
-  found-high g h = sym (parsed-high line (good-so g) (subst (λ (cs : List ℕ). highestPair < pairCode cs) codes-so h))
-
-  pub found-fine : (bytes event : List ℕ) → f .good ≡ true → pairCode (f .codes) ≤ highestPair → bytes ≡ map asByte (f .codes) → event ≡ eventOf bytes
-      → parsedAs (pairCode (f .codes)) event ≡ parsed line
-  found-fine bytes event g h b v =
-      ap₂ parsedAs (ap pairCode codes-so) (v ∙ ap eventOf (b ∙ ap (map asByte) codes-so) ∙ event-kept (lineCodes line) (codes-under line (good-so g)))
-      ∙ sym (parsed-fine line (good-so g) (subst (λ (cs : List ℕ). pairCode cs ≤ highestPair) codes-so h))
+  pub found-well : f .good ≡ true → lineOf (f .codes) ≡ parsed line
+  found-well g = ap (λ (x : Found). lineOf (x .codes)) e ∙ line-well line (good-so g)

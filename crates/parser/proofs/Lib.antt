@@ -1,3 +1,4 @@
 pub mod Laws
 pub mod Events
 pub mod Steps
+pub mod Reading

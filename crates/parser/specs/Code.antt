@@ -1,15 +1,18 @@
--- What private functions compute. No public claim names this file.
+-- What functions compute on the way to a parsed line. The claims of `gathered` and `line_of` name this file, and no other public claim.
 use Prim.Native.Nat.{ℕ, _+_, _-_, _%_}
 use mathlib.Core.Bool.{cond}
-use mathlib.Core.List.{List, [], _∷_}
-use lib.Dec.{leb}
+use mathlib.Core.List.{List, [], _∷_, map}
+use lib.Dec.{leb, ltb}
 use lib.ListN.{length, take, drop}
+use Rattle.kinds.specs.Places.{highestPair}
 use Rattle.fields.specs.Fields.{fieldEnd}
 use Rattle.names.specs.Names.{unknown, inColumn}
+use Rattle.names.specs.Columns.{pairCode}
 use Rattle.parser.specs.declared.Taken.{Taken}
 use Rattle.parser.specs.declared.Codes.{Codes}
 use Rattle.parser.specs.declared.Found.{Found}
-use Rattle.parser.specs.Parsed.{lineCodes, wellFormed}
+use Rattle.parser.specs.declared.ParsedLine.{ParsedLine}
+use Rattle.parser.specs.Parsed.{lineCodes, wellFormed, eventOf, parsedAs, refusedParse}
 
 -- the field at an offset, read by a column, and the offset behind its comma; past the end of the line unknown, and the same offset
 unfoldable pub takenBy : (List ℕ → ℕ) → List ℕ → ℕ → Taken
@@ -53,3 +56,7 @@ codesIn line = record { codes = lineCodes line; good = wellFormed line }
 -- a code modulo 256
 abbrev pub asByte : ℕ → ℕ
 asByte code = code % 256
+
+-- the line that codes stand for: 3 for a pair above 65,535, else the pair, and the event of the codes as bytes
+abbrev pub lineOf : List ℕ → ParsedLine
+lineOf codes = cond (ltb highestPair (pairCode codes)) (refusedParse 3) (parsedAs (pairCode codes) (eventOf (map asByte codes)))

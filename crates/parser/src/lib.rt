@@ -12,7 +12,7 @@ ghost use mathlib.Core.Path.{_≡_};
 ghost use mathlib.Core.List.{map};
 ghost use Rattle.kinds.specs.Tests.{all};
 ghost use Rattle.parser.specs.Parsed.{known, dashesAgree, eventOf, parsed, refusedParse};
-ghost use Rattle.parser.specs.Code.{takenAt, gatheredOf, allTaken, codesIn, asByte};
+ghost use Rattle.parser.specs.Code.{takenAt, gatheredOf, allTaken, codesIn, asByte, lineOf};
 
 // A parsed line: its pair and its event with refusal 0, or the refusal number.
 pub struct ParsedLine {
@@ -22,21 +22,21 @@ pub struct ParsedLine {
 }
 
 // A line, and the offset at which its next field starts.
-struct Fields<'a> {
-    line: &'a [u8],
-    at: usize,
+pub struct Fields<'a> {
+    pub line: &'a [u8],
+    pub at: usize,
 }
 
 // One field: its code in its column, and the offset behind its comma.
-struct Taken {
-    code: u32,
-    next: usize,
+pub struct Taken {
+    pub code: u32,
+    pub next: usize,
 }
 
 // The codes of a line's first twelve fields, and the offset behind the last one.
-struct Codes {
-    codes: [u32; COLUMNS],
-    end: usize,
+pub struct Codes {
+    pub codes: [u32; COLUMNS],
+    pub end: usize,
 }
 
 // The codes of a line's fields, and whether the line is well formed.
@@ -64,7 +64,7 @@ fn field_at(number: usize, line: &[u8], at: usize) -> Taken
 }
 
 // The codes of twelve fields, in their order.
-fn gathered(
+pub fn gathered(
     pair: Taken,
     request: Taken,
     ret: Taken,
@@ -158,7 +158,7 @@ fn all_known(codes: &[u32]) -> bool
 }
 
 // Whether `-` stands in both of forward and fwdErr, or in neither.
-fn dashes_agree(codes: [u32; COLUMNS]) -> bool
+pub fn dashes_agree(codes: [u32; COLUMNS]) -> bool
     ensures { λ r. ⌜ r ≡ dashesAgree codes ⌝ }
 {
     let no_forward = codes[columns::FORWARD] == FwdState::NONE.0 as u32;
@@ -221,13 +221,28 @@ fn event_of(codes: [u8; COLUMNS]) -> [u8; EVENT_BYTES]
 }
 
 // A refused line: pair 0 and an event of zeros.
-fn refused(refusal: Refusal) -> ParsedLine
+pub fn refused(refusal: Refusal) -> ParsedLine
     ensures { λ r. ⌜ r ≡ refusedParse (refusal .0) ⌝ }
 {
     ParsedLine {
         refusal,
         pair: PairNumber(0),
         event: [0u8; EVENT_BYTES],
+    }
+}
+
+// The line that the codes of its fields stand for, if it is well formed: refused for its pair, or its pair and its event.
+pub fn line_of(codes: [u32; COLUMNS]) -> ParsedLine
+    ensures { λ r. ⌜ r ≡ lineOf codes ⌝ }
+{
+    let pair = codes[columns::PAIR];
+    if pair > HIGHEST_PAIR {
+        return refused(Refusal::PAIR);
+    }
+    ParsedLine {
+        refusal: Refusal::ACCEPTED,
+        pair: PairNumber(pair as u16),
+        event: event_of(as_bytes(codes)),
     }
 }
 
@@ -241,13 +256,5 @@ pub fn parse_line(line: &[u8]) -> ParsedLine
     if !good {
         return refused(Refusal::FIELDS);
     }
-    let pair = codes[columns::PAIR];
-    if pair > HIGHEST_PAIR {
-        return refused(Refusal::PAIR);
-    }
-    ParsedLine {
-        refusal: Refusal::ACCEPTED,
-        pair: PairNumber(pair as u16),
-        event: event_of(as_bytes(codes)),
-    }
+    line_of(codes)
 }
