@@ -1,0 +1,3 @@
+mod Matching
+mod Digits
+pub mod Good
