@@ -11,6 +11,7 @@ use lib.Dec.{ltb}
 use lib.ListN.{length, take, drop, set, length-append, length-set}
 use lib.Seq.{take-set-le, drop-cons, drop-set-lt, getD-set-same, set-split, append-snoc}
 use Rattle.replies.specs.Replies.{digit, decimalTextIn, decimalText}
+use Rattle.replies.specs.Code.{twoDigits}
 
 -- every number below this has at most twenty digits
 abbrev pub most : ℕ
@@ -38,6 +39,25 @@ unfolding decimalText
 decimal-step n h k =
     ap (λ (b : Bool). cond b (digit n ∷ []) (decimalTextIn 18 (n / 10) ++ digit (n % 10) ∷ [])) (le-ltb n 10 h)
     ∙ ap (λ (s : List ℕ). s ++ digit (n % 10) ∷ []) (more 18 (n / 10) (omega arith))
+
+-- a number of two digits
+pub decimal-two : (n : ℕ) → 9 < n → n < 100 → decimalText n ≡ twoDigits n
+decimal-two n h k =
+    decimal-step n h (omega arith)
+    ∙ ap (λ (s : List ℕ). s ++ digit (n % 10) ∷ []) (decimal-small (n / 10) (omega arith))
+    ∙ ap (λ (d : ℕ). digit d ∷ digit (n % 10) ∷ []) (mod-eq-of-lt (omega arith))
+
+-- a number of more digits: the digits of its hundreds, then its last two digits
+pub decimal-hundreds : (n : ℕ) → 99 < n → n < most → decimalText n ≡ decimalText (n / 100) ++ twoDigits (n % 100)
+decimal-hundreds n h k =
+    let hundreds : n / 10 / 10 ≡ n / 100 = omega arith in
+    let tens : n / 10 % 10 ≡ n % 100 / 10 = omega arith in
+    let ones : n % 10 ≡ n % 100 % 10 = omega arith in
+    decimal-step n (omega arith) k
+    ∙ ap (λ (s : List ℕ). s ++ digit (n % 10) ∷ []) (decimal-step (n / 10) (omega arith) (omega arith))
+    ∙ append-assoc (decimalText (n / 10 / 10)) (digit (n / 10 % 10) ∷ []) (digit (n % 10) ∷ [])
+    ∙ ap (λ (m : ℕ). decimalText m ++ digit (n / 10 % 10) ∷ digit (n % 10) ∷ []) hundreds
+    ∙ ap₂ (λ (a b : ℕ). decimalText (n / 100) ++ digit a ∷ digit b ∷ []) tens ones
 
 one-by : (b : Bool) (f n : ℕ) → 1 ≤ length (cond b (digit n ∷ []) (decimalTextIn f (n / 10) ++ digit (n % 10) ∷ []))
 one-by true f n = omega arith

@@ -18,6 +18,7 @@ use Rattle.text.specs.Text.{bytes, comma, eol}
 use Rattle.replies.specs.Laid.{laid, lay, layAll, concat}
 use Rattle.replies.specs.Replies.{room, space, decimalText, Word, wordFor, verdictNames, dutyNames, verdictText, dutyText}
 use Rattle.replies.specs.Replies.{statesText, headerLine, answerLine, refusedLine, stateText, statesTexts, answerTexts, refusalTexts}
+use Rattle.replies.specs.Code.{explainedTexts}
 pub use Rattle.replies.proofs.Laying.{lay-fits, lay-short, lay-nothing, lay-lay, lay-all, lay-all-append, length-in, length-lay, length-lay-all}
 pub use Rattle.replies.proofs.Decimal.{decimal-one, decimal-small, decimal-step, decimal-short}
 pub use Rattle.replies.proofs.States.{concat-states}
@@ -68,6 +69,12 @@ verdict-short v = word-short 11 verdictNames v refl (omega arith)
 duty-short : (d : ℕ) → length (dutyText d) ≤ 9
 unfolding dutyText
 duty-short d = word-short 9 dutyNames d refl (omega arith)
+
+-- verdict and duty of an explained event
+pub explained-short : (d : ℕ) → length (concat (explainedTexts d)) ≤ 21
+unfolding verdictText
+explained-short d =
+    omega (arith, length-append (dutyText d) (comma ∷ []), length-append (dutyText d ++ comma ∷ []) [], duty-short d)
 
 state-short : (m n : ℕ) (name : List ℕ) → length (stateText m n name) ≤ 1 + length name
 state-short m n name =

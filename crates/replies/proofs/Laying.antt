@@ -4,7 +4,7 @@ use mathlib.Core.Path.{_≡_, refl, sym, _∙_, ap, ap₂}
 use mathlib.Core.Bool.{Bool, true, false, cond}
 use mathlib.Core.List.{List, [], _∷_, _++_, append-assoc, append-nil}
 use Prim.Native.Nat.{ℕ, _+_, _≤_, _<_}
-use native.Mathlib.Nat.{add-zero, le-antisymm}
+use native.Mathlib.Nat.{add-zero, le-antisymm, le-of-eq}
 use native.Mathlib.Numerals.{add-one}
 use native.Mathlib.Omega.{arith}
 use borrow.Author.Tests.{le-leb, lt-leb, leb-true, leb-false}
@@ -101,6 +101,22 @@ lay-all l (s ∷ ss) h =
     let at : lay l s .at ≡ l .at + length s = ap (λ (k : Laid). k .at) (lay-fits l s (omega arith)) in
     let long : length (lay l s .out) ≡ length (l .out) = length-lay l s in
     lay-all (lay l s) ss (omega arith) ∙ lay-lay l s (concat ss) h
+
+-- texts that fit as one text
+pub lay-one : {r : Laid} (l : Laid) (ss : List (List ℕ)) (s : List ℕ) → concat ss ≡ s → l .at + length s ≤ length (l .out) → r ≡ lay l s → r ≡ layAll l ss
+lay-one l ss s e h f = f ∙ ap (lay l) (sym e) ∙ sym (lay-all l ss (omega (arith, ap length e)))
+
+behind-by : (b : Bool) (l : Laid) (s : List ℕ) → leb (l .at + length s) (length (l .out)) ≡ b → lay l s .at ≤ l .at + length s
+behind-by true l s e = le-of-eq (ap (λ (k : Laid). k .at) (lay-fits l s (leb-true _ _ e)))
+behind-by false l s e = let same : lay l s .at ≡ l .at = ap (λ (k : Laid). k .at) (lay-short l s (leb-false _ _ e)) in omega arith
+
+-- the offset moves by no more than the texts' length
+pub behind : {r : Laid} (l : Laid) (s : List ℕ) → r ≡ lay l s → r .at ≤ l .at + length s
+behind l s e = let same = ap (λ (k : Laid). k .at) e in omega (arith, same, behind-by _ l s refl)
+
+pub behind-all : {r : Laid} (l : Laid) (ss : List (List ℕ)) → r ≡ layAll l ss → r .at ≤ l .at + length (concat ss)
+behind-all l [] e = let same = ap (λ (k : Laid). k .at) e in omega (arith, same)
+behind-all l (s ∷ ss) e = omega (arith, behind-all (lay l s) ss e, behind l s refl, length-append s (concat ss))
 
 -- The loop of `copy`, and what `put` and `put_number` leave.
 

@@ -3,7 +3,7 @@
 use mathlib.Core.Path.{_≡_, sym, _∙_, ap, ap₂, subst⁻¹}
 use mathlib.Core.Bool.{Bool, cond}
 use mathlib.Core.List.{List, [], _∷_, _++_}
-use Prim.Native.Nat.{ℕ, _*_, _%_, _/_, _^_, _<_, _≤_, _-_}
+use Prim.Native.Nat.{ℕ, suc, _+_, _*_, _%_, _/_, _^_, _<_, _≤_, _-_}
 use native.Mathlib.Nat.{one-mul, mod-eq-of-lt, lt-of-lt-of-le, le-of-eq}
 use native.Mathlib.Omega.{arith}
 use borrow.Author.Tests.{eq-eqb, ne-eqb}
@@ -17,18 +17,16 @@ use Rattle.steps.specs.Steps.{noDuty, Home, Requester, lost, discarded}
 use Rattle.verdicts.specs.Verdicts.{explained, unexplained, notJudged}
 use Rattle.verdicts.specs.declared.Finding.{Finding}
 use Rattle.text.specs.Text.{bytes, comma, eol}
-use Rattle.replies.specs.Laid.{Laid, lay, layAll}
+use Rattle.replies.specs.Laid.{Laid, lay, layAll, concat}
 use Rattle.replies.specs.Replies.{space, decimalText, Word, wordFor, verdictNames, dutyNames, verdictText}
 use Rattle.replies.specs.Replies.{dutyText, stateText, statesTexts, headerLine, answerTexts, refusalTexts}
-use Rattle.replies.proofs.Laying.{lay-nothing, lay-all-append, length-lay-all}
+use Rattle.replies.specs.Code.{twoDigits, verdictPart, dutyPart, explainedTexts, lastTexts, judgedTexts}
+use Rattle.replies.proofs.Laying.{lay-nothing, lay-lay, lay-one, lay-all-append, length-lay-all}
+use Rattle.replies.proofs.Decimal.{most, decimal-hundreds, decimal-short}
 
 -- a code that is not the first word's
 other : (w : Word) (ws : List Word) (code : ℕ) → (code ≡ w .code → ⊥) → wordFor (w ∷ ws) code ≡ wordFor ws code
 other w ws code h = ap (λ (b : Bool). cond b (w .text) (wordFor ws code)) (ne-eqb code (w .code) h)
-
--- a verdict's name between commas
-abbrev pub verdictPart : ℕ → List ℕ
-verdictPart v = comma ∷ verdictText v ++ comma ∷ []
 
 pub verdict-is : {r : Laid} (l : Laid) {v : ℕ} (code : ℕ) → v ≡ code → r ≡ lay l (verdictPart code) → r ≡ lay l (verdictPart v)
 verdict-is l code h e = e ∙ ap (λ (n : ℕ). lay l (verdictPart n)) (sym h)
@@ -40,19 +38,16 @@ verdict-unknown l {v} h₀ h₁ h₂ e =
     e ∙ ap (λ (s : List ℕ). lay l (comma ∷ s ++ comma ∷ []))
     (sym (other _ (drop 1 verdictNames) v h₀ ∙ other _ (drop 2 verdictNames) v h₁ ∙ other _ [] v h₂))
 
--- a duty's name and a comma
-abbrev pub dutyPart : ℕ → List ℕ
-dutyPart d = dutyText d ++ comma ∷ []
-
 pub duty-is : {r : Laid} (l : Laid) {d : ℕ} (code : ℕ) → d ≡ code → r ≡ lay l (dutyPart code) → r ≡ lay l (dutyPart d)
 duty-is l code h e = e ∙ ap (λ (n : ℕ). lay l (dutyPart n)) (sym h)
 
-pub duty-unknown : {r : Laid} (l : Laid) {d : ℕ} → (d ≡ noDuty → ⊥) → (d ≡ Home → ⊥) → (d ≡ Requester → ⊥) → (d ≡ lost → ⊥) → (d ≡ discarded → ⊥)
-    → r ≡ lay l (bytes "unknown,") → r ≡ lay l (dutyPart d)
+pub no-name : (d : ℕ) → (d ≡ noDuty → ⊥) → (d ≡ Home → ⊥) → (d ≡ Requester → ⊥) → (d ≡ lost → ⊥) → (d ≡ discarded → ⊥) → dutyText d ≡ bytes "unknown"
 unfolding dutyText
-duty-unknown l {d} h₀ h₁ h₂ h₃ h₄ e =
-    e ∙ ap (λ (s : List ℕ). lay l (s ++ comma ∷ []))
-    (sym (other _ (drop 1 dutyNames) d h₀ ∙ other _ (drop 2 dutyNames) d h₁ ∙ other _ (drop 3 dutyNames) d h₂ ∙ other _ (drop 4 dutyNames) d h₃ ∙ other _ [] d h₄))
+no-name d h₀ h₁ h₂ h₃ h₄ =
+    other _ (drop 1 dutyNames) d h₀ ∙ other _ (drop 2 dutyNames) d h₁ ∙ other _ (drop 3 dutyNames) d h₂ ∙ other _ (drop 4 dutyNames) d h₃ ∙ other _ [] d h₄
+
+pub duty-unknown : {r : Laid} (l : Laid) (d : ℕ) → dutyText d ≡ bytes "unknown" → r ≡ lay l (bytes "unknown,") → r ≡ lay l (dutyPart d)
+duty-unknown l d h e = e ∙ ap (λ (s : List ℕ). lay l (s ++ comma ∷ [])) (sym h)
 
 -- a state that is not in the set, the first one that is, and a later one
 pub not-in : {l : Laid} (m n : ℕ) (name : List ℕ) → (m / 2 ^ n % 2 ≡ 1 → ⊥) → l ≡ lay l (stateText m n name)
@@ -110,14 +105,57 @@ seven l m e₀ e₁ e₂ e₃ e₄ e₅ e₆ = then _ e₆ (then _ e₅ (then _ 
 pub same-long : {r : Laid} (l : Laid) (ss : List (List ℕ)) → r ≡ layAll l ss → length (r .out) ≡ length (l .out)
 same-long l ss e = ap (λ (k : Laid). length (k .out)) e ∙ length-lay-all l ss
 
--- the parts of an event's output line, in their order
-pub answered : {r₀ r₁ r₂ r₃ r₄ : Laid} (l : Laid) (k : ℕ) (found : Finding) → r₀ ≡ lay l (decimalText k) → r₁ ≡ lay r₀ (verdictPart (found .verdict .0))
-    → r₂ ≡ lay r₁ (dutyPart (found .duty .0)) → r₃ ≡ layAll r₂ (statesTexts (found .after)) → r₄ ≡ lay r₃ eol
-    → r₄ ≡ layAll l (answerTexts k found)
+-- a number of three digits or more: its hundreds, then its last two digits
+pub hundreds-laid : {r r′ : Laid} (l : Laid) (k n : ℕ) → 99 < n → n < most → n < 10 ^ suc k → l .at + suc k ≤ length (l .out)
+    → r ≡ lay l (decimalText (n / 100)) → r′ ≡ lay r (twoDigits (n % 100)) → r′ ≡ lay l (decimalText n)
+hundreds-laid l k n h m few room e f =
+    let d : decimalText n ≡ decimalText (n / 100) ++ twoDigits (n % 100) = decimal-hundreds n h m in
+    then _ f e
+    ∙ lay-lay l (decimalText (n / 100)) (twoDigits (n % 100)) (omega (arith, decimal-short k n few, ap length d))
+    ∙ ap (lay l) (sym d)
+
+-- the parts of a code, written as one text
+pub one-text : {r : Laid} (l : Laid) (texts : ℕ → List (List ℕ)) (code : ℕ) {n : ℕ} (s : List ℕ) → n ≡ code → concat (texts code) ≡ s
+    → l .at + length s ≤ length (l .out) → r ≡ lay l s → r ≡ layAll l (texts n)
+one-text l texts code s h e room f = lay-one l (texts code) s e room f ∙ ap (λ (m : ℕ). layAll l (texts m)) (sym h)
+
+-- an explained event's duty that has no name
+pub explained-unknown : {r : Laid} (l : Laid) (d : ℕ) → dutyText d ≡ bytes "unknown" → l .at + 19 ≤ length (l .out)
+    → r ≡ lay l (bytes ",explained,unknown,") → r ≡ layAll l (explainedTexts d)
+unfolding verdictText
+explained-unknown l d h room f =
+    lay-one l (explainedTexts d) (bytes ",explained,unknown,") (ap (λ (s : List ℕ). verdictPart explained ++ ((s ++ comma ∷ []) ++ [])) h) room f
+
+-- the states of a set, then the end of the line
+pub ended : {r r′ : Laid} (l : Laid) (m : ℕ) → r ≡ layAll l (statesTexts m) → r′ ≡ lay r eol → r′ ≡ layAll l (lastTexts m)
+ended l m e f = then _ f e ∙ sym (lay-all-append l (statesTexts m) (eol ∷ []))
+
+-- verdict and duty, then the states
+pub judged : {r₁ r₂ r₃ : Laid} (l : Laid) (found : Finding) → r₁ ≡ lay l (verdictPart (found .verdict .0)) → r₂ ≡ lay r₁ (dutyPart (found .duty .0))
+    → r₃ ≡ layAll r₂ (lastTexts (found .after)) → r₃ ≡ layAll l (judgedTexts found)
+judged l found e₁ e₂ e₃ = e₃ ∙ ap (λ (x : Laid). layAll x (lastTexts (found .after))) (then _ e₂ e₁)
+
+-- an event that is explained
+pub judged-explained : {r r′ : Laid} (l : Laid) (found : Finding) → found .verdict .0 ≡ explained → r ≡ layAll l (explainedTexts (found .duty .0))
+    → r′ ≡ layAll r (lastTexts (found .after)) → r′ ≡ layAll l (judgedTexts found)
+judged-explained l found h e f =
+    f ∙ ap (λ (x : Laid). layAll x (lastTexts (found .after))) e
+    ∙ ap (λ (v : ℕ). layAll l (verdictPart v ∷ dutyPart (found .duty .0) ∷ lastTexts (found .after))) (sym h)
+
+-- an event that is not: no duty, and no states
+pub judged-plain : {r : Laid} (l : Laid) (found : Finding) (code : ℕ) (s : List ℕ) → found .verdict .0 ≡ code → found .duty .0 ≡ noDuty → found .after ≡ 0
+    → concat (verdictPart code ∷ dutyPart noDuty ∷ lastTexts 0) ≡ s → l .at + length s ≤ length (l .out) → r ≡ lay l s → r ≡ layAll l (judgedTexts found)
+judged-plain l found code s h₀ h₁ h₂ e room f =
+    let same : judgedTexts found ≡ verdictPart code ∷ dutyPart noDuty ∷ lastTexts 0 =
+    ap₂ (λ (v d : ℕ). verdictPart v ∷ dutyPart d ∷ lastTexts (found .after)) h₀ h₁
+    ∙ ap (λ (m : ℕ). verdictPart code ∷ dutyPart noDuty ∷ lastTexts m) h₂ in
+    lay-one l (judgedTexts found) s (ap concat same ∙ e) room f
+
+-- the number, then what stands behind it
+pub answered : {r r′ : Laid} (l : Laid) (k : ℕ) (found : Finding) → r ≡ lay l (decimalText k) → r′ ≡ layAll r (judgedTexts found)
+    → r′ ≡ layAll l (answerTexts k found)
 unfolding answerTexts
-answered l k found e₀ e₁ e₂ e₃ e₄ =
-    then _ e₄ (e₃ ∙ ap (λ (x : Laid). layAll x (statesTexts (found .after))) (then _ e₂ (then _ e₁ e₀)))
-    ∙ sym (lay-all-append _ (statesTexts (found .after)) (eol ∷ []))
+answered l k found e f = f ∙ ap (λ (x : Laid). layAll x (judgedTexts found)) e
 
 -- the parts of a refusal's line, in their order
 pub refused : {r₀ r₁ r₂ r₃ r₄ : Laid} (l : Laid) (number line : ℕ) → r₀ ≡ lay l (bytes "refused,") → r₁ ≡ lay r₀ (decimalText number) → r₂ ≡ lay r₁ (comma ∷ [])

@@ -13,6 +13,7 @@ ghost use Rattle.text.specs.Text.{comma};
 ghost use Rattle.replies.specs.Laid.{laid, lay, layAll};
 ghost use Rattle.replies.specs.Replies.{space, decimalText, verdictText, dutyText, stateText, statesTexts};
 ghost use Rattle.replies.specs.Replies.{headerLine, answerTexts, refusalTexts};
+ghost use Rattle.replies.specs.Code.{twoDigits, explainedTexts, lastTexts, judgedTexts};
 
 // Every output line fits into this many bytes.
 pub const ROOM: usize = 64;
@@ -33,6 +34,16 @@ fn copy(out: &mut [u8], at: usize, text: &[u8])
     }
 }
 
+// Writes a text at an offset, and returns the offset behind it. The text must fit.
+fn lay(out: &mut [u8], at: usize, text: &[u8]) -> usize
+    requires { ⌜ at + length (now text) ≤ length (now out) ⌝ }
+    ensures { λ r. ⌜ laid r (now (out .exit)) ≡ lay (laid at (now (out .entry))) (now (text .entry)) ⌝ }
+{
+    let len = text.len();
+    copy(out, at, text);
+    at + len
+}
+
 // Writes a text at an offset, and returns the offset behind it. A text that does not fit is left out.
 pub fn put(out: &mut [u8], at: usize, text: &[u8]) -> usize
     ensures { λ r. ⌜ laid r (now (out .exit)) ≡ lay (laid at (now (out .entry))) (now (text .entry)) ⌝ }
@@ -44,8 +55,7 @@ pub fn put(out: &mut [u8], at: usize, text: &[u8]) -> usize
     if out.len() - len < at {
         return at;
     }
-    copy(out, at, text);
-    at + len
+    lay(out, at, text)
 }
 
 // The number of digits of a number.
@@ -162,16 +172,171 @@ fn put_states(out: &mut [u8], at: usize, states: u8) -> usize
     put_state(out, sc, states, LineState::SD.0, b" SD")
 }
 
+// Writes the two digits of a number below a hundred.
+fn lay_two(out: &mut [u8], at: usize, n: u32) -> usize
+    requires { ⌜ n < 100 ⌝ }
+    requires { ⌜ at + 2 ≤ length (now out) ⌝ }
+    ensures { λ r. ⌜ laid r (now (out .exit)) ≡ lay (laid at (now (out .entry))) (twoDigits n) ⌝ }
+{
+    lay(out, at, &[ZERO + (n / 10) as u8, ZERO + (n % 10) as u8])
+}
+
+// Writes a number below a hundred in decimal.
+fn lay_upto_two(out: &mut [u8], at: usize, n: u32) -> usize
+    requires { ⌜ n < 100 ⌝ }
+    requires { ⌜ at + 2 ≤ length (now out) ⌝ }
+    ensures { λ r. ⌜ laid r (now (out .exit)) ≡ lay (laid at (now (out .entry))) (decimalText n) ⌝ }
+{
+    if n < 10 {
+        return lay(out, at, &[ZERO + (n % 10) as u8]);
+    }
+    lay_two(out, at, n)
+}
+
+// Writes a number below ten thousand in decimal.
+fn lay_upto_four(out: &mut [u8], at: usize, n: u32) -> usize
+    requires { ⌜ n < 10000 ⌝ }
+    requires { ⌜ at + 4 ≤ length (now out) ⌝ }
+    ensures { λ r. ⌜ laid r (now (out .exit)) ≡ lay (laid at (now (out .entry))) (decimalText n) ⌝ }
+{
+    if n < 100 {
+        return lay_upto_two(out, at, n);
+    }
+    let next = lay_upto_two(out, at, n / 100);
+    lay_two(out, next, n % 100)
+}
+
+// Writes a number below a million in decimal.
+fn lay_upto_six(out: &mut [u8], at: usize, n: u32) -> usize
+    requires { ⌜ n < 1000000 ⌝ }
+    requires { ⌜ at + 6 ≤ length (now out) ⌝ }
+    ensures { λ r. ⌜ laid r (now (out .exit)) ≡ lay (laid at (now (out .entry))) (decimalText n) ⌝ }
+{
+    if n < 10_000 {
+        return lay_upto_four(out, at, n);
+    }
+    let next = lay_upto_four(out, at, n / 100);
+    lay_two(out, next, n % 100)
+}
+
+// Writes the verdict and the duty of an explained event; `unknown` for a duty without a name.
+fn lay_explained(out: &mut [u8], at: usize, duty: Duty) -> usize
+    requires { ⌜ at + 21 ≤ length (now out) ⌝ }
+    ensures { λ r. ⌜ laid r (now (out .exit)) ≡ layAll (laid at (now (out .entry))) (explainedTexts (duty .0)) ⌝ }
+{
+    let code = duty.0;
+    if code == Duty::NONE.0 {
+        return lay(out, at, b",explained,none,");
+    }
+    if code == Duty::HOME.0 {
+        return lay(out, at, b",explained,Home,");
+    }
+    if code == Duty::REQUESTER.0 {
+        return lay(out, at, b",explained,Requester,");
+    }
+    if code == Duty::LOST.0 {
+        return lay(out, at, b",explained,lost,");
+    }
+    if code == Duty::DISCARDED.0 {
+        return lay(out, at, b",explained,discarded,");
+    }
+    lay(out, at, b",explained,unknown,")
+}
+
+// Writes the names of the states of a set and the end of the line, each part where it fits.
+fn put_last(out: &mut [u8], at: usize, states: u8) -> usize
+    ensures { λ r. ⌜ laid r (now (out .exit)) ≡ layAll (laid at (now (out .entry))) (lastTexts states) ⌝ }
+{
+    let named = put_states(out, at, states);
+    put(out, named, b"\r\n")
+}
+
+// Writes the names of the states of a set and the end of the line.
+fn lay_states(out: &mut [u8], at: usize, states: u8) -> usize
+    requires { ⌜ at + 6 ≤ length (now out) ⌝ }
+    ensures { λ r. ⌜ laid r (now (out .exit)) ≡ layAll (laid at (now (out .entry))) (lastTexts states) ⌝ }
+{
+    if states == 1 {
+        return lay(out, at, b"I\r\n");
+    }
+    if states == 32 {
+        return lay(out, at, b"SC\r\n");
+    }
+    if states == 33 {
+        return lay(out, at, b"I SC\r\n");
+    }
+    if states == 64 {
+        return lay(out, at, b"SD\r\n");
+    }
+    put_last(out, at, states)
+}
+
+// Writes what stands behind the number in an event's output line, each part where it fits.
+fn put_judged(out: &mut [u8], at: usize, found: Finding) -> usize
+    ensures { λ r. ⌜ laid r (now (out .exit)) ≡ layAll (laid at (now (out .entry))) (judgedTexts found) ⌝ }
+{
+    let judged = put_verdict(out, at, found.verdict);
+    let owed = put_duty(out, judged, found.duty);
+    put_last(out, owed, found.after)
+}
+
+// Writes what stands behind the number of an event that is not explained.
+fn lay_unexplained(out: &mut [u8], at: usize, found: Finding) -> usize
+    requires { ⌜ at + 20 ≤ length (now out) ⌝ }
+    ensures { λ r. ⌜ laid r (now (out .exit)) ≡ layAll (laid at (now (out .entry))) (judgedTexts found) ⌝ }
+{
+    let verdict = found.verdict.0;
+    let duty = found.duty.0;
+    let states = found.after;
+    if duty == Duty::NONE.0 {
+        if states == 0 {
+            if verdict == Verdict::UNEXPLAINED.0 {
+                return lay(out, at, b",unexplained,none,\r\n");
+            }
+            if verdict == Verdict::NOT_JUDGED.0 {
+                return lay(out, at, b",not judged,none,\r\n");
+            }
+        }
+    }
+    put_judged(out, at, found)
+}
+
+// Writes what stands behind the number in an event's output line.
+fn lay_judged(out: &mut [u8], at: usize, found: Finding) -> usize
+    requires { ⌜ at + 58 ≤ length (now out) ⌝ }
+    ensures { λ r. ⌜ laid r (now (out .exit)) ≡ layAll (laid at (now (out .entry))) (judgedTexts found) ⌝ }
+{
+    let verdict = found.verdict.0;
+    if verdict == Verdict::EXPLAINED.0 {
+        let owed = lay_explained(out, at, found.duty);
+        return lay_states(out, owed, found.after);
+    }
+    lay_unexplained(out, at, found)
+}
+
+// Writes the output line of an event, each part where it fits.
+fn put_parts(out: &mut [u8], at: usize, event: EventNumber, found: Finding) -> usize
+    ensures { λ r. ⌜ laid r (now (out .exit)) ≡ layAll (laid at (now (out .entry))) (answerTexts (event .0) found) ⌝ }
+{
+    let number = event.0;
+    let numbered = put_number(out, at, number as u64);
+    put_judged(out, numbered, found)
+}
+
 // Writes the output line of an event (definition 8.6).
 pub fn put_answer(out: &mut [u8], at: usize, event: EventNumber, found: Finding) -> usize
     ensures { λ r. ⌜ laid r (now (out .exit)) ≡ layAll (laid at (now (out .entry))) (answerTexts (event .0) found) ⌝ }
 {
     let number = event.0;
-    let numbered = put_number(out, at, number as u64);
-    let judged = put_verdict(out, numbered, found.verdict);
-    let owed = put_duty(out, judged, found.duty);
-    let named = put_states(out, owed, found.after);
-    put(out, named, b"\r\n")
+    if number < 1_000_000 {
+        if ROOM <= out.len() {
+            if at <= out.len() - ROOM {
+                let numbered = lay_upto_six(out, at, number);
+                return lay_judged(out, numbered, found);
+            }
+        }
+    }
+    put_parts(out, at, event, found)
 }
 
 // Writes the line that ends a refused run: the refusal number and the bad line (definition 8.7).

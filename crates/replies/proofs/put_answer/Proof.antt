@@ -1,63 +1,54 @@
--- `replies::put_answer` meets its contract: its parts in their order.
+-- `replies::put_answer` meets its contract: the line is laid where there is room for it.
 -- Assumes nothing.
+use Rattle.replies.proofs.Parts.{answered}
+use Rattle.replies.proofs.Decimal.{decimal-short}
+use Rattle.replies.proofs.Laying.{behind}
+use native.Mathlib.Omega.{arith}
 use borrow.Author.Needs.{needs}
-use denote.Ref.{now}
-use Rattle.replies.specs.Laid.{laid}
-use Rattle.replies.specs.Replies.{answerTexts}
-use Rattle.replies.proofs.Parts.{answered, same-long}
 use Rattle.replies.proofs.put_answer.Statement.{statement}
 use Rattle.replies.proofs.put_answer.Tie as tie
 
-cast-put-number : tie.Need-cast-put-number
-cast-put-number c = search needs
+sub-if3 : tie.Need-sub-if3
+sub-if3 c = search needs
 
-put-number-requires : tie.Need-put-number-requires
-put-number-requires c κs = tt
+lay-upto-six-requires : tie.Need-lay-upto-six-requires
+lay-upto-six-requires c κs = search needs
 
-put-verdict-requires : tie.Need-put-verdict-requires
-put-verdict-requires c κs = tt
+lay-judged-requires : tie.Need-lay-judged-requires
+lay-judged-requires c κs =
+    let lay-upto-six = c .before .before .before .lay-upto-six in
+    let if1 = c .before .before .before .before .before .before .before .if1 in
+    let args = c .before .before .before .before .before .before .before .before .before .args in
+    omega (arith, behind _ _ (lay-upto-six .ensures), decimal-short 5 (args .event .0) (if1 .taken))
 
-put-duty-requires : tie.Need-put-duty-requires
-put-duty-requires c κs = tt
-
-put-states-requires : tie.Need-put-states-requires
-put-states-requires c κs = tt
-
-slice-aggregate-put : tie.Need-slice-aggregate-put
-slice-aggregate-put c = search needs
-
-put-requires : tie.Need-put-requires
-put-requires c κs = tt
+same-length : tie.Need-same-length
+same-length c = search needs
 
 returns : tie.Need-returns
 returns c =
-    let put = c .before .before .put in
-    let at-put-states = c .before .before .before .before .before .before .before in
-    let put-states = at-put-states .put-states in
-    let put-duty = at-put-states .before .before .before .before .put-duty in
-    let at-put-verdict = at-put-states .before .before .before .before .before .before .before .before in
-    let put-verdict = at-put-verdict .put-verdict in
-    let put-number = at-put-verdict .before .before .before .before .put-number in
-    let args = at-put-verdict .before .before .before .before .before .before .before .args in
-    answered _ (args .event .0) (args .found) (put-number .ensures) (put-verdict .ensures) (put-duty .ensures) (put-states .ensures)
-    (put .ensures)
+    let lay-judged = c .before .before .lay-judged in
+    let lay-upto-six = c .before .before .before .before .before .before .lay-upto-six in
+    let args = c .before .before .before .before .before .before .before .before .before .before .before .before .args in
+    answered _ (args .event .0) (args .found) (lay-upto-six .ensures) (lay-judged .ensures)
 
-same-length : tie.Need-same-length
-same-length c =
-    let halfway = c .before .before .before .before .before .before .before .before .before .before .before in
-    let args = halfway .before .before .before .before .before .before .before .before .before .before .before .args in
-    same-long (laid (args .at) (now (args .out))) (answerTexts (args .event .0) (args .found)) (returns c)
+put-parts-requires : tie.Need-put-parts-requires
+put-parts-requires c κs = search needs
+
+same-length-2 : tie.Need-same-length-2
+same-length-2 c = search needs
+
+returns-2 : tie.Need-returns-2
+returns-2 c = search needs
 
 pub put-answer-spec : {M : Type 1} → statement M
 put-answer-spec =
     tie.close
     (tie.spec
-    cast-put-number
-    put-number-requires
-    put-verdict-requires
-    put-duty-requires
-    put-states-requires
-    slice-aggregate-put
-    put-requires
+    sub-if3
+    lay-upto-six-requires
+    lay-judged-requires
     same-length
-    returns)
+    returns
+    put-parts-requires
+    same-length-2
+    returns-2)

@@ -3,7 +3,7 @@
 use Rattle.steps.specs.Steps.{noDuty, Home, Requester, lost, discarded}
 use borrow.Author.Needs.{needs}
 use Rattle.replies.specs.Replies.{dutyText}
-use Rattle.replies.proofs.Parts.{duty-is, duty-unknown}
+use Rattle.replies.proofs.Parts.{duty-is, no-name, duty-unknown}
 use Rattle.replies.proofs.put_duty.Statement.{statement}
 use Rattle.replies.proofs.put_duty.Tie as tie
 
@@ -90,7 +90,7 @@ returns-6 c =
     let if3 = at-if3 .if3 in
     let if2 = at-if3 .before .before .if2 in
     let if1 = at-if3 .before .before .before .before .if1 in
-    duty-unknown _ (if1 .left) (if2 .left) (if3 .left) (if4 .left) (if5 .left) (put6 .ensures)
+    duty-unknown _ _ (no-name _ (if1 .left) (if2 .left) (if3 .left) (if4 .left) (if5 .left)) (put6 .ensures)
 
 pub put-duty-spec : {M : Type 1} → statement M
 put-duty-spec =
