@@ -7,7 +7,7 @@ use Prim.Native.Nat.{ℕ, suc, _+_, _-_, _≤_, _<_, _^_, min}
 use native.Mathlib.Nat.{add-zero, zero-add, add-assoc, add-comm, le-of-eq, le-antisymm, add-sub-cancel-left, pos-of-ne-zero}
 use native.Mathlib.Numerals.{add-one}
 use native.Mathlib.Omega.{arith}
-use borrow.Author.Tests.{leb-true, leb-false, le-leb, lt-leb, lt-ltb, le-ltb, ltb-false, eq-eqb, ne-eqb, eqb-true}
+use borrow.Author.Tests.{ltb-true, leb-true, leb-false, le-leb, lt-leb, lt-ltb, le-ltb, ltb-false, eq-eqb, ne-eqb, eqb-true}
 use lib.Dec.{eqb, leb, ltb}
 use lib.ListN.{length, getD, set, take, drop, replicate, length-append, length-take, length-drop, length-set, length-replicate, take-append-drop}
 use lib.Seq.{drop-drop, drop-length, drop-at, take-at, take-add, take-all, take-length, getD-drop, paste, paste-suc, length-paste}
@@ -17,14 +17,16 @@ use Rattle.kinds.specs.Places.{setIn}
 use Rattle.verdicts.specs.Verdicts.{finding}
 use Rattle.verdicts.specs.declared.Finding.{Finding}
 use Rattle.trace.specs.Events.{moved}
-use Rattle.parser.specs.Parsed.{parsed}
+use Rattle.parser.specs.Parsed.{parsed, refusedParse}
 use Rattle.parser.specs.declared.ParsedLine.{ParsedLine}
+use Rattle.first_line.specs.First.{firstLine}
+use Rattle.first_line.specs.declared.FirstLine.{FirstLine}
 use Rattle.replies.specs.Laid.{Laid, laid, lay, layAll}
 use Rattle.replies.specs.Replies.{room, headerLine, answerLine, answerTexts, refusalTexts}
 use Rattle.replies.proofs.Laws.{length-in, answer-short, answer-laid, refusal-short, refusal-laid, header-laid, length-lay}
 use Rattle.lines.specs.Lines.{crlf}
-use Rattle.lines.specs.Seen.{tooLong, reach, lineEnd}
-use Rattle.lines.proofs.Parting.{reach-within}
+use Rattle.lines.specs.Seen.{tooLong, reach}
+use Rattle.lines.proofs.Parting.{reach-within, reach-all}
 use Rattle.sheet.specs.declared.Answered.{Answered}
 use Rattle.sheet.specs.declared.Eaten.{Eaten}
 use Rattle.sheet.specs.declared.Next.{Next}
@@ -34,7 +36,7 @@ use Rattle.sheet.specs.Sheet.{Told, told, refuse, header, longest, mostL
 use Rattle.sheet.specs.Pieces.{Held, held, nextLine, taken, whole, sure, ready, bite, eaten}
 use Rattle.sheet.specs.Turns.{wanted, answerWith, endedBy, nothingYet, Begun, begunWith, begun, inFront, carriedOf, turnLeft, turnLeftBy, turned}
 use Rattle.sheet.specs.Turns as turns
-use Rattle.sheet.specs.Code.{Answers, AnswersOn, Roomy, nextIn, EatLeft, eatLeft, eatLeftOf, ate, movedDown}
+use Rattle.sheet.specs.Code.{SaidBy, Answers, AnswersOn, Roomy, nextIn, EatLeft, eatLeft, eatLeftOf, ate, movedDown}
 use Rattle.sheet.proofs.Bites.{is-ready, size, eaten-bite, eaten-stuck, bite-ready, bite-less, taken-within, Rest, rest-short, eaten-rest, taken-off}
 
 -- a run in the middle of a piece: `taken` bytes are taken, and `put` bytes are put into the output buffer
@@ -190,26 +192,67 @@ module _ {ended : Bool} {piece out₀ : List ℕ} {h₀ : Held} {table out : Lis
       (subst (λ x. size x < size (now-held piece taken₀ put lines going table out)) bitten
       (bite-less ended (length out₀) (now-held piece taken₀ put lines going table out) (o .is-ready))))
 
--- the line that starts at an offset, from what was found
-pub next-seen : (ended : Bool) (lines : ℕ) (piece : List ℕ) (start end next : ℕ) (b : Bool)
-    → end ≡ lineEnd piece start → b ≡ crlf (drop end piece) → next ≡ end + cond b 2 0
+-- the line that starts at an offset, from what is the first line of the rest
+pub next-seen : (ended : Bool) (lines : ℕ) (piece : List ℕ) (start next : ℕ) (first : FirstLine)
+    → first ≡ firstLine ended (drop start piece) → next ≡ start + first .end + cond (first .whole) 2 0
     → record {
-      sure = b || (ltb tooLong (length piece - start) || (ended && (ltb 0 (length piece - start) || eqb lines 0)));
-      end = end;
+      sure = first .whole || (ltb tooLong (length piece - start) || (ended && (ltb 0 (length piece - start) || eqb lines 0)));
+      end = start + first .end;
       next = next;
+      line = first .line;
     } ≡ nextIn ended lines piece start
-unfolding lineEnd sure taken whole
-next-seen ended lines piece start end next b e f g =
-    ap₂ (λ (c : Bool) (n : ℕ). record { sure = c || (ltb tooLong n || (ended && (ltb 0 n || eqb lines 0))); end = end; next = next }) is-whole (sym (length-drop start piece))
-    ∙ ap₂ (λ (m n : ℕ). record { sure = sure ended lines (drop start piece); end = m; next = n }) e
-    (g ∙ ap₂ (λ (n : ℕ) (c : Bool). n + cond c 2 0) e is-whole ∙ add-assoc start (reach tooLong (drop start piece)) (cond (whole (drop start piece)) 2 0))
-  where
-    is-whole : b ≡ crlf (drop (reach tooLong (drop start piece)) (drop start piece))
-    is-whole = f ∙ ap (λ n. crlf (drop n piece)) e ∙ ap crlf (sym (drop-drop (reach tooLong (drop start piece)) start piece))
+unfolding firstLine sure taken whole
+next-seen ended lines piece start next first e g =
+    ap (λ (n : ℕ). record { sure = first .whole || (ltb tooLong (length piece - start) || (ended && (ltb 0 (length piece - start) || eqb lines 0))); end = start + first .end; next = n; line = first .line })
+    (g ∙ add-assoc start (first .end) (cond (first .whole) 2 0))
+    ∙ ap₂ (λ (f : FirstLine) (n : ℕ). record {
+      sure = f .whole || (ltb tooLong n || (ended && (ltb 0 n || eqb lines 0)));
+      end = start + f .end;
+      next = start + (f .end + cond (f .whole) 2 0);
+      line = f .line;
+    }) e (sym (length-drop start piece))
 
-pub end-within : (piece : List ℕ) (start : ℕ) → start ≤ length piece → lineEnd piece start ≤ length piece
-unfolding lineEnd
-end-within piece start h = omega (arith, h, subst (λ n. reach tooLong (drop start piece) ≤ n) (length-drop start piece) (reach-within tooLong (drop start piece)))
+-- what is left of a piece
+pub rest-of : (piece : List ℕ) (start : ℕ) → take (length piece - start) (drop start piece) ≡ drop start piece
+rest-of piece start = take-all (length piece - start) (drop start piece) (le-of-eq (length-drop start piece))
+
+pub first-within : (piece : List ℕ) (start : ℕ) (ended : Bool) (first : FirstLine) → start ≤ length piece → first ≡ firstLine ended (drop start piece)
+    → start + first .end ≤ length piece
+unfolding firstLine
+first-within piece start ended first h e =
+    omega (arith, h, ap (λ (f : FirstLine). f .end) e, subst (λ n. reach tooLong (drop start piece) ≤ n) (length-drop start piece) (reach-within tooLong (drop start piece)))
+
+-- if enough is known of a line that is not too long, it was parsed
+pub next-said : (ended : Bool) (lines : ℕ) (piece : List ℕ) (start : ℕ) (next : Next) → next ≡ nextIn ended lines piece start
+    → sure ended lines (drop start piece) ≡ true → SaidBy (take (next .end - start) (drop start piece)) (next .line)
+unfolding firstLine sure whole
+next-said ended lines piece start next e s k =
+    ap (λ (x : Next). x .line) e ∙ ap (λ (b : Bool). cond ((crlf (drop reached rest) || ended) && b) (parsed (nextLine rest)) (refusedParse 8)) short
+    ∙ go (crlf (drop reached rest)) refl ended s ∙ ap parsed (sym line)
+  where
+    rest : List ℕ
+    rest = drop start piece
+
+    reached : ℕ
+    reached = reach tooLong rest
+
+    line : take (next .end - start) rest ≡ nextLine rest
+    line = ap (λ n. take n rest) (ap (λ (x : Next). x .end - start) e ∙ add-sub-cancel-left start reached)
+
+    short : leb reached longest ≡ true
+    short = le-leb reached longest (omega (arith, k, ap length line, length-take reached rest, reach-within tooLong rest))
+
+    go : (w : Bool) → crlf (drop reached rest) ≡ w → (d : Bool) → w || (ltb tooLong (length rest) || (d && (ltb 0 (length rest) || eqb lines 0))) ≡ true
+        → cond ((w || d) && true) (parsed (nextLine rest)) (refusedParse 8) ≡ parsed (nextLine rest)
+    go true f d h = refl
+    go false f true h = refl
+    go false f false h =
+        let long = ltb-true tooLong (length rest) (or-false (ltb tooLong (length rest)) h) in
+        absurd (omega (arith, leb-true reached longest short, reach-all tooLong rest f))
+      where
+        or-false : (b : Bool) → b || false ≡ true → b ≡ true
+        or-false true h = refl
+        or-false false h = h
 
 -- a refusal does the same with any table
 pub refuse-on : {at : ℕ} {out out′ : List ℕ} {r : Answered} (number k : ℕ) (table : List ℕ)
@@ -354,6 +397,14 @@ pub roomy-here : {ended : Bool} {piece out₀ : List ℕ} {h₀ : Held} {table o
 roomy-here {ended} {piece} {out₀} {h₀} {table} {out} {taken} {put} {lines} {going} e f =
     let m = leb-true (length (take put out) + room) (length out₀) (is-ready ended (length out₀) (now-held piece taken put lines going table out) f .has-room) in
     omega (arith, m, length-front put out (e .fits), e .long)
+
+-- if the run is ready, the next line was parsed, unless it is too long
+pub said-here : {ended : Bool} {piece out₀ : List ℕ} {h₀ : Held} {table out : List ℕ} {taken put lines : ℕ} {going : Bool}
+    → Eating ended piece out₀ h₀ table out taken put lines going → (next : Next) → next ≡ nextIn ended lines piece taken
+    → ready ended (length out₀) (now-held piece taken put lines going table out) ≡ true
+    → SaidBy (take (next .end - taken) (drop taken piece)) (next .line)
+said-here {ended} {piece} {out₀} {h₀} {table} {out} {taken} {put} {lines} {going} e next n f =
+    next-said ended lines piece taken next n (is-ready ended (length out₀) (now-held piece taken put lines going table out) f .is-sure)
 
 -- the piece eaten, as the contract says
 pub eaten-all : {ended : Bool} {piece out₀ : List ℕ} {table₀ table out : List ℕ} {taken put lines₀ lines : ℕ} {going₀ going : Bool}

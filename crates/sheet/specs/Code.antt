@@ -5,8 +5,10 @@ use mathlib.Core.Bool.{Bool}
 use mathlib.Core.List.{List, _++_}
 use lib.ListN.{length, take, drop}
 use Rattle.event.specs.Refusals.{issueE, fault}
-use Rattle.lines.specs.Seen.{tooLong, reach}
+use Rattle.lines.specs.Seen.{longest, tooLong, reach}
 use Rattle.parser.specs.declared.ParsedLine.{ParsedLine}
+use Rattle.parser.specs.Parsed.{parsed}
+use Rattle.first_line.specs.First.{firstLine}
 use Rattle.sheet.specs.declared.Answered.{Answered}
 use Rattle.sheet.specs.declared.Next.{Next}
 use Rattle.sheet.specs.declared.Eaten.{Eaten}
@@ -30,16 +32,21 @@ pub record AnswersOn (t : Told) (out : List ℕ) (at : ℕ) (r : Answered) (out�
 abbrev pub NoFault : ParsedLine → Type 0
 NoFault line = line .refusal .0 ≡ 0 → fault issueE (line .event) ≡ 0
 
+-- what a line says, unless it is too long
+abbrev pub SaidBy : List ℕ → ParsedLine → Type 0
+SaidBy line said = length line ≤ longest → said ≡ parsed line
+
 -- there is room for the output of a line
 abbrev pub Roomy : List ℕ → ℕ → Type 0
 Roomy out at = at + room ≤ length out
 
--- the line that starts at an offset of a piece: whether enough of it is known, where it ends, and where the next one starts
+-- the line that starts at an offset of a piece: whether enough of it is known, where it ends, where the next one starts, and the line parsed
 abbrev pub nextIn : Bool → ℕ → List ℕ → ℕ → Next
 nextIn ended lines piece start = record {
   sure = sure ended lines (drop start piece);
   end = start + reach tooLong (drop start piece);
   next = start + taken (drop start piece);
+  line = firstLine ended (drop start piece) .line;
 }
 
 -- what `eat` leaves: its result, and the two buffers that it may write

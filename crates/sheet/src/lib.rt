@@ -14,7 +14,7 @@ ghost use lib.ListN.{length, replicate};
 ghost use Rattle.kinds.specs.Codes.{allStates};
 ghost use Rattle.sheet.specs.Sheet.{refuse, onHeader, onParsed, onLine, mostLines};
 ghost use Rattle.sheet.specs.Turns.{wanted, answerWith, begunWith, begun, turnLeft, turned};
-ghost use Rattle.sheet.specs.Code.{NoFault, Answers, AnswersOn, Roomy, nextIn, eatLeft, ate, movedDown};
+ghost use Rattle.sheet.specs.Code.{NoFault, SaidBy, Answers, AnswersOn, Roomy, nextIn, eatLeft, ate, movedDown};
 
 // With this many bytes held, the next line can be judged, whatever follows.
 const ENOUGH: usize = TOO_LONG + 1;
@@ -55,11 +55,12 @@ struct Answered {
     goes: bool,
 }
 
-// The next line of a piece: whether enough of it is known, where it ends, and where the line behind it starts.
+// The next line of a piece: whether enough of it is known, where it ends, where the line behind it starts, and the line parsed.
 struct Next {
     sure: bool,
     end: usize,
     next: usize,
+    line: ParsedLine,
 }
 
 // Writes the line of a refusal. The run ends.
@@ -122,9 +123,17 @@ fn judge_parsed(
     }
 }
 
-// Judges a line, given the number of lines before it.
-fn judge_line(lines: u32, line: &[u8], table: &mut [u8], out: &mut [u8], at: usize) -> Answered
+// Judges a line, given the number of lines before it. Unless it is too long, `parsed` is what it says.
+fn judge_line(
+    lines: u32,
+    line: &[u8],
+    parsed: ParsedLine,
+    table: &mut [u8],
+    out: &mut [u8],
+    at: usize,
+) -> Answered
     requires { ⌜ Roomy (now out) at ⌝ }
+    requires { ⌜ SaidBy (now line) parsed ⌝ }
     ensures { λ r. ⌜ AnswersOn (onLine lines (now (table .entry)) (now (line .entry)))
         (now (out .entry)) at r (now (out .exit)) (now (table .exit)) ⌝ }
 {
@@ -137,7 +146,7 @@ fn judge_line(lines: u32, line: &[u8], table: &mut [u8], out: &mut [u8], at: usi
     if LONGEST < line.len() {
         return refuse_line(Refusal::LINE, lines, out, at);
     }
-    judge_parsed(lines, parser::parse_line(line), table, out, at)
+    judge_parsed(lines, parsed, table, out, at)
 }
 
 // The offset behind a line: behind its CR LF if it has one.
@@ -153,13 +162,16 @@ fn next_line(piece: &[u8], start: usize, ended: bool, lines: u32) -> Next
     requires { ⌜ start ≤ length (now piece) ⌝ }
     ensures { λ r. ⌜ r ≡ nextIn ended lines (now (piece .entry)) start ⌝ }
 {
-    let end = lines::line_end(piece, start);
-    let whole = lines::ends_line(piece, end);
     let left = piece.len() - start;
+    let first = first_line::parse(&piece[start..], ended);
+    let line = first.line;
+    let whole = first.whole;
+    let end = start + first.end;
     Next {
         sure: whole | ((TOO_LONG < left) | (ended & ((0 < left) | (lines == 0)))),
         end,
         next: behind(whole, end),
+        line,
     }
 }
 
@@ -200,7 +212,8 @@ fn eat(
             };
         }
         let end = next.end;
-        let answered = judge_line(count, &piece[taken..end], table, out, put);
+        let line = next.line;
+        let answered = judge_line(count, &piece[taken..end], line, table, out, put);
         let goes = answered.goes;
         count = counted(count, goes);
         taken = next.next;

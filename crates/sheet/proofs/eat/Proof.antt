@@ -8,7 +8,7 @@ use denote.Ref.{now}
 use lib.ListN.{length}
 use Rattle.sheet.specs.declared.Next.{Next}
 use Rattle.sheet.specs.Pieces.{held}
-use Rattle.sheet.proofs.Laws.{Eating, eating-start, ready-test, next-end, roomy-here, counts-on, eaten-all, eating-less, eating-next}
+use Rattle.sheet.proofs.Laws.{Eating, eating-start, ready-test, next-end, roomy-here, said-here, counts-on, eaten-all, eating-less, eating-next}
 use Rattle.sheet.proofs.eat.Statement.{statement}
 use Rattle.sheet.proofs.eat.Tie as tie
 
@@ -44,46 +44,45 @@ returns c =
 
 sub-judge-line : tie.Need-sub-judge-line Inv-loop μ-loop
 sub-judge-line c =
-    let next-line = c .before .next-line in
-    let loop = c .before .before .loop in
-    let args = c .before .before .before .before .before .before .args in
+    let next-line = c .before .before .next-line in
+    let loop = c .before .before .before .loop in
+    let args = c .before .before .before .before .before .before .before .args in
     next-end (args .ended) (loop .count) (loop .taken) (now (args .piece)) (next-line .result) (loop .inv .inside) (next-line .ensures) .0
 
 part-judge-line-start : tie.Need-part-judge-line-start Inv-loop μ-loop
 part-judge-line-start c =
-    let next-line = c .before .next-line in
-    let loop = c .before .before .loop in
-    let args = c .before .before .before .before .before .before .args in
+    let next-line = c .before .before .next-line in
+    let loop = c .before .before .before .loop in
+    let args = c .before .before .before .before .before .before .before .args in
     next-end (args .ended) (loop .count) (loop .taken) (now (args .piece)) (next-line .result) (loop .inv .inside) (next-line .ensures) .0
 
 part-judge-line-end : tie.Need-part-judge-line-end Inv-loop μ-loop
 part-judge-line-end c =
-    let next-line = c .before .next-line in
-    let loop = c .before .before .loop in
-    let args = c .before .before .before .before .before .before .args in
+    let next-line = c .before .before .next-line in
+    let loop = c .before .before .before .loop in
+    let args = c .before .before .before .before .before .before .before .args in
     next-end (args .ended) (loop .count) (loop .taken) (now (args .piece)) (next-line .result) (loop .inv .inside) (next-line .ensures) .1
 
 judge-line-requires : tie.Need-judge-line-requires Inv-loop μ-loop
 judge-line-requires c κs =
-    let if1 = c .before .before .before .if1 in
-    let next-line = c .before .before .before .before .next-line in
-    let loop = c .before .before .before .before .before .loop in
-    roomy-here (loop .inv)
-    (sym (ready-test (next-line .result .sure) (loop .inv) (ap (λ (x : Next). x .sure) (next-line .ensures))) ∙ not-false _ (if1 .left))
+    let if1 = c .before .before .before .before .if1 in
+    let loop = c .before .before .before .before .before .before .loop in
+    let next-line = c .before .before .before .before .before .next-line in
+    let ready = sym (ready-test (next-line .result .sure) (loop .inv) (ap (λ (x : Next). x .sure) (next-line .ensures))) ∙ not-false _ (if1 .left) in
+    (roomy-here (loop .inv) ready, said-here (loop .inv) (next-line .result) (next-line .ensures) ready)
 
 counted-requires : tie.Need-counted-requires Inv-loop μ-loop
-counted-requires c κs =
+counted-requires c κs = λ g.
     let judge-line = c .before .before .before .before .judge-line in
-    let loop = c .before .before .before .before .before .before .before .before .before .before .loop in
-    λ g. counts-on (loop .count) (loop .table) _ (judge-line .ensures) g
+    let loop = c .before .before .before .before .before .before .before .before .before .before .before .loop in
+    counts-on (loop .count) (loop .table) _ (judge-line .ensures) g
 
 loop-less : tie.Need-loop-less Inv-loop μ-loop
 loop-less c =
     let judge-line = c .before .before .before .before .before .judge-line in
-    let at-if1 = c .before .before .before .before .before .before .before .before .before in
-    let if1 = at-if1 .if1 in
-    let next-line = at-if1 .before .next-line in
-    let loop = at-if1 .before .before .loop in
+    let if1 = c .before .before .before .before .before .before .before .before .before .before .if1 in
+    let loop = c .before .before .before .before .before .before .before .before .before .before .before .before .loop in
+    let next-line = c .before .before .before .before .before .before .before .before .before .before .before .next-line in
     let ready = sym (ready-test (next-line .result .sure) (loop .inv) (ap (λ (x : Next). x .sure) (next-line .ensures))) ∙ not-false _ (if1 .left) in
     eating-less (loop .inv)
     (record { is-ready = ready; is-next = next-line .ensures; answered = judge-line .ensures; counted = c .counted .ensures })
@@ -91,10 +90,9 @@ loop-less c =
 loop-again : tie.Need-loop-again Inv-loop μ-loop
 loop-again c =
     let judge-line = c .before .before .before .before .before .judge-line in
-    let at-if1 = c .before .before .before .before .before .before .before .before .before in
-    let if1 = at-if1 .if1 in
-    let next-line = at-if1 .before .next-line in
-    let loop = at-if1 .before .before .loop in
+    let if1 = c .before .before .before .before .before .before .before .before .before .before .if1 in
+    let loop = c .before .before .before .before .before .before .before .before .before .before .before .before .loop in
+    let next-line = c .before .before .before .before .before .before .before .before .before .before .before .next-line in
     let ready = sym (ready-test (next-line .result .sure) (loop .inv) (ap (λ (x : Next). x .sure) (next-line .ensures))) ∙ not-false _ (if1 .left) in
     eating-next (loop .inv)
     (record { is-ready = ready; is-next = next-line .ensures; answered = judge-line .ensures; counted = c .counted .ensures })

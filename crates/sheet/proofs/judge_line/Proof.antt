@@ -53,12 +53,14 @@ returns-3 c =
     let args = c .before .before .before .before .before .before .before .before .before .before .args in
     line-too-long (args .lines) (now (args .line)) (now (args .table)) (if1 .left) (if2 .left) (if3 .taken) (refuse-line2 .ensures)
 
-parse-line-requires : tie.Need-parse-line-requires
-parse-line-requires c κs = search needs
-
 judge-parsed-requires : tie.Need-judge-parsed-requires
 judge-parsed-requires c κs =
-    (c .before .before .before .before .before .before .before .before .before .pre, (positive (c .before .before .before .before .before .before .before .before .before .args .lines) (c .before .before .before .before .before .if1 .left), (omega (arith, c .before .before .before .before .if2 .left), parse-no-fault (now (c .before .before .before .before .before .before .before .before .before .args .line)) (c .before .before .parse-line .result) (c .before .before .parse-line .ensures))))
+    let if3 = c .before .before .if3 in
+    let if2 = c .before .before .before .if2 in
+    let if1 = c .before .before .before .before .if1 in
+    let pre = c .before .before .before .before .before .before .before .before .pre in
+    let args = c .before .before .before .before .before .before .before .before .args in
+    (pre .0, (positive (args .lines) (if1 .left), (omega (arith, (if2 .left)), parse-no-fault (now (args .line)) (args .parsed) (pre .1 (if3 .left)))))
 
 same-length-4 : tie.Need-same-length-4
 same-length-4 c = search needs
@@ -69,14 +71,13 @@ same-length-5 c = search needs
 returns-4 : tie.Need-returns-4
 returns-4 c =
     let judge-parsed = c .before .before .before .before .judge-parsed in
-    let parse-line = c .before .before .before .before .before .before .before .parse-line in
-    let if3 = c .before .before .before .before .before .before .before .before .if3 in
-    let if2 = c .before .before .before .before .before .before .before .before .before .if2 in
-    let at-if1 = c .before .before .before .before .before .before .before .before .before .before in
-    let if1 = at-if1 .if1 in
-    let args = at-if1 .before .before .before .before .args in
-    line-read (args .lines) (now (args .line)) (now (args .table)) (parse-line .result) (if1 .left) (if2 .left) (if3 .left) (parse-line .ensures)
-    (judge-parsed .ensures)
+    let if3 = c .before .before .before .before .before .before .before .if3 in
+    let if2 = c .before .before .before .before .before .before .before .before .if2 in
+    let if1 = c .before .before .before .before .before .before .before .before .before .if1 in
+    let args = c .before .before .before .before .before .before .before .before .before .before .before .before .before .args in
+    let pre = c .before .before .before .before .before .before .before .before .before .before .before .before .before .pre in
+    line-read (args .lines) (now (args .line)) (now (args .table)) (args .parsed) (if1 .left) (if2 .left) (if3 .left)
+    (pre .1 (if3 .left)) (judge-parsed .ensures)
 
 pub judge-line-spec : {M : Type 1} → statement M
 judge-line-spec =
@@ -92,7 +93,6 @@ judge-line-spec =
     refuse-line-requires-2
     same-length-3
     returns-3
-    parse-line-requires
     judge-parsed-requires
     same-length-4
     same-length-5

@@ -1,41 +1,66 @@
--- `sheet::next_line` meets its contract: where the line ends, and whether enough is known of it.
+-- `sheet::next_line` meets its contract: the first line of what is left of the piece, and whether enough is known of it.
 -- Assumes nothing.
-use mathlib.Core.Path.{sym, subst}
-use Prim.Native.Nat.{_≤_}
-use native.Mathlib.Omega.{arith}
+use mathlib.Core.Path.{_∙_, ap}
 use denote.Ref.{now}
-use lib.ListN.{length}
-use Rattle.sheet.proofs.Laws.{end-within, next-seen}
+use Rattle.first_line.specs.First.{firstLine}
+use Rattle.sheet.proofs.Laws.{first-within, next-seen, rest-of}
 use borrow.Author.Needs.{needs}
 use Rattle.sheet.proofs.next_line.Statement.{statement}
 use Rattle.sheet.proofs.next_line.Tie as tie
 
-line-end-requires : tie.Need-line-end-requires
-line-end-requires c κs = search needs
-
-ends-line-requires : tie.Need-ends-line-requires
-ends-line-requires c κs = search needs
-
 sub-left : tie.Need-sub-left
 sub-left c = search needs
 
+sub-parse : tie.Need-sub-parse
+sub-parse c = search needs
+
+part-parse-start : tie.Need-part-parse-start
+part-parse-start c = search needs
+
+part-parse-end : tie.Need-part-parse-end
+part-parse-end c = search needs
+
+parse-requires : tie.Need-parse-requires
+parse-requires c κs = search needs
+
+add-end : tie.Need-add-end
+add-end c =
+    let pre = c .before .before .before .before .before .pre in
+    let args = c .before .before .before .before .before .args in
+    let parse = c .before .before .parse in
+    search (
+      needs,
+      first-within (now (args .piece)) (args .start) (args .ended) (parse .result) pre
+          (parse .ensures ∙ ap (firstLine (args .ended)) (rest-of (now (args .piece)) (args .start))),
+    )
+
 behind-requires : tie.Need-behind-requires
 behind-requires c κs =
-    let start = c .before .before .before in
-    let args = start .args in
-    let good = start .good in
-    let pre = start .pre in
-    omega
-    (arith, good .0 .1, subst (λ n. n ≤ length (now (args .piece))) (sym (c .before .line-end .ensures)) (end-within (now (args .piece)) (args .start) pre))
+    let pre = c .before .before .before .before .before .pre in
+    let args = c .before .before .before .before .before .args in
+    let parse = c .before .before .parse in
+    search (
+      needs,
+      first-within (now (args .piece)) (args .start) (args .ended) (parse .result) pre
+          (parse .ensures ∙ ap (firstLine (args .ended)) (rest-of (now (args .piece)) (args .start))),
+    )
 
 returns : tie.Need-returns
 returns c =
-    let ends-line = c .before .ends-line in
-    let line-end = c .before .before .line-end in
-    let args = c .before .before .before .before .args in
-    next-seen (args .ended) (args .lines) (now (args .piece)) (args .start) (line-end .result) (c .behind .result) (ends-line .result)
-    (line-end .ensures) (ends-line .ensures) (c .behind .ensures)
+    let args = c .before .before .before .before .before .before .args in
+    let parse = c .before .before .before .parse in
+    next-seen (args .ended) (args .lines) (now (args .piece)) (args .start) (c .behind .result) (parse .result)
+    (parse .ensures ∙ ap (firstLine (args .ended)) (rest-of (now (args .piece)) (args .start))) (c .behind .ensures)
 
 pub next-line-spec : {M : Type 1} → statement M
 next-line-spec =
-    tie.close (tie.spec line-end-requires ends-line-requires sub-left behind-requires returns)
+    tie.close
+    (tie.spec
+    sub-left
+    sub-parse
+    part-parse-start
+    part-parse-end
+    parse-requires
+    add-end
+    behind-requires
+    returns)
