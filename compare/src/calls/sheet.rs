@@ -3,16 +3,19 @@
 use crate::calls::words::{counts_of, EVENTS, REFUSALS};
 use crate::cases::draw::Draw;
 use crate::cases::kinds::{Case, Cases};
+use crate::cases::sheet_cuts::{cuts_before_the_end, first_cut};
 use crate::cases::sheet_pairs::SMALL_PIECE;
 use crate::cases::sheets::sheets;
 use crate::definition::sheet::{answer, lines};
 use crate::definition::values::Definition;
-use crate::running::arrival::Arrival;
+use crate::running::arrival::{Arrival, LONGEST_PIECE};
 use crate::running::call::{Call, Feeding, Right};
 use crate::running::report::shown;
 
 /// The most bytes of a sheet that arrives in small pieces.
 const SMALL: usize = 4_096;
+/// The most bytes of the pieces of each length.
+const LONGEST_EVEN: usize = 400;
 
 /// The call of a bench sheet: the whole input is answered with the whole output.
 pub const CALL: Call = Call {
@@ -45,15 +48,33 @@ fn arrivals(cases: &Cases, number: u64, case: &Case, once: bool) -> Vec<Arrival>
     let whole = if borders || number % 4 == 0 { Arrival::File } else { Arrival::Pipe };
     let any = Arrival::AnyPieces(Draw::new(cases.seed, number).next());
     let small = case.input.len() <= SMALL;
+    let (header, end) = (cases.definition.header.len(), case.input.len());
     let mut arrivals = match kind {
-        "every pair" | "a million lines" => vec![whole],
+        "every pair" | "a million drawn" | "a million lines" => vec![whole],
+        "cut at every byte" => (header..=end).map(Arrival::Cut).collect(),
+        "cut twice" => {
+            let first = first_cut(&cases.definition);
+            (first..=end).map(|second| Arrival::CutTwice(first, second)).collect()
+        }
+        "even pieces" => (1..=LONGEST_EVEN).map(Arrival::Pieces).collect(),
+        "ends in lines" => {
+            let (first, second) = cuts_before_the_end(&cases.definition, &case.input);
+            vec![whole, Arrival::CutTwice(first, second)]
+        }
+        // One of twenty is cut anywhere, and one of twenty arrives in pieces of any length.
+        "damaged bytes" | "damaged fields" | "damaged names" | "byte values" => match number % 20 {
+            3 => vec![whole, Arrival::Cut(header + Draw::new(cases.seed, number).place(end - header))],
+            15 => vec![whole, any],
+            _ => vec![whole],
+        },
         "drawn" | "drawn, damaged" | "anything" => vec![whole, any],
         "the example" => vec![Arrival::Pipe, Arrival::File, Arrival::Pieces(1), Arrival::Pieces(SMALL_PIECE)],
         _ if small => vec![whole, Arrival::Pieces(1), Arrival::Pieces(SMALL_PIECE)],
-        _ => vec![whole, Arrival::Pieces(4_095)],
+        _ => vec![whole, Arrival::Pieces(LONGEST_PIECE)],
     };
-    let one_line = kind == "names not known" || kind == "each byte value";
-    if number % 5 == 0 && arrivals.len() > 1 && !arrivals.contains(&any) && !one_line {
+    let without_any = ["names not known", "each byte value", "cut at every byte", "cut twice", "even pieces", "ends in lines"];
+    let without_any = [&without_any[..], &["damaged bytes", "damaged fields", "damaged names", "byte values"]].concat();
+    if number % 5 == 0 && arrivals.len() > 1 && !arrivals.contains(&any) && !without_any.contains(&kind) {
         arrivals.push(any);
     }
     match once {

@@ -3,13 +3,15 @@
 use crate::calls::all::{call, CALLS};
 use crate::calls::{answers, capture, event, sheet, trace};
 use crate::cases::kinds::{Case, Cases};
+use crate::cases::lines::Form;
 use crate::cases::sheet_pairs::SMALL_PIECE;
+use crate::cases::text::fields_of;
 use crate::cases::wire::{event_record, handed_over, lent_in, question_in, question_record, trace_case, trace_rooms};
 use crate::definition;
 use crate::definition::answers::{list, list_in_words, question_in_words};
 use crate::definition::codes::{byte, DERR, EXPLAINED};
 use crate::definition::event::{alone, has_a_step};
-use crate::definition::sheet::{each_event, lines};
+use crate::definition::sheet::{each_event, lines, CRLF};
 use crate::definition::trace::{event_of, judge, Lent};
 use crate::definition::values::Definition;
 use crate::running::arrival::Arrival;
@@ -75,6 +77,16 @@ const MIX: &[(&str, &str, &[(&str, u64)])] = &[
         ("discarded", 50)]),
     ("sheet", "drawn, damaged", &[("accepted", 2), ("refused 3", 1), ("refused 6", 8), ("refused 7", 3), ("refused 8", 60)]),
     ("sheet", "anything", &[("accepted", 5), ("refused 6", 20), ("refused 8", 20)]),
+    ("sheet", "cut at every byte", &[("accepted", 100), ("explained", 1_000), ("unexplained", 500), ("Home", 200), ("Requester", 100)]),
+    ("sheet", "cut twice", &[("accepted", 100), ("explained", 300), ("unexplained", 300)]),
+    ("sheet", "even pieces", &[("accepted", 100), ("explained", 1_500), ("Home", 200), ("Requester", 200)]),
+    ("sheet", "ends in lines", &[("accepted", 1), ("refused 8", 95), ("explained", 200), ("unexplained", 200)]),
+    ("sheet", "damaged bytes", &[("accepted", 1), ("refused 3", 0), ("refused 7", 0), ("refused 8", 95)]),
+    ("sheet", "damaged fields", &[("accepted", 6), ("refused 7", 0), ("refused 8", 90)]),
+    ("sheet", "damaged names", &[("accepted", 1), ("refused 8", 95)]),
+    ("sheet", "byte values", &[("accepted", 4), ("refused 3", 1), ("refused 8", 90)]),
+    ("sheet", "a million drawn", &[("accepted", 50), ("refused 7", 50), ("explained", 80_000_000), ("unexplained", 500_000),
+        ("not judged", 5_000_000), ("Home", 500_000), ("Requester", 500_000), ("lost", 500_000), ("discarded", 200_000)]),
     ("sheet", "every pair", &[("accepted", 100), ("explained", 5_000_000), ("unexplained", 2_000_000), ("Home", 2_000_000)]),
     ("capture", "pair numbers", &[("accepted", 100), ("unexplained", 100_000), ("Home", 100_000), ("not judged", 100)]),
     ("capture", "pairs alike in part", &[("accepted", 100), ("explained", 100_000), ("unexplained", 50), ("Home", 100)]),
@@ -225,7 +237,8 @@ fn cases_are_repeatable() {
     for call in CALLS {
         let (one, two) = (few(call, 1), few(call, 2));
         assert_eq!(one.total(), two.total());
-        let drawn = one.kinds.len() - if call.name == "sheet" { 3 } else { 1 };
+        let anything = one.kinds.iter().position(|kind| call.name == "sheet" && kind.name == "anything");
+        let drawn = anything.unwrap_or(one.kinds.len() - 1);
         let first = one.first(drawn);
         let others = (first..first + 10).filter(|number| one.case(*number).input != two.case(*number).input);
         assert!(others.count() > 5, "{}", call.name);
@@ -510,6 +523,123 @@ fn pairs_of_five_digits_come_up() {
     assert_eq!(parted, (0..=5).collect());
 }
 
+/// The place of a line's beginning in a sheet, by the line's number from 0 on.
+fn place_of_line(sheet: &[u8], n: usize) -> usize {
+    lines(sheet)[..n].iter().map(|line| line.len() + CRLF.len()).sum()
+}
+
+/// Sheets that are cut at every byte have every name of every column, and pairs of all lengths, in good lines with 300 bytes on both sides.
+/// They are cut at every byte from the header's end on, and those that are cut twice at every byte behind the first cut.
+#[test]
+fn good_lines_are_cut_at_every_byte() {
+    let sheets = few(&sheet::CALL, 1);
+    let Feeding::RunEach(arrivals) = sheet::CALL.feeding else { panic!("a run each") };
+    let form = Form::new(&sheets.definition);
+    let mut came: BTreeSet<(usize, Vec<u8>)> = BTreeSet::new();
+    let (mut digits, mut lengths) = (BTreeSet::new(), BTreeSet::new());
+    for kind in ["cut at every byte", "cut twice"] {
+        for case in sheets.of_kind(kind) {
+            let all = lines(&case.input);
+            for (n, line) in all.iter().enumerate().skip(1) {
+                let begin = place_of_line(&case.input, n);
+                if begin >= 300 && begin + line.len() + 300 <= case.input.len() {
+                    let fields = fields_of(line);
+                    digits.insert(fields[0].len());
+                    lengths.insert(line.len());
+                    came.extend(fields.into_iter().enumerate().skip(1));
+                }
+            }
+            let cuts: Vec<(Option<usize>, usize)> = arrivals(&sheets, 0, &case, false)
+                .into_iter()
+                .map(|way| match way {
+                    Arrival::Cut(place) => (None, place),
+                    Arrival::CutTwice(first, second) => (Some(first), second),
+                    other => panic!("{other:?} is no cut"),
+                })
+                .collect();
+            let (first, header) = (cuts[0].0, sheets.definition.header.len());
+            let begin = first.unwrap_or(header);
+            assert_eq!(cuts, (begin..=case.input.len()).map(|place| (first, place)).collect::<Vec<_>>(), "{}", case.how);
+            assert!((900..2_000).contains(&case.input.len()), "{} bytes", case.input.len());
+            assert!(first.is_none_or(|first| first > header && first + 600 < case.input.len()));
+        }
+    }
+    let columns = form.columns().into_iter().enumerate().skip(1);
+    let names = columns.flat_map(|(n, column)| form.names(column).into_iter().map(move |name| (n, name.as_bytes().to_vec())));
+    assert_eq!((came, digits), (names.collect(), (1..=5).collect()));
+    let ends = [form.of_length(0), form.of_length(160)].map(|line| Some(line.len()));
+    assert_eq!([lengths.first().copied(), lengths.last().copied()], ends);
+}
+
+/// Sheets of some 2,000 bytes arrive in pieces of each length up to 400, and others end at every byte of a line.
+#[test]
+fn pieces_and_ends_of_each_length() {
+    let sheets = few(&sheet::CALL, 1);
+    let Feeding::RunEach(arrivals) = sheet::CALL.feeding else { panic!("a run each") };
+    for case in sheets.of_kind("even pieces") {
+        assert!((1_900..2_400).contains(&case.input.len()), "{} bytes", case.input.len());
+        assert_eq!(arrivals(&sheets, 0, &case, false), (1..=400).map(Arrival::Pieces).collect::<Vec<_>>());
+    }
+    let mut ends: BTreeSet<(usize, Option<usize>, bool)> = BTreeSet::new();
+    for case in sheets.of_kind("ends in lines") {
+        let all = lines(&case.input);
+        // The lines before the last one are as long as it is as a whole.
+        ends.insert((all[1].len(), all.get(6).map(|line| line.len()), case.input.ends_with(CRLF)));
+        let pieces = arrivals(&sheets, 1, &case, false)[1].pieces(&case.input).into_iter().map(<[u8]>::len).collect::<Vec<_>>();
+        let [two, five] = [2, 5].map(|n| place_of_line(&case.input, n)..place_of_line(&case.input, n) + all[n].len() + CRLF.len());
+        assert!(two.contains(&pieces[0]) && five.contains(&(pieces[0] + pieces[1])), "{}", case.how);
+    }
+    let widths: BTreeSet<usize> = ends.iter().map(|(width, _, _)| *width).collect();
+    assert_eq!(widths.len(), 5);
+    let (least, most) = (widths.first().copied().unwrap_or(0), widths.last().copied().unwrap_or(0));
+    assert!(least < 50 && most > 100 && widths.contains(&sheets.definition.header.len()), "{widths:?}");
+    for width in widths {
+        let with_crlf = (0..=width).map(Some).all(|end| ends.contains(&(width, end, true)));
+        let without = (1..=width).map(Some).all(|end| ends.contains(&(width, end, false)));
+        assert!(with_crlf && without && ends.contains(&(width, None, true)), "{width}");
+    }
+}
+
+/// A damaged line has 300 bytes behind it, and each name of each column stands in some that is good.
+#[test]
+fn damaged_lines_have_many_bytes_behind() {
+    let sheets = few(&sheet::CALL, 1);
+    let form = Form::new(&sheets.definition);
+    let mut good: BTreeSet<(usize, Vec<u8>)> = BTreeSet::new();
+    for kind in ["damaged bytes", "damaged fields", "damaged names", "byte values"] {
+        for case in sheets.of_kind(kind) {
+            let all = lines(&case.input);
+            let behind = place_of_line(&case.input, 2) + all[2].len().min(160) + 300;
+            assert!(behind <= case.input.len(), "{}", case.how);
+            if kind == "damaged names" && definition::sheet::answer(&sheets.definition, &case.input).refusal.is_none() {
+                good.extend(fields_of(all[2]).into_iter().enumerate().skip(1));
+            }
+        }
+    }
+    let columns = form.columns().into_iter().enumerate().skip(1);
+    let names = columns.flat_map(|(n, column)| form.names(column).into_iter().map(move |name| (n, name.as_bytes().to_vec())));
+    assert_eq!(good, names.collect());
+}
+
+/// Sheets of a million drawn events have pairs of all lengths and many events of every name; one event more is refused with 7.
+#[test]
+fn a_million_drawn_events() {
+    let sheets = few(&sheet::CALL, 1);
+    let form = Form::new(&sheets.definition);
+    let names: usize = form.columns().into_iter().skip(1).map(|column| form.names(column).len()).sum();
+    for (n, case) in sheets.of_kind("a million drawn").enumerate() {
+        let told = definition::sheet::answer(&sheets.definition, &case.input);
+        assert_eq!((told.told.len(), told.refusal), (1_000_000, [None, Some((7, 1_000_002))][n]));
+        let (mut digits, mut came) = (BTreeSet::new(), BTreeSet::new());
+        for line in lines(&case.input)[1..].iter().step_by(7) {
+            let fields: Vec<&[u8]> = line.split(|byte| *byte == b',').collect();
+            digits.insert(fields[0].len());
+            came.extend(fields.into_iter().enumerate().skip(1));
+        }
+        assert_eq!((digits, came.len()), ((1..=5).collect(), names));
+    }
+}
+
 /// The path of a sample.
 fn sample(name: &str) -> PathBuf {
     Path::new(env!("CARGO_MANIFEST_DIR")).join("../samples").join(name)
@@ -583,9 +713,10 @@ fn ways_to_arrive() {
         assert!(once.len() == 1 && arrivals(&sheets, number, &case, false).contains(&once[0]));
         let borders = sheets.kinds[case.kind].name == "borders of reads";
         assert!(!borders || once == [Arrival::File], "{}", case.how);
-        ways.insert((borders, once[0].name()));
+        ways.insert((borders, once[0].counted()));
     }
-    assert_eq!(ways.len(), 6 + 1, "{ways:?}");
+    // Few sheets arrive in pieces of other lengths.
+    assert!(ways.len() > 8, "{ways:?}");
     let Feeding::RunEach(arrivals) = capture::CALL.feeding else { panic!("a run each") };
     let empty = Case { kind: 0, how: String::new(), input: vec![] };
     assert_eq!(arrivals(&captures, 1, &empty, false).len(), 4);

@@ -31,6 +31,9 @@ pub const PAIR_FIELDS: &str = "0 1 9 10 11 99 100 255 256 999 1000 1001 1023 204
     1e3 0x1 / 1/ /1 : 1: :1 ? - 1_0 1,0 '1 \"1\" 6553a 655a5 a5535 6553/ 6553: -6553 +65535 -65535 65.535 65,535 6_5535 \
     0xffff \"65535\" 12345678901234567890123456789012345678901 \u{ff11} 6553\u{ff15}";
 
+/// How many bytes of good lines stand at least behind a line that has many behind it.
+pub const AT_HAND: usize = 320;
+
 /// Some pair numbers of each length.
 const PAIRS: [&str; 6] = ["0", "7", "16", "255", "4095", "65535"];
 
@@ -162,6 +165,34 @@ impl<'a> Form<'a> {
     /// The sheet of a line between two good ones.
     pub fn between(&self, line: &[u8]) -> Vec<u8> {
         self.sheet(&[self.before(), line.to_vec(), self.after()])
+    }
+
+    /// The sheet of some bytes in the place of a line and its CRLF, with many good lines behind it.
+    pub fn amid(&self, ended: &[u8], behind: &[Vec<u8>]) -> Vec<u8> {
+        let mut sheet = [&self.sheet(&[self.before()])[..], ended].concat();
+        let begin = sheet.len();
+        let lines = behind.iter().cloned().chain([self.after(), self.of_length(0), self.before()].into_iter().cycle());
+        for line in lines {
+            if sheet.len() - begin >= AT_HAND {
+                break;
+            }
+            sheet.extend([&line, CRLF].concat());
+        }
+        sheet
+    }
+
+    /// Good lines of each kind, each with what it is: the longest, the shortest, and two that are explained, one of which forwards.
+    pub fn typical(&self) -> Vec<(&'static str, Vec<u8>)> {
+        let fwded: [(&str, &[u8]); 3] = [("response", b"SnpResp_SC_Fwded_SC"), ("forward", b"CompData_SC"), ("fwdErr", b"DERR")];
+        let pair = (self.definition.most_pairs - 1).to_string();
+        let forwards = [&[("pair", pair.as_bytes()), ("request", b"SnpCleanFwd"), ("tag", b"Clean"), ("final", b"I")], &fwded[..]].concat();
+        let data: &[(&str, &[u8])] = &[("response", b"SnpRespData_SC_PD"), ("TagOp", b"Transfer"), ("final", b"SC"), ("tag", b"?")];
+        vec![
+            ("the longest", self.of_length(self.definition.longest_line)),
+            ("the shortest", self.of_length(0)),
+            ("one that forwards", self.plain_with(&forwards)),
+            ("a plain one", self.plain_with(&[&[("pair", &b"1234"[..]), ("RetToSrc", b"1")], data].concat())),
+        ]
     }
 }
 

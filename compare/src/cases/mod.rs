@@ -11,6 +11,8 @@ pub mod limits;
 pub mod lines;
 pub mod near;
 pub mod questions;
+pub mod sheet_cuts;
+pub mod sheet_damage;
 pub mod sheet_draws;
 pub mod sheet_pairs;
 pub mod sheets;

@@ -7,7 +7,7 @@ use crate::cases::drawn::{explained_event, lively_pair};
 use crate::cases::kinds::{Gathered, Made};
 use crate::cases::lines::{without_crlf, Form, OTHER_ENDS, OTHER_REQUESTS, PAIR_FIELDS};
 use crate::cases::text::{fields_of, line_of};
-use crate::definition::codes::ALL_STATES;
+use crate::definition::codes::{ALL_STATES, NOTHING};
 use crate::definition::sheet::{Reader, CRLF};
 use crate::definition::steps::step;
 use crate::definition::values::{Definition, PAIRS_BEFORE_Q6};
@@ -61,6 +61,11 @@ fn any_line(form: &Form, draw: &mut Draw, pair: usize, set: u8, strays: u64) -> 
 fn good_lines(form: &Form, draw: &mut Draw, shape: &Shape, pairs: &[usize]) -> Vec<Vec<u8>> {
     let mut order = Draw::new(draw.next(), 0);
     lines_of_pairs(form, draw, shape, |_, table| lively_pair(&mut order, pairs, table))
+}
+
+/// So many lines without damage that have this length, each of any of some pairs.
+pub fn lines_of_width(form: &Form, draw: &mut Draw, width: usize, lines: usize, pairs: &[usize]) -> Vec<Vec<u8>> {
+    good_lines(form, draw, &Shape { lines, strays: 0, width: Some(width) }, pairs)
 }
 
 /// Some pairs, of few digits as often as of many.
@@ -361,4 +366,60 @@ pub fn most_lines(definition: &Definition, number: u64) -> Made {
     }
     sheet.extend(last);
     (how.to_string(), sheet)
+}
+
+/// How many sheets there are of as many events as there can be, or one more, drawn at random.
+pub const DRAWN_MOST: u64 = 2;
+
+/// How many lines are drawn for each set beside those with every name, of which lines each pair that has the set gets any.
+const OF_EACH_SET: usize = 4_000;
+
+/// Lines of pair 0 that are drawn for a set: many that are explained, and one with every name of every column.
+fn lines_from(form: &Form, draw: &mut Draw, set: u8) -> Vec<Vec<u8>> {
+    let columns = form.columns();
+    let mut lines: Vec<Vec<u8>> = (0..OF_EACH_SET).map(|_| any_line(form, draw, 0, set, 0)).collect();
+    for (n, column) in columns.iter().enumerate().skip(1) {
+        for name in form.names(column) {
+            let mut fields = fields_of(&any_line(form, draw, 0, set, 0));
+            fields[n] = name.into();
+            let forward = columns.iter().position(|other| *other == "forward").expect("there is such a column");
+            // An error of the forward needs one.
+            if *column == "fwdErr" && (name == NOTHING || fields[forward] == NOTHING.as_bytes()) {
+                fields[forward] = if name == NOTHING { NOTHING.into() } else { b"CompData_SC".to_vec() };
+            }
+            form.agree_on_forward(&mut fields);
+            lines.push(line_of(&fields));
+        }
+    }
+    lines
+}
+
+/// One of these sheets, whose lines are good.
+pub fn drawn_most(definition: &Definition, draw: &mut Draw, number: u64) -> Made {
+    let (form, reader) = (Form::new(definition), Reader::new(definition));
+    // What stands after the pair in the lines that are drawn for a set, each with the set after it.
+    let mut drawn: Vec<Vec<(Vec<u8>, u8)>> = vec![Vec::new(); usize::from(ALL_STATES) + 1];
+    let rest_and_after = |line: Vec<u8>, set: u8| {
+        let (_, event) = reader.fields(&line).expect("a line without damage can be read");
+        (line[1..].to_vec(), step(definition, &event, set))
+    };
+    let mut table = vec![ALL_STATES; definition.most_pairs];
+    let mut sheet = definition.header.as_bytes().to_vec();
+    for _ in 0..definition.most_lines - 1 + number as usize {
+        // One of eight has few digits.
+        let pairs = if draw.one_in(8) { draw.one_of(&[10, 100, 1_000, 4_096]) } else { definition.most_pairs };
+        let pair = draw.place(pairs);
+        let set = table[pair];
+        let lines = &mut drawn[usize::from(set)];
+        if lines.is_empty() {
+            lines.extend(lines_from(&form, draw, set).into_iter().map(|line| rest_and_after(line, set)));
+        }
+        let (rest, after) = &lines[draw.place(lines.len())];
+        table[pair] = *after;
+        sheet.extend(CRLF);
+        sheet.extend(pair.to_string().as_bytes());
+        sheet.extend(rest);
+    }
+    sheet.extend(CRLF);
+    (["as many events as can be, drawn", "one event more than can be, drawn"][number as usize].to_string(), sheet)
 }

@@ -76,12 +76,12 @@ fn line_with(form: &Form, pair: &str, changes: &Changes) -> Vec<u8> {
 }
 
 /// A line that no Dirty pair can have, and that leaves its pair in I.
-fn to_i(form: &Form, pair: &str) -> Vec<u8> {
+pub fn to_i(form: &Form, pair: &str) -> Vec<u8> {
     line_with(form, pair, &[("request", b"SnpClean"), ("final", b"I")])
 }
 
 /// A line that only a pair in UD or SD can have, and that leaves it in SD.
-fn to_sd(form: &Form, pair: &str) -> Vec<u8> {
+pub fn to_sd(form: &Form, pair: &str) -> Vec<u8> {
     line_with(form, pair, &[("request", b"SnpClean"), ("response", b"SnpRespData_SD"), ("TagOp", b"Transfer")])
 }
 

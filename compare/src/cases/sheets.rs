@@ -2,7 +2,9 @@
 
 use crate::cases::kinds::{share, Cases, Gathered, Kind};
 use crate::cases::lines::{without_crlf, Form, OTHER_ENDS, OTHER_REQUESTS};
-use crate::cases::sheet_draws::{anything, borders, damaged, good, many_pairs, most_lines, MOST};
+use crate::cases::sheet_cuts::{cut_sheets, ends_in_lines, even_pieces, twice_cut_sheets};
+use crate::cases::sheet_damage::{byte_values, damaged_bytes, damaged_fields, damaged_names};
+use crate::cases::sheet_draws::{anything, borders, damaged, drawn_most, good, many_pairs, most_lines, DRAWN_MOST, MOST};
 use crate::cases::sheet_pairs::{cut_pairs, every_pair, pair_fields, pairs_after_others, EVERY_PAIR};
 use crate::cases::text::{fields_of, line_of, spoiled, spoiled_fields};
 use crate::definition::codes::NOTHING;
@@ -34,15 +36,27 @@ const SWEEPS: [(&str, Sweep); 18] = [
     ("many pairs", many_pairs),
 ];
 
+/// The kinds that come after the drawn ones, whose sheets are gathered too: good lines that are cut, and damage with many lines behind it.
+const LATER_SWEEPS: [(&str, Sweep); 8] = [
+    ("cut at every byte", cut_sheets),
+    ("cut twice", twice_cut_sheets),
+    ("even pieces", even_pieces),
+    ("ends in lines", ends_in_lines),
+    ("damaged bytes", damaged_bytes),
+    ("damaged fields", damaged_fields),
+    ("damaged names", damaged_names),
+    ("byte values", byte_values),
+];
+
 /// The cases of a bench sheet.
 pub fn sheets(definition: &Definition, seed: u64, random: u64) -> Cases {
     let mut gathered = Gathered::default();
     let form = Form::new(definition);
-    let swept = SWEEPS.map(|(name, sweep)| {
+    let mut swept = |(name, sweep): (&'static str, Sweep)| {
         sweep(&form, &mut gathered, seed);
         gathered.kind(name)
-    });
-    let mut kinds = Vec::from(swept);
+    };
+    let mut kinds = Vec::from(SWEEPS.map(&mut swept));
     kinds.extend([
         Kind::new("drawn", share(random, 4, 10), |d, draw, n| {
             // One of many lines and pairs among forty.
@@ -54,7 +68,11 @@ pub fn sheets(definition: &Definition, seed: u64, random: u64) -> Cases {
         }),
         Kind::new("drawn, damaged", share(random, 5, 10), |d, draw, _| damaged(d, draw)),
         Kind::new("anything", share(random, 1, 10), |d, draw, _| anything(d, draw)),
+    ]);
+    kinds.extend(LATER_SWEEPS.map(&mut swept));
+    kinds.extend([
         Kind::new("every pair", EVERY_PAIR, |d, _, n| every_pair(d, n)),
+        Kind::new("a million drawn", DRAWN_MOST, drawn_most),
         Kind::new("a million lines", MOST, |d, _, n| most_lines(d, n)),
     ]);
     Cases { definition: definition.clone(), seed, kinds }

@@ -1,9 +1,13 @@
 //! The ways in which an input arrives at a program.
 
 use crate::cases::draw::Draw;
+use crate::cases::sheet_pairs::SMALL_PIECE;
 
 /// The most bytes of a piece of any length.
-const LONGEST_PIECE: usize = 4_095;
+pub const LONGEST_PIECE: usize = 4_095;
+
+/// The lengths of pieces that are counted one by one.
+const OFTEN: [usize; 3] = [1, SMALL_PIECE, LONGEST_PIECE];
 
 /// Into how many pieces pauses part an input.
 const PAUSED_PIECES: usize = 3;
@@ -23,6 +27,10 @@ pub enum Arrival {
     Pieces(usize),
     /// With each read as many bytes as are drawn from this seed, often up to a CR.
     AnyPieces(u64),
+    /// With the first read so many bytes, and with the second all others.
+    Cut(usize),
+    /// With three reads, the input being cut after so many bytes and after so many.
+    CutTwice(usize, usize),
 }
 
 impl Arrival {
@@ -36,6 +44,18 @@ impl Arrival {
             Arrival::Pieces(1) => "byte by byte".to_string(),
             Arrival::Pieces(bytes) => format!("{bytes} bytes at a time"),
             Arrival::AnyPieces(_) => "in pieces of any length".to_string(),
+            Arrival::Cut(first) => format!("cut after {first} bytes"),
+            Arrival::CutTwice(first, second) => format!("cut after {first} and after {second} bytes"),
+        }
+    }
+
+    /// The name under which its runs are counted.
+    pub fn counted(self) -> String {
+        match self {
+            Arrival::Cut(_) => "in two pieces".to_string(),
+            Arrival::CutTwice(_, _) => "in three pieces".to_string(),
+            Arrival::Pieces(bytes) if !OFTEN.contains(&bytes) => "in pieces of other lengths".to_string(),
+            other => other.name(),
         }
     }
 
@@ -45,10 +65,25 @@ impl Arrival {
             Arrival::Pieces(bytes) => input.chunks(bytes).collect(),
             Arrival::Pauses => input.chunks(input.len() / PAUSED_PIECES + 1).collect(),
             Arrival::AnyPieces(seed) => any_pieces(&mut Draw::new(seed, 0), input),
+            Arrival::Cut(first) => cut(input, &[first]),
+            Arrival::CutTwice(first, second) => cut(input, &[first, second]),
             _ if input.is_empty() => vec![],
             _ => vec![input],
         }
     }
+}
+
+/// The pieces of an input that is cut at some places in ascending order, without those that are empty.
+fn cut<'a>(input: &'a [u8], places: &[usize]) -> Vec<&'a [u8]> {
+    let mut pieces = Vec::new();
+    let mut begin = 0;
+    for place in places.iter().copied().chain([input.len()]) {
+        let end = place.clamp(begin, input.len());
+        pieces.push(&input[begin..end]);
+        begin = end;
+    }
+    pieces.retain(|piece| !piece.is_empty());
+    pieces
 }
 
 /// Pieces of any length, half of those with a CR in them ending in it.
@@ -88,10 +123,32 @@ mod tests {
                 _ => assert_eq!(pieces.len(), 1),
             }
         }
+        for (way, lengths) in [
+            (Arrival::Cut(1), &[1, 9][..]),
+            (Arrival::Cut(10), &[10]),
+            (Arrival::Cut(0), &[10]),
+            (Arrival::CutTwice(3, 9), &[3, 6, 1]),
+            (Arrival::CutTwice(4, 4), &[4, 6]),
+            (Arrival::CutTwice(8, 99), &[8, 2]),
+        ] {
+            let pieces = way.pieces(&input[..10]);
+            assert_eq!((pieces.concat(), pieces.iter().map(|piece| piece.len()).collect()), (input[..10].to_vec(), lengths.to_vec()));
+            assert!(way.pieces(b"").is_empty());
+        }
         let drawn: Vec<&[u8]> = (0..50).flat_map(|seed| Arrival::AnyPieces(seed).pieces(&input)).collect();
         assert_eq!(drawn.concat().len(), 50 * input.len());
         assert!(drawn.iter().all(|piece| (1..=LONGEST_PIECE).contains(&piece.len())));
         assert!(drawn.iter().any(|piece| piece.len() > 3_000));
         assert!(drawn.iter().filter(|piece| piece.ends_with(b"\r")).count() > 10_000);
+    }
+
+    /// Ways that differ in a length or in the place of a cut alone are counted together, but for the lengths that are frequent.
+    #[test]
+    fn counted_together() {
+        for (one, other) in [(Arrival::Cut(5), Arrival::Cut(6)), (Arrival::Pieces(2), Arrival::Pieces(400))] {
+            assert!(one.counted() == other.counted() && one.name() != other.name());
+        }
+        assert_ne!(Arrival::Cut(5).counted(), Arrival::CutTwice(5, 9).counted());
+        assert!(OFTEN.iter().all(|bytes| Arrival::Pieces(*bytes).counted() == Arrival::Pieces(*bytes).name()));
     }
 }

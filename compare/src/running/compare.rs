@@ -135,7 +135,7 @@ where
             match run(number, &case) {
                 Ok(told) => {
                     comparison.case(number, &case, &(call.right)(&cases.definition, &case.input), &told);
-                    told.iter().for_each(|(way, _)| *comparison.outcome.runs.entry(way.name()).or_default() += 1);
+                    told.iter().for_each(|(way, _)| *comparison.outcome.runs.entry(way.counted()).or_default() += 1);
                 }
                 Err(failure) => {
                     failed.store(true, Ordering::SeqCst);

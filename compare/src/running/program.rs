@@ -25,6 +25,8 @@ const PAUSE: Duration = Duration::from_millis(25);
 const MOST_OUTPUT: u64 = 1 << 28;
 /// How many bytes are written or read at once.
 const AT_ONCE: usize = 1 << 14;
+/// How many bytes an empty pipe always takes at once, so that nobody need wait for a reader.
+const A_PIPE_HOLDS: usize = 4_096;
 /// How often the end is told to a program whose input arrives in pieces, should it ask again.
 const ENDS: usize = 8;
 /// What stands on standard input where a file is named.
@@ -169,7 +171,7 @@ pub fn run(program: &[OsString], input: &Arc<Vec<u8>>, arrival: Arrival) -> Resu
             command.arg(&file.path);
             named = Some(file);
         }
-        Arrival::Pieces(_) | Arrival::AnyPieces(_) => {
+        Arrival::Pieces(_) | Arrival::AnyPieces(_) | Arrival::Cut(_) | Arrival::CutTwice(_, _) => {
             let (ours, theirs) = UnixDatagram::pair().map_err(no_way)?;
             command.stdin(Stdio::from(OwnedFd::from(theirs)));
             socket = Some(ours);
@@ -177,13 +179,18 @@ pub fn run(program: &[OsString], input: &Arc<Vec<u8>>, arrival: Arrival) -> Resu
     }
     // The program alone holds its end from then on, so that feeding fails once it has ended.
     let mut started = Started::new(command)?;
-    let (stdin, input) = (started.child.stdin.take(), Arc::clone(input));
+    let (stdin, input, length) = (started.child.stdin.take(), Arc::clone(input), input.len());
     // A program that has told a refusal need not take the rest.
-    thread::spawn(move || match (stdin, socket) {
+    let feed = move || match (stdin, socket) {
         (Some(stdin), _) => write(stdin, &input, arrival),
         (None, Some(socket)) => send(&socket, &input, arrival),
         (None, None) => Ok(()),
-    });
+    };
+    match arrival {
+        Arrival::File => {}
+        Arrival::Pipe if length <= A_PIPE_HOLDS => drop(feed()),
+        _ => drop(thread::spawn(feed)),
+    }
     let output = started.output.all()?;
     let (complaint, status) = started.end()?;
     drop(named);
@@ -241,9 +248,9 @@ mod tests {
 
     /// Every way in which an input can arrive.
     #[rustfmt::skip]
-    const WAYS: [Arrival; 8] = [
+    const WAYS: [Arrival; 10] = [
         Arrival::Pipe, Arrival::Pauses, Arrival::File, Arrival::Named, Arrival::Pieces(1), Arrival::Pieces(7),
-        Arrival::Pieces(4_095), Arrival::AnyPieces(1),
+        Arrival::Pieces(4_095), Arrival::AnyPieces(1), Arrival::Cut(77), Arrival::CutTwice(50, 3_000),
     ];
 
     /// What a shell script does with some bytes, which stand in the file that is its argument or on its input.
@@ -257,12 +264,26 @@ mod tests {
     fn inputs_arrive() {
         for arrival in WAYS {
             for length in [0, 1, 100, 5_000, 200_000] {
-                let small = matches!(arrival, Arrival::Pieces(1 | 7) | Arrival::AnyPieces(_));
-                if length < 10_000 || !small {
+                // A read has no room for a piece of any length.
+                let large = matches!(arrival, Arrival::Pipe | Arrival::Pauses | Arrival::File | Arrival::Named | Arrival::Pieces(4_095));
+                if length < 10_000 || large {
                     let bytes: Vec<u8> = (0..length).map(|n| (n % 251) as u8).collect();
                     let output = bytes.clone();
                     assert_eq!(ran("exec cat \"$@\"", &bytes, arrival), Answer { output, ..Answer::default() });
                 }
+            }
+        }
+    }
+
+    /// Each read of an input in pieces gets one piece, however much it asks for.
+    #[test]
+    fn a_piece_with_each_read() {
+        let bytes: Vec<u8> = (0..5_000).map(|n| (n % 251) as u8).collect();
+        for arrival in WAYS.into_iter().skip(4) {
+            for reads in 1..=3 {
+                let read = "dd bs=65536 count=1 2>/dev/null; ".repeat(reads);
+                let pieces: Vec<&[u8]> = arrival.pieces(&bytes).into_iter().take(reads).collect();
+                assert_eq!(ran(&read, &bytes, arrival).output, pieces.concat(), "{}, {reads} reads", arrival.name());
             }
         }
     }

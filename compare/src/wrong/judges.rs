@@ -28,8 +28,11 @@ const HALF: usize = 1 << 15;
 /// A pair that is like all others.
 const ONE_OF_MANY: usize = 54_321;
 
-/// The places of columns of a sheet that Q-5 is about.
+/// The places of columns of a sheet that a judge is wrong about.
 mod column {
+    pub const REQUEST: usize = 1;
+    pub const TAG: usize = 5;
+    pub const RESPONSE: usize = 6;
     pub const RESP_ERR: usize = 8;
     pub const FORWARD: usize = 9;
     pub const FINAL: usize = 10;
@@ -876,6 +879,92 @@ pub const WRONG: &[Wrong] = &[
         retell_sheet(d, sheet, answer, |_| ALL_STATES, |pair| pair < usize::from(u16::MAX));
     })),
     wrong("sheet", "a pair's fifth digit is lost where a read of several bytes ends before it", Gets(lose_fifth_digits)),
+    // A bench sheet whose lines are read in another way where many bytes stand behind their beginning.
+    wrong("sheet", "any byte is taken for a comma, many bytes behind it", Given(|d, sheet| mend(d, sheet, |line| {
+        (0..line.len()).map(|place| with_bytes(line, place, 1, b",")).collect()
+    }))),
+    wrong("sheet", "a name is taken without its comma, many bytes behind it", Given(|d, sheet| mend(d, sheet, |line| {
+        (1..line.len()).map(|place| with_bytes(line, place, 0, b",")).collect()
+    }))),
+    wrong("sheet", "a byte more behind a name is passed over, many bytes behind it", Given(|d, sheet| mend(d, sheet, |line| {
+        commas(line).into_iter().skip(1).map(|comma| with_bytes(line, comma - 1, 1, b"")).collect()
+    }))),
+    wrong("sheet", "the last byte of a response is not looked at, many bytes behind it", Given(|d, sheet| mend(d, sheet, |line| {
+        let last = commas(line).get(column::RESPONSE).map(|comma| comma - 1);
+        last.map_or(vec![], |last| (0..=255).map(|byte| with_bytes(line, last, 1, &[byte])).collect())
+    }))),
+    wrong("sheet", "a request without its last byte is taken, many bytes behind it", Given(|d, sheet| mend(d, sheet, |line| {
+        let end = commas(line).get(column::REQUEST).copied();
+        end.map_or(vec![], |end| (b'a'..=b'z').map(|byte| with_bytes(line, end, 0, &[byte])).collect())
+    }))),
+    wrong("sheet", "the ninth byte of a request is not looked at, many bytes behind it", Given(|d, sheet| mend(d, sheet, |line| {
+        let ninth = commas(line).first().map(|comma| comma + 9).filter(|ninth| *ninth < line.len());
+        ninth.map_or(vec![], |ninth| (b'A'..=b'z').map(|byte| with_bytes(line, ninth, 1, &[byte])).collect())
+    }))),
+    wrong("sheet", "capitals of a tag do not matter, many bytes behind it", Given(|d, sheet| mend(d, sheet, |line| {
+        with_field(line, column::TAG, |tag| [tag[..1].to_ascii_uppercase(), tag[1..].to_ascii_lowercase()].concat())
+    }))),
+    wrong("sheet", "a TagOp is taken for a tag, many bytes behind it", Given(|d, sheet| mend(d, sheet, |line| {
+        with_field(line, column::TAG, |tag| if is_of(&TAG_OPS, tag) { b"Dirty".to_vec() } else { tag.to_vec() })
+    }))),
+    wrong("sheet", "a final state is taken for no error of the forward, many bytes behind it", Given(|d, sheet| mend(d, sheet, |line| {
+        with_field(line, column::FWD_ERR, |error| if is_of(&STATES, error) { b"OK".to_vec() } else { error.to_vec() })
+    }))),
+    wrong("sheet", "- in forward alone is taken, many bytes behind it", Given(|d, sheet| mend(d, sheet, |line| {
+        with_field(line, column::FWD_ERR, |error| if is_of(&RESP_ERRS, error) { b"-".to_vec() } else { error.to_vec() })
+    }))),
+    wrong("sheet", "a digit of a pair has any upper bits, many bytes behind it", Given(|d, sheet| mend(d, sheet, |line| {
+        let end = commas(line).first().copied().unwrap_or(0);
+        let digits: Vec<u8> = line[..end].iter().map(|byte| if byte & 15 < 10 { b'0' | byte & 15 } else { *byte }).collect();
+        vec![[&digits, &line[end..]].concat()]
+    }))),
+    wrong("sheet", "a semicolon is a digit of a pair, many bytes behind it", Given(|d, sheet| mend(d, sheet, |line| {
+        vec![replaced(line, b";", b"9")]
+    }))),
+    wrong("sheet", "only the last bit of a flag is looked at, many bytes behind it", Given(|d, sheet| mend(d, sheet, |line| {
+        let mut fields = fields_of(line);
+        let flags = fields.iter_mut().skip(column::REQUEST + 1).take(3).filter(|flag| flag.len() == 1);
+        flags.for_each(|flag| flag[0] = b'0' | flag[0] & 1);
+        vec![line_of(&fields)]
+    }))),
+    wrong("sheet", "only the CR of a CRLF is looked at, many bytes behind it", Given(|d, sheet| mend(d, sheet, |line| {
+        let crs = (0..line.len()).filter(|place| line[*place] == b'\r');
+        crs.map(|cr| with_bytes(line, cr, 2, CRLF)).collect()
+    }))),
+    wrong("sheet", "only the LF of a CRLF is looked at, many bytes behind it", Given(|d, sheet| mend(d, sheet, |line| {
+        let lfs = (1..line.len()).filter(|place| line[*place] == b'\n');
+        lfs.map(|lf| with_bytes(line, lf - 1, 2, CRLF)).collect()
+    }))),
+    wrong("sheet", "what an earlier read of many bytes left makes the last line whole", Gets(end_of_before)),
+    wrong("sheet", "a line is taken before its CRLF has come, many bytes before it", Gets(|arrival, sheet| {
+        end_early(arrival, sheet, |line| is_good(&Definition::now(), line))
+    })),
+    wrong("sheet", "a long line is lost whose CRLF ends a read, many bytes before it", Gets(|arrival, sheet| {
+        last_lines(arrival, sheet, |line, begun| (line.len() > 95 && begun == 0).then(Vec::new))
+    })),
+    wrong("sheet", "a long line is lost of whose next one a byte has come, many bytes before it", Gets(|arrival, sheet| {
+        last_lines(arrival, sheet, |line, begun| (line.len() > 95 && begun == 1).then(Vec::new))
+    })),
+    wrong("sheet", "a line is of pair 7 if a read ends over 100 bytes behind it, many bytes before it", Gets(|arrival, sheet| {
+        last_lines(arrival, sheet, |line, begun| {
+            let others = line.iter().position(|byte| *byte == b',').filter(|_| begun > 100)?;
+            Some([b"7", &line[others..], CRLF].concat())
+        })
+    })),
+    wrong("sheet", "two digits of an event from 543,210 on are exchanged", Tells(|_, _, answer| renumber_events(answer, |n| match n {
+        543_210.. => n / 1_000 * 1_000 + n % 10 * 100 + n / 10 % 10 * 10 + n / 100 % 10,
+        _ => n,
+    }))),
+    wrong("sheet", "event 999,999 is told as 99,999", Tells(|_, _, answer| {
+        renumber_events(answer, |n| if n == 999_999 { 99_999 } else { n });
+    })),
+    wrong("sheet", "from event 900,000 on Requester is told as Home", Tells(|_, _, answer| {
+        let numbers = answer.output.windows(9).position(|bytes| bytes == b"\r\n900000,");
+        if let Some(place) = numbers {
+            let rest = replaced(&answer.output[place..], b",Requester,", b",Home,");
+            answer.output = [&answer.output[..place], &rest].concat();
+        }
+    })),
     // A capture.
     wrong("capture", "one read is taken for all", Gets(first_piece)),
     wrong("capture", "standard input is read though a file is named", Gets(|arrival, capture| match arrival {
@@ -1760,6 +1849,120 @@ fn lose_fifth_digits(arrival: Arrival, sheet: &[u8]) -> Vec<u8> {
         last = piece.len();
     }
     left
+}
+
+/// How many bytes are many behind the beginning of a line, or before the end of a read.
+const MANY: usize = 256;
+
+/// Whether a line says an event of a pair.
+fn is_good(definition: &Definition, line: &[u8]) -> bool {
+    sheet::Reader::new(definition).fields(line).is_some()
+}
+
+/// The places of the commas of a line.
+fn commas(line: &[u8]) -> Vec<usize> {
+    (0..line.len()).filter(|place| line[*place] == b',').collect()
+}
+
+/// A line with some bytes in the place of so many from a place on.
+fn with_bytes(line: &[u8], place: usize, count: usize, bytes: &[u8]) -> Vec<u8> {
+    [&line[..place], bytes, &line[line.len().min(place + count)..]].concat()
+}
+
+/// A line with another field in a column, if it has a field there that is not empty.
+fn with_field(line: &[u8], column: usize, other: impl Fn(&[u8]) -> Vec<u8>) -> Vec<Vec<u8>> {
+    let mut fields = fields_of(line);
+    if let Some(field) = fields.get_mut(column).filter(|field| !field.is_empty()) {
+        *field = other(field);
+    }
+    vec![line_of(&fields)]
+}
+
+/// Whether a field is one of some names.
+fn is_of(names: &[&str], field: &[u8]) -> bool {
+    names.iter().any(|name| name.as_bytes() == field)
+}
+
+/// Puts a good line, or two, in the place of the first line that is refused with 8 if many bytes stand behind its beginning and one of
+/// the ways to mend it makes it good.
+fn mend(definition: &Definition, sheet: &mut Vec<u8>, ways: impl Fn(&[u8]) -> Vec<Vec<u8>>) {
+    let all = lines(sheet);
+    let Some((sheet::MALFORMED, number)) = sheet::each_event(definition, &all, |_, _| {}) else { return };
+    let line = all[number - 1];
+    let begin: usize = all[..number - 1].iter().map(|line| line.len() + CRLF.len()).sum();
+    if sheet.len() - begin >= MANY {
+        let first_is_good = |other: &Vec<u8>| is_good(definition, lines(other).first().unwrap_or(&&b""[..]));
+        if let Some(mended) = ways(line).into_iter().find(first_is_good) {
+            let end = begin + line.len();
+            *sheet = [&sheet[..begin], &mended, &sheet[end..]].concat();
+        }
+    }
+}
+
+/// A sheet that ends within a line goes on with what an earlier read left in the room behind it, if that makes the line good and there
+/// was a read of many bytes. Before each read what is left of a line is moved to the room's beginning.
+fn end_of_before(arrival: Arrival, sheet: &[u8]) -> Vec<u8> {
+    let mut room: Vec<u8> = vec![0; sheet.len()];
+    let (mut filled, mut begin, pieces) = (0, 0, arrival.pieces(sheet));
+    if pieces.iter().all(|piece| piece.len() < MANY) {
+        return sheet.to_vec();
+    }
+    for piece in pieces {
+        room.copy_within(begin..filled, 0);
+        filled -= begin;
+        room[filled..filled + piece.len()].copy_from_slice(piece);
+        filled += piece.len();
+        begin = room[..filled].windows(2).rposition(|two| two == CRLF).map_or(0, |end| end + CRLF.len());
+    }
+    let end = room[filled..].windows(2).position(|two| two == CRLF).map_or(filled, |end| filled + end);
+    let is_whole = filled > begin && is_good(&Definition::now(), &room[begin..end]);
+    if is_whole {
+        [sheet, &room[filled..end]].concat()
+    } else {
+        sheet.to_vec()
+    }
+}
+
+/// A sheet in which a line that has begun ends where a read of many bytes does, if it is one of some lines.
+fn end_early(arrival: Arrival, sheet: &[u8], some: impl Fn(&[u8]) -> bool) -> Vec<u8> {
+    let mut read: Vec<u8> = Vec::with_capacity(sheet.len());
+    for piece in arrival.pieces(sheet) {
+        read.extend(piece);
+        let begin = read.windows(2).rposition(|two| two == CRLF).map_or(0, |end| end + CRLF.len());
+        if piece.len() >= MANY && read.len() < sheet.len() && some(&read[begin..]) {
+            read.extend(CRLF);
+        }
+    }
+    read
+}
+
+/// A sheet in which the last whole line of each read of many bytes but the last is another, with its CRLF, if there is one for it and
+/// for how many bytes of the next line have come.
+fn last_lines(arrival: Arrival, sheet: &[u8], other: impl Fn(&[u8], usize) -> Option<Vec<u8>>) -> Vec<u8> {
+    let pieces = arrival.pieces(sheet);
+    let mut left: Vec<u8> = Vec::with_capacity(sheet.len());
+    for (n, piece) in pieces.iter().enumerate() {
+        left.extend(*piece);
+        let end = left.windows(2).rposition(|two| two == CRLF);
+        let before = end.and_then(|end| left[..end].windows(2).rposition(|two| two == CRLF));
+        if let (Some(before), Some(end), true) = (before, end, piece.len() >= MANY && n + 1 < pieces.len()) {
+            let (begin, next) = (before + CRLF.len(), end + CRLF.len());
+            if let Some(other) = other(&left[begin..end], left.len() - next) {
+                left.splice(begin..next, other);
+            }
+        }
+    }
+    left
+}
+
+/// Tells other numbers of events.
+fn renumber_events(answer: &mut Answer, number: impl Fn(usize) -> usize) {
+    let line = |line: &[u8]| {
+        let digits = line.iter().take_while(|byte| byte.is_ascii_digit()).count();
+        let event = String::from_utf8_lossy(&line[..digits]).parse().ok();
+        [&event.map_or(vec![], |event| number(event).to_string().into_bytes()), &line[digits..]].concat()
+    };
+    answer.output = answer.output.split_inclusive(|byte| *byte == b'\n').flat_map(line).collect();
 }
 
 /// Answers a capture by other things lent for each of its parts, each by its number.
