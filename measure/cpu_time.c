@@ -1,4 +1,5 @@
-/* Runs a program once on a file and prints the processor time it took in nanoseconds: cpu_time FILE PROGRAM ARGS.. */
+/* Runs a program once on a file and prints the nanoseconds of the processor that it took, its own and the kernel's for it:
+   cpu_time FILE PROGRAM ARGS.. */
 
 #define _DEFAULT_SOURCE
 #include <errno.h>
@@ -28,7 +29,7 @@ static long long nanoseconds(struct timeval span)
     return span.tv_sec * 1000000000LL + span.tv_usec * 1000LL;
 }
 
-/* Prints the program's own time and the kernel's for it together, or tells that it did not end well. */
+/* Prints the program's own time and the kernel's for it, or tells that it did not end well. */
 int main(int count, char **words)
 {
     if (count < 3) {
@@ -48,6 +49,6 @@ int main(int count, char **words)
         fprintf(stderr, "cpu_time: %s did not end well\n", words[2]);
         return 1;
     }
-    printf("%lld\n", nanoseconds(used.ru_utime) + nanoseconds(used.ru_stime));
+    printf("%lld %lld\n", nanoseconds(used.ru_utime), nanoseconds(used.ru_stime));
     return 0;
 }
