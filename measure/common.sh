@@ -117,6 +117,17 @@ instructions() {
     fi
 }
 
+# prints the instructions of a program in its own functions, without those of libraries and of the start
+own_instructions() {
+    callgrind "$1"
+    callgrind_annotate --threshold=100 "$work/count" 2>/dev/null |
+        awk -v object="[$1]" 'index($0, object) && match($0, /^ *[0-9,]+/) {
+            count = substr($0, 1, RLENGTH)
+            gsub(/[ ,]/, "", count)
+            all += count
+        } END { print all }'
+}
+
 # whether --where is asked for and can be told
 where_asked() {
     [ "$where" ] || return 1

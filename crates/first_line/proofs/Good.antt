@@ -156,7 +156,7 @@ reach-line (suc n) (b ∷ line) rest h k =
     (reach-line n line rest (and-right (noCR b) (all noCR line) h) (omega arith))
 
 -- a text that begins with a line in a window of it
-pub first-good : (text : List ℕ) (n : ℕ) (r : FirstLine) (ended : Bool) → n ≤ longest + 2 → Leads (take n text) r → r ≡ firstLine ended text
+pub first-good : (text : List ℕ) (n : ℕ) (r : FirstLine) (ended : Bool) → n ≤ longest + 2 → Leads (take n text) r → r ≡ firstLine true ended text
 unfolding firstLine
 first-good text n r ended few l =
     l .r-so
@@ -215,20 +215,20 @@ pub met-end : {text : List ℕ} (t : Codes) → MetAll columns text 0 (t .codes)
 met-end t m = omega (arith, line-met m .end-so)
 
 -- the first line, read the general way
-pub any-first : (ended : Bool) (text : List ℕ) {line : ParsedLine} {end : ℕ} {whole : Bool} → end ≡ lineEnd text 0 → whole ≡ crlf (drop end text)
-    → line ≡ lineTo (whole || ended) end text → record { line = line; end = end; whole = whole } ≡ firstLine ended text
+pub any-first : (asked ended : Bool) (text : List ℕ) {line : ParsedLine} {end : ℕ} {whole : Bool} → end ≡ lineEnd text 0 → whole ≡ crlf (drop end text)
+    → line ≡ lineTo (asked && (whole || ended)) end text → record { line = line; end = end; whole = whole } ≡ firstLine asked ended text
 unfolding firstLine lineEnd
-any-first ended text {line} {end} {whole} e w p =
+any-first asked ended text {line} {end} {whole} e w p =
     let at : end ≡ reach tooLong text = e ∙ zero-add (reach tooLong text) in
-    ap₂ (λ (l : ParsedLine) (b : Bool). record { line = l; end = end; whole = b }) (p ∙ ap (λ (b : Bool). lineTo (b || ended) end text) w) w
-    ∙ ap (λ (n : ℕ). record { line = lineTo (crlf (drop n text) || ended) n text; end = n; whole = crlf (drop n text) }) at
+    ap₂ (λ (l : ParsedLine) (b : Bool). record { line = l; end = end; whole = b }) (p ∙ ap (λ (b : Bool). lineTo (asked && (b || ended)) end text) w) w
+    ∙ ap (λ (n : ℕ). record { line = lineTo (asked && (crlf (drop n text) || ended)) n text; end = n; whole = crlf (drop n text) }) at
 
 -- a line that is parsed, and one that is not
-pub line-told : (known : Bool) (end : ℕ) (text : List ℕ) → not (known && leb end longest) ≡ false → parsed (take end text) ≡ lineTo known end text
-line-told known end text h = sym (ap (λ (b : Bool). cond b (parsed (take end text)) (refusedParse 8)) (not-false (known && leb end longest) h))
+pub line-told : (parse : Bool) (end : ℕ) (text : List ℕ) → not (parse && leb end longest) ≡ false → parsed (take end text) ≡ lineTo parse end text
+line-told parse end text h = sym (ap (λ (b : Bool). cond b (parsed (take end text)) (refusedParse 8)) (not-false (parse && leb end longest) h))
 
-pub line-untold : (known : Bool) (end : ℕ) (text : List ℕ) → not (known && leb end longest) ≡ true → refusedParse 8 ≡ lineTo known end text
-line-untold known end text h = sym (ap (λ (b : Bool). cond b (parsed (take end text)) (refusedParse 8)) (not-true (known && leb end longest) h))
+pub line-untold : (parse : Bool) (end : ℕ) (text : List ℕ) → not (parse && leb end longest) ≡ true → refusedParse 8 ≡ lineTo parse end text
+line-untold parse end text h = sym (ap (λ (b : Bool). cond b (parsed (take end text)) (refusedParse 8)) (not-true (parse && leb end longest) h))
 
 pub end-inside : (text : List ℕ) {end : ℕ} → end ≡ lineEnd text 0 → end ≤ length text
 unfolding lineEnd

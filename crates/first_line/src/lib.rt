@@ -100,13 +100,13 @@ fn good_line(text: &[u8]) -> FirstLine
     }
 }
 
-// The first line of a text, whatever it is. It is parsed if its end is known and it is not too long.
-fn any_line(text: &[u8], ended: bool) -> FirstLine
-    ensures { λ r. ⌜ r ≡ firstLine ended (now (text .entry)) ⌝ }
+// The first line of a text, whatever it is. It is parsed if that is asked for, its end is known and it is not too long.
+fn any_line(text: &[u8], ended: bool, asked: bool) -> FirstLine
+    ensures { λ r. ⌜ r ≡ firstLine asked ended (now (text .entry)) ⌝ }
 {
     let end = lines::line_end(text, 0);
     let whole = lines::ends_line(text, end);
-    if !((whole | ended) & (end <= LONGEST)) {
+    if !((asked & (whole | ended)) & (end <= LONGEST)) {
         return FirstLine {
             line: parser::refused(Refusal::FIELDS),
             end,
@@ -120,16 +120,16 @@ fn any_line(text: &[u8], ended: bool) -> FirstLine
     }
 }
 
-// Parses the first line of a text. If `ended`, nothing follows the text. Fields are taken in place if as many bytes are at hand as a line
-// has at most.
-pub fn parse(text: &[u8], ended: bool) -> FirstLine
-    ensures { λ r. ⌜ r ≡ firstLine ended (now (text .entry)) ⌝ }
+// Finds the first line of a text, and parses it if that is asked for. If `ended`, nothing follows the text. Fields are taken in place if as
+// many bytes are at hand as a line has at most.
+pub fn parse(text: &[u8], ended: bool, asked: bool) -> FirstLine
+    ensures { λ r. ⌜ r ≡ firstLine asked ended (now (text .entry)) ⌝ }
 {
-    if WINDOW <= text.len() {
+    if asked & (WINDOW <= text.len()) {
         let good = good_line(&text[..WINDOW]);
         if good.whole {
             return good;
         }
     }
-    any_line(text, ended)
+    any_line(text, ended, asked)
 }

@@ -9,7 +9,7 @@ use native.Mathlib.Numerals.{add-one}
 use native.Mathlib.Omega.{arith}
 use borrow.Author.Tests.{ltb-true, leb-true, leb-false, le-leb, lt-leb, lt-ltb, le-ltb, ltb-false, eq-eqb, ne-eqb, eqb-true}
 use lib.Dec.{eqb, leb, ltb}
-use lib.ListN.{length, getD, set, take, drop, replicate, length-append, length-take, length-drop, length-set, length-replicate, take-append-drop}
+use lib.ListN.{length, getD, set, take, drop, replicate, length-append, length-take, length-drop, length-set, length-replicate, take-append-drop, drop-of-length-le}
 use lib.Seq.{drop-drop, drop-length, drop-at, take-at, take-add, take-all, take-length, getD-drop, paste, paste-suc, length-paste}
 use Rattle.kinds.specs.Tests.{same}
 use Rattle.kinds.specs.Codes.{allStates}
@@ -59,14 +59,15 @@ eating-start ended piece table out lines going = record { so = refl; inside = om
 length-front : (n : ℕ) (s : List ℕ) → n ≤ length s → length (take n s) ≡ n
 length-front n s h = length-take n s ∙ omega (arith, h)
 
--- the loop's own test is `ready`
-pub ready-test : {ended : Bool} {piece out₀ : List ℕ} {h₀ : Held} {table out : List ℕ} {taken put lines : ℕ} {going : Bool} (b : Bool)
+-- the loop's own test, and whether enough is known of the next line, are `ready`
+pub ready-test : {ended : Bool} {piece out₀ : List ℕ} {h₀ : Held} {table out : List ℕ} {taken put lines : ℕ} {going a b : Bool}
     → Eating ended piece out₀ h₀ table out taken put lines going
-    → b ≡ sure ended lines (drop taken piece)
-    → going && (leb room (length out - put) && b) ≡ ready ended (length out₀) (now-held piece taken put lines going table out)
+    → going && leb room (length out - put) ≡ a → sure ended lines (drop taken piece) ≡ b
+    → ready ended (length out₀) (now-held piece taken put lines going table out) ≡ a && b
 unfolding ready
-ready-test {ended} {piece} {out₀} {h₀} {table} {out} {taken} {put} {lines} {going} b e s =
-    ap₂ (λ (x y : Bool). going && (x && y)) (roomy ∙ ap₂ (λ (m n : ℕ). leb (m + room) n) (sym (length-front put out (e .fits))) (e .long)) s
+ready-test {ended} {piece} {out₀} {h₀} {table} {out} {taken} {put} {lines} {going} {a} {b} e f g =
+    ap₂ (λ (x y : Bool). going && (x && y)) (sym (roomy ∙ ap₂ (λ (m n : ℕ). leb (m + room) n) (sym (length-front put out (e .fits))) (e .long))) g
+    ∙ in-turn going (leb room (length out - put)) ∙ ap (λ (x : Bool). x && b) f
   where
     roomy : leb room (length out - put) ≡ leb (put + room) (length out)
     roomy = go (leb room (length out - put)) refl
@@ -74,6 +75,28 @@ ready-test {ended} {piece} {out₀} {h₀} {table} {out} {taken} {put} {lines} {
         go : (c : Bool) → leb room (length out - put) ≡ c → c ≡ leb (put + room) (length out)
         go true h = sym (le-leb (put + room) (length out) (omega (arith, leb-true room (length out - put) h)))
         go false h = sym (lt-leb (put + room) (length out) (omega (arith, leb-false room (length out - put) h)))
+
+    in-turn : (c d : Bool) → c && (d && b) ≡ (c && d) && b
+    in-turn true d = refl
+    in-turn false d = refl
+
+-- the run is not ready if too little is known of the next line
+pub unsure : (ended : Bool) (space : ℕ) (h : Held) → sure ended (h .lines) (h .rest) ≡ false → ready ended space h ≡ false
+unsure ended space h e = go (ready ended space h) refl
+  where
+    go : (b : Bool) → ready ended space h ≡ b → b ≡ false
+    go true f = sym (is-ready ended space h f .is-sure) ∙ e
+    go false f = refl
+
+-- behind line 1, nothing is no line
+pub nothing-left : (ended : Bool) (lines taken : ℕ) (piece : List ℕ) → taken ≡ length piece → 0 < lines → sure ended lines (drop taken piece) ≡ false
+unfolding sure whole
+nothing-left ended lines taken piece e h =
+    ap (sure ended lines) (drop-of-length-le piece (le-of-eq (sym e))) ∙ ap (λ b. ended && b) (ne-eqb lines 0 (λ z. omega (arith, z, h))) ∙ never ended
+  where
+    never : (b : Bool) → b && false ≡ false
+    never true = refl
+    never false = refl
 
 -- the loop stops if the run is not ready
 pub eating-stop : {ended : Bool} {piece out₀ : List ℕ} {h₀ : Held} {table out : List ℕ} {taken put lines : ℕ} {going : Bool}
@@ -194,7 +217,7 @@ module _ {ended : Bool} {piece out₀ : List ℕ} {h₀ : Held} {table out : Lis
 
 -- the line that starts at an offset, from what is the first line of the rest
 pub next-seen : (ended : Bool) (lines : ℕ) (piece : List ℕ) (start next : ℕ) (first : FirstLine)
-    → first ≡ firstLine ended (drop start piece) → next ≡ start + first .end + cond (first .whole) 2 0
+    → first ≡ firstLine (ltb 0 lines) ended (drop start piece) → next ≡ start + first .end + cond (first .whole) 2 0
     → record {
       sure = first .whole || (ltb tooLong (length piece - start) || (ended && (ltb 0 (length piece - start) || eqb lines 0)));
       end = start + first .end;
@@ -216,18 +239,19 @@ next-seen ended lines piece start next first e g =
 pub rest-of : (piece : List ℕ) (start : ℕ) → take (length piece - start) (drop start piece) ≡ drop start piece
 rest-of piece start = take-all (length piece - start) (drop start piece) (le-of-eq (length-drop start piece))
 
-pub first-within : (piece : List ℕ) (start : ℕ) (ended : Bool) (first : FirstLine) → start ≤ length piece → first ≡ firstLine ended (drop start piece)
+pub first-within : (piece : List ℕ) (start : ℕ) (asked ended : Bool) (first : FirstLine) → start ≤ length piece → first ≡ firstLine asked ended (drop start piece)
     → start + first .end ≤ length piece
 unfolding firstLine
-first-within piece start ended first h e =
+first-within piece start asked ended first h e =
     omega (arith, h, ap (λ (f : FirstLine). f .end) e, subst (λ n. reach tooLong (drop start piece) ≤ n) (length-drop start piece) (reach-within tooLong (drop start piece)))
 
--- if enough is known of a line that is not too long, it was parsed
+-- if enough is known of a line behind line 1 that is not too long, it was parsed
 pub next-said : (ended : Bool) (lines : ℕ) (piece : List ℕ) (start : ℕ) (next : Next) → next ≡ nextIn ended lines piece start
-    → sure ended lines (drop start piece) ≡ true → SaidBy (take (next .end - start) (drop start piece)) (next .line)
+    → sure ended lines (drop start piece) ≡ true → SaidBy lines (take (next .end - start) (drop start piece)) (next .line)
 unfolding firstLine sure whole
-next-said ended lines piece start next e s k =
-    ap (λ (x : Next). x .line) e ∙ ap (λ (b : Bool). cond ((crlf (drop reached rest) || ended) && b) (parsed (nextLine rest)) (refusedParse 8)) short
+next-said ended lines piece start next e s behind k =
+    ap (λ (x : Next). x .line) e
+    ∙ ap₂ (λ (a b : Bool). cond ((a && (crlf (drop reached rest) || ended)) && b) (parsed (nextLine rest)) (refusedParse 8)) (lt-ltb 0 lines behind) short
     ∙ go (crlf (drop reached rest)) refl ended s ∙ ap parsed (sym line)
   where
     rest : List ℕ
@@ -398,11 +422,11 @@ roomy-here {ended} {piece} {out₀} {h₀} {table} {out} {taken} {put} {lines} {
     let m = leb-true (length (take put out) + room) (length out₀) (is-ready ended (length out₀) (now-held piece taken put lines going table out) f .has-room) in
     omega (arith, m, length-front put out (e .fits), e .long)
 
--- if the run is ready, the next line was parsed, unless it is too long
+-- if the run is ready, the next line was parsed, unless it is line 1 or too long
 pub said-here : {ended : Bool} {piece out₀ : List ℕ} {h₀ : Held} {table out : List ℕ} {taken put lines : ℕ} {going : Bool}
     → Eating ended piece out₀ h₀ table out taken put lines going → (next : Next) → next ≡ nextIn ended lines piece taken
     → ready ended (length out₀) (now-held piece taken put lines going table out) ≡ true
-    → SaidBy (take (next .end - taken) (drop taken piece)) (next .line)
+    → SaidBy lines (take (next .end - taken) (drop taken piece)) (next .line)
 said-here {ended} {piece} {out₀} {h₀} {table} {out} {taken} {put} {lines} {going} e next n f =
     next-said ended lines piece taken next n (is-ready ended (length out₀) (now-held piece taken put lines going table out) f .is-sure)
 

@@ -1,8 +1,9 @@
 -- What private functions compute. No public claim names this file.
-use Prim.Native.Nat.{ℕ, _+_, _-_, _≤_}
+use Prim.Native.Nat.{ℕ, _+_, _-_, _≤_, _<_}
 use mathlib.Core.Path.{_≡_}
 use mathlib.Core.Bool.{Bool}
 use mathlib.Core.List.{List, _++_}
+use lib.Dec.{ltb}
 use lib.ListN.{length, take, drop}
 use Rattle.event.specs.Refusals.{issueE, fault}
 use Rattle.lines.specs.Seen.{longest, tooLong, reach}
@@ -32,21 +33,22 @@ pub record AnswersOn (t : Told) (out : List ℕ) (at : ℕ) (r : Answered) (out�
 abbrev pub NoFault : ParsedLine → Type 0
 NoFault line = line .refusal .0 ≡ 0 → fault issueE (line .event) ≡ 0
 
--- what a line says, unless it is too long
-abbrev pub SaidBy : List ℕ → ParsedLine → Type 0
-SaidBy line said = length line ≤ longest → said ≡ parsed line
+-- what a line says that has so many lines before it, unless it is line 1 or too long
+abbrev pub SaidBy : ℕ → List ℕ → ParsedLine → Type 0
+SaidBy lines line said = 0 < lines → length line ≤ longest → said ≡ parsed line
 
 -- there is room for the output of a line
 abbrev pub Roomy : List ℕ → ℕ → Type 0
 Roomy out at = at + room ≤ length out
 
--- the line that starts at an offset of a piece: whether enough of it is known, where it ends, where the next one starts, and the line parsed
+-- the line that starts at an offset of a piece: whether enough of it is known, where it ends, where the next one starts, and the line parsed,
+-- unless it is line 1
 abbrev pub nextIn : Bool → ℕ → List ℕ → ℕ → Next
 nextIn ended lines piece start = record {
   sure = sure ended lines (drop start piece);
   end = start + reach tooLong (drop start piece);
   next = start + taken (drop start piece);
-  line = firstLine ended (drop start piece) .line;
+  line = firstLine (ltb 0 lines) ended (drop start piece) .line;
 }
 
 -- what `eat` leaves: its result, and the two buffers that it may write

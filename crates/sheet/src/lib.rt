@@ -123,7 +123,7 @@ fn judge_parsed(
     }
 }
 
-// Judges a line, given the number of lines before it. Unless it is too long, `parsed` is what it says.
+// Judges a line, given the number of lines before it. Unless it is line 1 or too long, `parsed` is what it says.
 fn judge_line(
     lines: u32,
     line: &[u8],
@@ -133,7 +133,7 @@ fn judge_line(
     at: usize,
 ) -> Answered
     requires { ⌜ Roomy (now out) at ⌝ }
-    requires { ⌜ SaidBy (now line) parsed ⌝ }
+    requires { ⌜ SaidBy lines (now line) parsed ⌝ }
     ensures { λ r. ⌜ AnswersOn (onLine lines (now (table .entry)) (now (line .entry)))
         (now (out .entry)) at r (now (out .exit)) (now (table .exit)) ⌝ }
 {
@@ -157,13 +157,13 @@ fn behind(whole: bool, end: usize) -> usize
     if whole { end + 2 } else { end }
 }
 
-// The line that starts at an offset of a piece, as far as it is known.
+// The line that starts at an offset of a piece, as far as it is known. Line 1 is not parsed.
 fn next_line(piece: &[u8], start: usize, ended: bool, lines: u32) -> Next
     requires { ⌜ start ≤ length (now piece) ⌝ }
     ensures { λ r. ⌜ r ≡ nextIn ended lines (now (piece .entry)) start ⌝ }
 {
     let left = piece.len() - start;
-    let first = first_line::parse(&piece[start..], ended);
+    let first = first_line::parse(&piece[start..], ended, 0 < lines);
     let line = first.line;
     let whole = first.whole;
     let end = start + first.end;
@@ -200,16 +200,16 @@ fn eat(
     let mut put: usize = 0;
     let mut count = lines;
     let mut goes_on = going;
-    loop {
+    while goes_on & (ROOM <= out.len() - put) {
+        // where nothing is left there is no line, but for line 1: an empty input has an empty one
+        if taken == piece.len() {
+            if 0 < count {
+                break;
+            }
+        }
         let next = next_line(piece, taken, ended, count);
-        let sure = next.sure;
-        if !(goes_on & ((ROOM <= out.len() - put) & sure)) {
-            return Eaten {
-                taken,
-                put,
-                lines: count,
-                going: goes_on,
-            };
+        if !next.sure {
+            break;
         }
         let end = next.end;
         let line = next.line;
@@ -219,6 +219,12 @@ fn eat(
         taken = next.next;
         put = answered.at;
         goes_on = goes;
+    }
+    Eaten {
+        taken,
+        put,
+        lines: count,
+        going: goes_on,
     }
 }
 

@@ -1,7 +1,7 @@
--- `first_line::any_line` meets its contract: where the line ends, and the line parsed if that is known and it is not too long.
+-- `first_line::any_line` meets its contract: where the line ends, and the line parsed if that is asked for, its end is known and it is not too long.
 -- Assumes nothing.
 use mathlib.Core.Path.{sym, _∙_}
-use mathlib.Core.Bool.{_||_}
+use mathlib.Core.Bool.{_&&_, _||_}
 use denote.Ref.{now}
 use lib.Seq.{length-take-le}
 use Rattle.first_line.proofs.Good.{any-first, line-told, line-untold, end-inside}
@@ -23,8 +23,8 @@ returns c =
     let ends-line = c .before .before .ends-line in
     let line-end = c .before .before .before .line-end in
     let args = c .before .before .before .before .before .args in
-    any-first (args .ended) (now (args .text)) (line-end .ensures) (ends-line .ensures)
-    (c .refused .ensures ∙ line-untold (ends-line .result || args .ended) (line-end .result) (now (args .text)) (c .before .if1 .taken))
+    any-first (args .asked) (args .ended) (now (args .text)) (line-end .ensures) (ends-line .ensures)
+    (c .refused .ensures ∙ line-untold (args .asked && (ends-line .result || args .ended)) (line-end .result) (now (args .text)) (c .before .if1 .taken))
 
 slice-aggregate-parse-line : tie.Need-slice-aggregate-parse-line
 slice-aggregate-parse-line c =
@@ -41,8 +41,8 @@ returns-2 c =
     let ends-line = c .before .before .before .ends-line in
     let line-end = c .before .before .before .before .line-end in
     let args = c .before .before .before .before .before .before .args in
-    any-first (args .ended) (now (args .text)) (line-end .ensures) (ends-line .ensures)
-    (c .parse-line .ensures ∙ line-told (ends-line .result || args .ended) (line-end .result) (now (args .text)) (if1 .left))
+    any-first (args .asked) (args .ended) (now (args .text)) (line-end .ensures) (ends-line .ensures)
+    (c .parse-line .ensures ∙ line-told (args .asked && (ends-line .result || args .ended)) (line-end .result) (now (args .text)) (if1 .left))
 
 pub any-line-spec : {M : Type 1} → statement M
 any-line-spec =

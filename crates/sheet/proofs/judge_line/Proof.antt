@@ -60,7 +60,7 @@ judge-parsed-requires c κs =
     let if1 = c .before .before .before .before .if1 in
     let pre = c .before .before .before .before .before .before .before .before .pre in
     let args = c .before .before .before .before .before .before .before .before .args in
-    (pre .0, (positive (args .lines) (if1 .left), (omega (arith, (if2 .left)), parse-no-fault (now (args .line)) (args .parsed) (pre .1 (if3 .left)))))
+    (pre .0, (positive (args .lines) (if1 .left), (omega (arith, (if2 .left)), parse-no-fault (now (args .line)) (args .parsed) (pre .1 (positive (args .lines) (if1 .left)) (if3 .left)))))
 
 same-length-4 : tie.Need-same-length-4
 same-length-4 c = search needs
@@ -77,7 +77,7 @@ returns-4 c =
     let args = c .before .before .before .before .before .before .before .before .before .before .before .before .before .args in
     let pre = c .before .before .before .before .before .before .before .before .before .before .before .before .before .pre in
     line-read (args .lines) (now (args .line)) (now (args .table)) (args .parsed) (if1 .left) (if2 .left) (if3 .left)
-    (pre .1 (if3 .left)) (judge-parsed .ensures)
+    (pre .1 (positive (args .lines) (if1 .left)) (if3 .left)) (judge-parsed .ensures)
 
 pub judge-line-spec : {M : Type 1} → statement M
 judge-line-spec =

@@ -2,6 +2,7 @@
 -- Assumes nothing.
 use mathlib.Core.Path.{_∙_, ap}
 use denote.Ref.{now}
+use lib.Dec.{ltb}
 use Rattle.first_line.specs.First.{firstLine}
 use Rattle.sheet.proofs.Laws.{first-within, next-seen, rest-of}
 use borrow.Author.Needs.{needs}
@@ -30,8 +31,8 @@ add-end c =
     let parse = c .before .before .parse in
     search (
       needs,
-      first-within (now (args .piece)) (args .start) (args .ended) (parse .result) pre
-          (parse .ensures ∙ ap (firstLine (args .ended)) (rest-of (now (args .piece)) (args .start))),
+      first-within (now (args .piece)) (args .start) (ltb 0 (args .lines)) (args .ended) (parse .result) pre
+          (parse .ensures ∙ ap (firstLine (ltb 0 (args .lines)) (args .ended)) (rest-of (now (args .piece)) (args .start))),
     )
 
 behind-requires : tie.Need-behind-requires
@@ -41,8 +42,8 @@ behind-requires c κs =
     let parse = c .before .before .parse in
     search (
       needs,
-      first-within (now (args .piece)) (args .start) (args .ended) (parse .result) pre
-          (parse .ensures ∙ ap (firstLine (args .ended)) (rest-of (now (args .piece)) (args .start))),
+      first-within (now (args .piece)) (args .start) (ltb 0 (args .lines)) (args .ended) (parse .result) pre
+          (parse .ensures ∙ ap (firstLine (ltb 0 (args .lines)) (args .ended)) (rest-of (now (args .piece)) (args .start))),
     )
 
 returns : tie.Need-returns
@@ -50,7 +51,7 @@ returns c =
     let args = c .before .before .before .before .before .before .args in
     let parse = c .before .before .before .parse in
     next-seen (args .ended) (args .lines) (now (args .piece)) (args .start) (c .behind .result) (parse .result)
-    (parse .ensures ∙ ap (firstLine (args .ended)) (rest-of (now (args .piece)) (args .start))) (c .behind .ensures)
+    (parse .ensures ∙ ap (firstLine (ltb 0 (args .lines)) (args .ended)) (rest-of (now (args .piece)) (args .start))) (c .behind .ensures)
 
 pub next-line-spec : {M : Type 1} → statement M
 next-line-spec =
