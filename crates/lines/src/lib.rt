@@ -1,9 +1,10 @@
 // Finds where the lines of a text end (definition 8.1).
 ghost use mathlib.Core.Path.{_≡_};
-ghost use Prim.Native.Nat.{_+_, _≤_, min};
+ghost use Prim.Native.Nat.{_+_, _-_, _≤_, min};
 ghost use lib.ListN.{length, drop};
 ghost use Rattle.lines.specs.Lines.{crlf};
 ghost use Rattle.lines.specs.Seen.{lineEnd, tooLong};
+ghost use Rattle.lines.specs.Code.{beforeCR};
 
 // The most bytes that a line may have before its CR LF (definition 8.7).
 pub const LONGEST: usize = 160;
@@ -42,6 +43,22 @@ pub fn ends_line(text: &[u8], at: usize) -> bool
     (text[at] == CR) & (text[at + 1] == LF)
 }
 
+// The offset of the next CR from an offset on, or `last`.
+fn next_cr(text: &[u8], start: usize, last: usize) -> usize
+    requires { ⌜ start ≤ last ⌝ }
+    requires { ⌜ last ≤ length (now text) ⌝ }
+    ensures { λ r. ⌜ r ≡ start + beforeCR (last - start) (drop start (now (text .entry))) ⌝ }
+{
+    let mut at = start;
+    while at < last {
+        if text[at] == CR {
+            break;
+        }
+        at += 1;
+    }
+    at
+}
+
 // The offset at which a line ends: at its CR LF, where it is certainly too long, or at the end of the text.
 pub fn line_end(text: &[u8], start: usize) -> usize
     ensures { λ r. ⌜ r ≡ lineEnd (now (text .entry)) start ⌝ }
@@ -50,16 +67,12 @@ pub fn line_end(text: &[u8], start: usize) -> usize
         return start;
     }
     let last = last_seen(text, start);
-    let mut at = start;
+    let mut at = next_cr(text, start, last);
     while at < last {
-        if text[at] != CR {
-            at += 1;
-            continue;
-        }
         if ends_line(text, at) {
             return at;
         }
-        at += 1;
+        at = next_cr(text, at + 1, last);
     }
     at
 }

@@ -4,7 +4,7 @@ use mathlib.Core.Path.{sym, _∙_}
 use Prim.Native.Nat.{_-_}
 use native.Mathlib.Omega.{arith}
 use denote.Ref.{now}
-use Rattle.lines.proofs.Laws.{Looked, looked-start, looked-next, looked-here, looked-end, past-end, none-here}
+use Rattle.lines.proofs.Laws.{Looked, looked-start, looked-next, looked-on, looked-here, looked-end, past-end}
 use borrow.Author.Needs.{needs}
 use Rattle.lines.proofs.line_end.Statement.{statement}
 use Rattle.lines.proofs.line_end.Tie as tie
@@ -21,39 +21,33 @@ returns c = past-end (now (c .before .before .args .text)) (c .before .before .a
 last-seen-requires : tie.Need-last-seen-requires Inv-loop μ-loop
 last-seen-requires c κs = omega (arith, c .if1 .left)
 
+next-cr-requires : tie.Need-next-cr-requires Inv-loop μ-loop
+next-cr-requires c κs =
+    let looked = looked-start (now (c .before .before .before .args .text)) (c .before .before .before .args .start) (c .last-seen .result) (c .before .if1 .left) (c .last-seen .ensures) in
+    (looked .below, looked .inside)
+
 loop-holds : tie.Need-loop-holds Inv-loop μ-loop
-loop-holds c = looked-start (now (c .before .before .before .args .text)) (c .before .before .before .args .start) (c .last-seen .result) (c .before .if1 .left) (c .last-seen .ensures)
-
-shared-slice-read-if2 : tie.Need-shared-slice-read-if2 Inv-loop μ-loop
-shared-slice-read-if2 c = omega (arith, c .before .before .loop .inv .inside)
-
-add-at : tie.Need-add-at Inv-loop μ-loop
-add-at c = omega (arith, c .before .before .before .loop .inv .inside)
-
-loop-less : tie.Need-loop-less Inv-loop μ-loop
-loop-less c = omega arith
-
-loop-again : tie.Need-loop-again Inv-loop μ-loop
-loop-again c =
-    let loop = c .before .before .before .loop in
-    let args = c .before .before .before .before .before .before .before .args in
-    looked-next (loop .inv) (c .before .before .loop-test .taken)
-    (none-here (now (args .text)) (loop .at) (omega (arith, loop .inv .inside)) (c .if2 .taken))
+loop-holds c =
+    looked-on (looked-start (now (c .before .before .before .before .args .text)) (c .before .before .before .before .args .start) (c .before .last-seen .result) (c .before .before .if1 .left) (c .before .last-seen .ensures)) (c .next-cr .ensures)
 
 ends-line-requires : tie.Need-ends-line-requires Inv-loop μ-loop
 ends-line-requires c κs = search needs
 
 returns-2 : tie.Need-returns-2 Inv-loop μ-loop
-returns-2 c = looked-here (c .before .before .before .before .before .loop .inv) (c .before .before .before .before .loop-test .taken) (sym (c .before .ends-line .ensures) ∙ c .if3 .taken)
+returns-2 c = looked-here (c .before .before .before .loop .inv) (c .before .before .loop-test .taken) (sym (c .before .ends-line .ensures) ∙ c .if2 .taken)
 
-add-at-2 : tie.Need-add-at-2 Inv-loop μ-loop
-add-at-2 c = omega (arith, c .before .before .before .before .before .loop .inv .inside)
+add-next-cr : tie.Need-add-next-cr Inv-loop μ-loop
+add-next-cr c = omega (arith, c .before .before .loop-test .taken, c .before .before .before .loop .inv .inside)
 
-loop-less-2 : tie.Need-loop-less-2 Inv-loop μ-loop
-loop-less-2 c = omega arith
+next-cr-requires-2 : tie.Need-next-cr-requires-2 Inv-loop μ-loop
+next-cr-requires-2 c κs = (omega (arith, c .before .before .loop-test .taken), c .before .before .before .loop .inv .inside)
 
-loop-again-2 : tie.Need-loop-again-2 Inv-loop μ-loop
-loop-again-2 c = looked-next (c .before .before .before .before .before .loop .inv) (c .before .before .before .before .loop-test .taken) (sym (c .before .ends-line .ensures) ∙ c .if3 .left)
+loop-less : tie.Need-loop-less Inv-loop μ-loop
+loop-less c = omega (arith, c .before .before .before .loop-test .taken, c .next-cr2 .ensures)
+
+loop-again : tie.Need-loop-again Inv-loop μ-loop
+loop-again c =
+    looked-on (looked-next (c .before .before .before .before .loop .inv) (c .before .before .before .loop-test .taken) (sym (c .before .before .ends-line .ensures) ∙ c .before .if2 .left)) (c .next-cr2 .ensures)
 
 returns-3 : tie.Need-returns-3 Inv-loop μ-loop
 returns-3 c = looked-end (c .before .loop .inv) (c .loop-test .left)
@@ -66,14 +60,12 @@ line-end-spec =
     μ-loop
     returns
     last-seen-requires
+    next-cr-requires
     loop-holds
-    shared-slice-read-if2
-    add-at
-    loop-less
-    loop-again
     ends-line-requires
     returns-2
-    add-at-2
-    loop-less-2
-    loop-again-2
+    add-next-cr
+    next-cr-requires-2
+    loop-less
+    loop-again
     returns-3)
