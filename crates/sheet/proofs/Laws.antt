@@ -1,13 +1,13 @@
 -- Laws about a piece that is judged line by line.
 -- Assumes nothing.
 use mathlib.Core.Path.{_≡_, refl, sym, _∙_, ap, ap₂, subst}
-use mathlib.Core.Bool.{Bool, true, false, cond, _&&_, _||_, false≢true}
+use mathlib.Core.Bool.{Bool, true, false, cond, not, _&&_, _||_, false≢true}
 use mathlib.Core.List.{List, [], _++_, append-nil}
 use Prim.Native.Nat.{ℕ, suc, _+_, _-_, _≤_, _<_, _^_, min}
 use native.Mathlib.Nat.{add-zero, zero-add, add-assoc, add-comm, le-of-eq, le-antisymm, add-sub-cancel-left, pos-of-ne-zero}
 use native.Mathlib.Numerals.{add-one}
 use native.Mathlib.Omega.{arith}
-use borrow.Author.Tests.{ltb-true, leb-true, leb-false, le-leb, lt-leb, lt-ltb, le-ltb, ltb-false, eq-eqb, ne-eqb, eqb-true}
+use borrow.Author.Tests.{ltb-true, leb-true, leb-false, le-leb, lt-leb, lt-ltb, le-ltb, ltb-false, eq-eqb, ne-eqb, eqb-true, not-true, not-false}
 use lib.Dec.{eqb, leb, ltb}
 use lib.ListN.{length, getD, set, take, drop, replicate, length-append, length-take, length-drop, length-set, length-replicate, take-append-drop, drop-of-length-le}
 use lib.Seq.{drop-drop, drop-length, drop-at, take-at, take-add, take-all, take-length, getD-drop, paste, paste-suc, length-paste}
@@ -88,15 +88,30 @@ unsure ended space h e = go (ready ended space h) refl
     go true f = sym (is-ready ended space h f .is-sure) ∙ e
     go false f = refl
 
+-- the same, as the loop asks for it
+pub sure-next : {ended : Bool} {piece out₀ : List ℕ} {h₀ : Held} {table out : List ℕ} {taken put lines : ℕ} {going : Bool} {next : Next}
+    → Eating ended piece out₀ h₀ table out taken put lines going → going && leb room (length out - put) ≡ true
+    → next ≡ nextIn ended lines piece taken → not (next .sure) ≡ false
+    → ready ended (length out₀) (now-held piece taken put lines going table out) ≡ true
+sure-next {next = next} e f n g = ready-test e f (sym (ap (λ (x : Next). x .sure) n) ∙ not-false (next .sure) g)
+
+pub unsure-next : {ended : Bool} {piece out₀ : List ℕ} {h₀ : Held} {table out : List ℕ} {taken put lines : ℕ} {going : Bool} {next : Next}
+    → Eating ended piece out₀ h₀ table out taken put lines going
+    → next ≡ nextIn ended lines piece taken → not (next .sure) ≡ true
+    → ready ended (length out₀) (now-held piece taken put lines going table out) ≡ false
+unsure-next {next = next} e n g = unsure _ _ _ (sym (ap (λ (x : Next). x .sure) n) ∙ not-true (next .sure) g)
+
 -- behind line 1, nothing is no line
-pub nothing-left : (ended : Bool) (lines taken : ℕ) (piece : List ℕ) → taken ≡ length piece → 0 < lines → sure ended lines (drop taken piece) ≡ false
+pub nothing-left : {ended : Bool} {piece out₀ : List ℕ} {h₀ : Held} {table out : List ℕ} {taken put lines : ℕ} {going : Bool}
+    → Eating ended piece out₀ h₀ table out taken put lines going → taken ≡ length piece → 0 < lines
+    → ready ended (length out₀) (now-held piece taken put lines going table out) ≡ false
 unfolding sure whole
-nothing-left ended lines taken piece e h =
-    ap (sure ended lines) (drop-of-length-le piece (le-of-eq (sym e))) ∙ ap (λ b. ended && b) (ne-eqb lines 0 (λ z. omega (arith, z, h))) ∙ never ended
+nothing-left {ended} {piece} {lines = lines} e all h =
+    unsure _ _ _ (ap (sure ended lines) (drop-of-length-le piece (le-of-eq (sym all))) ∙ ended-or-not ended)
   where
-    never : (b : Bool) → b && false ≡ false
-    never true = refl
-    never false = refl
+    ended-or-not : (b : Bool) → sure b lines [] ≡ false
+    ended-or-not true = ne-eqb lines 0 (λ z. omega (arith, z, h))
+    ended-or-not false = refl
 
 -- the loop stops if the run is not ready
 pub eating-stop : {ended : Bool} {piece out₀ : List ℕ} {h₀ : Held} {table out : List ℕ} {taken put lines : ℕ} {going : Bool}

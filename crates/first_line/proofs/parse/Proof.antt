@@ -36,7 +36,7 @@ any-line-requires : tie.Need-any-line-requires
 any-line-requires c κs = search needs
 
 returns-2 : tie.Need-returns-2
-returns-2 c = search needs
+returns-2 c = c .any-line .ensures
 
 pub parse-spec : {M : Type 1} → statement M
 parse-spec =

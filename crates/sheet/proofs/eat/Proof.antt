@@ -1,14 +1,12 @@
 -- `sheet::eat` meets its contract: what is left to eat is what was to be eaten. The measure is the bytes that are held, and the end of the run.
 -- Assumes nothing.
-use mathlib.Core.Path.{refl, sym, _∙_, ap}
+use mathlib.Core.Path.{refl}
 use mathlib.Core.Bool.{cond}
 use Prim.Native.Nat.{_+_, _-_}
-use borrow.Author.Tests.{not-true, not-false}
 use denote.Ref.{now}
 use lib.ListN.{length}
-use Rattle.sheet.specs.declared.Next.{Next}
 use Rattle.sheet.specs.Pieces.{held}
-use Rattle.sheet.proofs.Laws.{Eating, eating-start, ready-test, unsure, nothing-left, next-end, roomy-here, said-here, counts-on, eaten-all, eating-less, eating-next}
+use Rattle.sheet.proofs.Laws.{Eating, eating-start, ready-test, sure-next, unsure-next, nothing-left, next-end, roomy-here, said-here, counts-on, eaten-all, eating-less, eating-next}
 use Rattle.sheet.proofs.eat.Statement.{statement}
 use Rattle.sheet.proofs.eat.Tie as tie
 
@@ -56,7 +54,7 @@ judge-line-requires c κs =
     let next-line = c .before .before .before .before .before .before .next-line in
     let test = c .before .before .before .before .before .before .before .before .loop-test in
     let loop = c .before .before .before .before .before .before .before .before .before .loop in
-    let ready = ready-test (loop .inv) (test .taken) (sym (ap (λ (x : Next). x .sure) (next-line .ensures)) ∙ not-false _ (if3 .left)) in
+    let ready = sure-next (loop .inv) (test .taken) (next-line .ensures) (if3 .left) in
     (roomy-here (loop .inv) ready, said-here (loop .inv) (next-line .result) (next-line .ensures) ready)
 
 counted-requires : tie.Need-counted-requires Inv-loop μ-loop
@@ -72,7 +70,7 @@ loop-less c =
     let next-line = c .before .before .before .before .before .before .before .before .before .before .before .before .next-line in
     let test = c .before .before .before .before .before .before .before .before .before .before .before .before .before .before .loop-test in
     let loop = c .before .before .before .before .before .before .before .before .before .before .before .before .before .before .before .loop in
-    let ready = ready-test (loop .inv) (test .taken) (sym (ap (λ (x : Next). x .sure) (next-line .ensures)) ∙ not-false _ (if3 .left)) in
+    let ready = sure-next (loop .inv) (test .taken) (next-line .ensures) (if3 .left) in
     eating-less (loop .inv)
     (record { is-ready = ready; is-next = next-line .ensures; answered = judge-line .ensures; counted = c .counted .ensures })
 
@@ -83,7 +81,7 @@ loop-again c =
     let next-line = c .before .before .before .before .before .before .before .before .before .before .before .before .next-line in
     let test = c .before .before .before .before .before .before .before .before .before .before .before .before .before .before .loop-test in
     let loop = c .before .before .before .before .before .before .before .before .before .before .before .before .before .before .before .loop in
-    let ready = ready-test (loop .inv) (test .taken) (sym (ap (λ (x : Next). x .sure) (next-line .ensures)) ∙ not-false _ (if3 .left)) in
+    let ready = sure-next (loop .inv) (test .taken) (next-line .ensures) (if3 .left) in
     eating-next (loop .inv)
     (record { is-ready = ready; is-next = next-line .ensures; answered = judge-line .ensures; counted = c .counted .ensures })
 
@@ -103,11 +101,7 @@ same-length-4 : tie.Need-same-length-4 Inv-loop μ-loop
 same-length-4 c = c .before .before .before .loop .inv .long
 
 returns-2 : tie.Need-returns-2 Inv-loop μ-loop
-returns-2 c =
-    let loop = c .before .before .before .loop in
-    let args = c .before .before .before .before .before .before .before .args in
-    eaten-all (loop .inv)
-    (unsure _ _ _ (nothing-left (args .ended) (loop .count) (loop .taken) (now (args .piece)) (c .before .if1 .taken) (c .if2 .taken)))
+returns-2 c = eaten-all (c .before .before .before .loop .inv) (nothing-left (c .before .before .before .loop .inv) (c .before .if1 .taken) (c .if2 .taken))
 
 same-length-5 : tie.Need-same-length-5 Inv-loop μ-loop
 same-length-5 c = c .before .before .before .before .before .loop .inv .table-long
@@ -116,10 +110,7 @@ same-length-6 : tie.Need-same-length-6 Inv-loop μ-loop
 same-length-6 c = c .before .before .before .before .before .loop .inv .long
 
 returns-3 : tie.Need-returns-3 Inv-loop μ-loop
-returns-3 c =
-    let next-line = c .before .before .next-line in
-    eaten-all (c .before .before .before .before .before .loop .inv)
-    (unsure _ _ _ (sym (ap (λ (x : Next). x .sure) (next-line .ensures)) ∙ not-true _ (c .if3 .taken)))
+returns-3 c = eaten-all (c .before .before .before .before .before .loop .inv) (unsure-next (c .before .before .before .before .before .loop .inv) (c .before .before .next-line .ensures) (c .if3 .taken))
 
 pub eat-spec : {M : Type 1} → statement M
 eat-spec =
