@@ -117,7 +117,7 @@ instructions() {
     fi
 }
 
-# prints the instructions of a program in its own functions, without those of libraries and of the start
+# prints the instructions of a program in its own functions, without those of libraries and of the dynamic linker
 own_instructions() {
     callgrind "$1"
     callgrind_annotate --threshold=100 "$work/count" 2>/dev/null |

@@ -1,7 +1,7 @@
 -- Laws about a pair number that is read in place, digit by digit, and about a flag.
 -- Assumes nothing.
 use mathlib.Core.Path.{_≡_, refl, sym, _∙_, ap, ap₂, subst}
-use mathlib.Core.Bool.{Bool, true, false, not, cond, _&&_, _||_, true≢false, false≢true}
+use mathlib.Core.Bool.{Bool, true, false, not, cond, _&&_, _||_, false≢true}
 use mathlib.Core.List.{List, [], _∷_, _++_}
 use Prim.Native.Nat.{ℕ, suc, _+_, _-_, _*_, _^_, _≤_, _<_}
 use native.Mathlib.Nat.{add-zero, pow-suc, pow-le-pow-right}
@@ -12,7 +12,7 @@ use lib.Dec.{eqb, ltb, leb}
 use lib.ListN.{length, getD, take, drop, length-drop, length-append}
 use lib.Seq.{take-suc, getD-drop, length-take-le, getD-take}
 use Rattle.kinds.specs.Tests.{all}
-use Rattle.kinds.proofs.Lists.{and-left, and-right, and-both, all-append}
+use Rattle.kinds.proofs.Lists.{and-left, and-right, and-both, neither, all-append}
 use Rattle.text.specs.Text.{comma, CR}
 use Rattle.names.specs.Names.{codeOf, flagNames, unknown, mostDigits, isDigit, readDecimal, pairOf}
 use Rattle.names.proofs.Laws.{digit-high, pair-digits}
@@ -92,10 +92,10 @@ pair-met text at found d room h z =
     let s : List ℕ = drop at text in
     let field : List ℕ = take count s in
     let few : count ≤ 5 = d .few in
-    let some : eqb count 0 ≡ false = or-none-left (eqb count 0) (not (eqb (getD text (at + count) 0) comma)) h in
+    let none = neither (eqb count 0) (not (eqb (getD text (at + count) 0) comma)) h in
     let ends : getD text (at + count) 0 ≡ comma =
-    eqb-true (getD text (at + count) 0) comma (not-false (eqb (getD text (at + count) 0) comma) (or-none-right (eqb count 0) (not (eqb (getD text (at + count) 0) comma)) h)) in
-    let pos : 0 < count = omega (arith, eqb-false count 0 some) in
+    eqb-true (getD text (at + count) 0) comma (not-false (eqb (getD text (at + count) 0) comma) (none .1)) in
+    let pos : 0 < count = omega (arith, eqb-false count 0 (none .0)) in
     let long : length s ≡ length text - at = length-drop at text in
     let front : length field ≡ count = length-take-le count s (omega arith) in
     let start : getD field 0 0 ≡ getD text at 0 = getD-take count s 0 0 pos ∙ getD-drop at text 0 0 ∙ ap (λ (i : ℕ). getD text i 0) (add-zero at) in
@@ -105,14 +105,6 @@ pair-met text at found d room h z =
     (ap₂ (λ (x n : ℕ). eqb x 48 && ltb 1 n) start front ∙ z)
     (d .value-so ∙ ap (λ (b : Bool). cond b (readDecimal 0 field) unknown) (sym (d .digits-so)))))
     (pair-known count (found .value) (d .few) (d .small))
-  where
-    or-none-left : (a b : Bool) → a || b ≡ false → a ≡ false
-    or-none-left false b h = refl
-    or-none-left true b h = absurd (true≢false h)
-
-    or-none-right : (a b : Bool) → a || b ≡ false → b ≡ false
-    or-none-right false b h = h
-    or-none-right true b h = absurd (true≢false h)
 
 -- a flag's digit is its code, which is known
 record FlagDigit (d : ℕ) : Type 0 where

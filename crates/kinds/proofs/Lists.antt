@@ -66,6 +66,10 @@ or-right false b h = h
 pub or-left : {a : Bool} (b : Bool) → a ≡ true → a || b ≡ true
 or-left b h = ap (λ (x : Bool). x || b) h
 
+pub neither : (a b : Bool) → a || b ≡ false → (a ≡ false) × (b ≡ false)
+neither true b h = absurd (false≢true (sym h))
+neither false b h = (refl, h)
+
 -- what holds for each of the seven states holds for every number below seven
 pub each-state {ℓ} : (P : ℕ → Type ℓ) → P I → P UC → P UCE → P UD → P UDP → P SC → P SD → (n : ℕ) → n < 7 → P n
 each-state P i uc uce ud udp sc sd zero h = i

@@ -1,7 +1,7 @@
 -- Laws about a piece that is judged line by line.
 -- Assumes nothing.
 use mathlib.Core.Path.{_≡_, refl, sym, _∙_, ap, ap₂, subst}
-use mathlib.Core.Bool.{Bool, true, false, cond, not, _&&_, _||_, false≢true}
+use mathlib.Core.Bool.{Bool, true, false, cond, not, _&&_, _||_, false≢true, and-assoc, or-false}
 use mathlib.Core.List.{List, [], _++_, append-nil}
 use Prim.Native.Nat.{ℕ, suc, _+_, _-_, _≤_, _<_, _^_, min}
 use native.Mathlib.Nat.{add-zero, zero-add, add-assoc, add-comm, le-of-eq, le-antisymm, add-sub-cancel-left, pos-of-ne-zero}
@@ -67,7 +67,7 @@ pub ready-test : {ended : Bool} {piece out₀ : List ℕ} {h₀ : Held} {table o
 unfolding ready
 ready-test {ended} {piece} {out₀} {h₀} {table} {out} {taken} {put} {lines} {going} {a} {b} e f g =
     ap₂ (λ (x y : Bool). going && (x && y)) (sym (roomy ∙ ap₂ (λ (m n : ℕ). leb (m + room) n) (sym (length-front put out (e .fits))) (e .long))) g
-    ∙ in-turn going (leb room (length out - put)) ∙ ap (λ (x : Bool). x && b) f
+    ∙ sym (and-assoc going (leb room (length out - put)) b) ∙ ap (λ (x : Bool). x && b) f
   where
     roomy : leb room (length out - put) ≡ leb (put + room) (length out)
     roomy = go (leb room (length out - put)) refl
@@ -75,10 +75,6 @@ ready-test {ended} {piece} {out₀} {h₀} {table} {out} {taken} {put} {lines} {
         go : (c : Bool) → leb room (length out - put) ≡ c → c ≡ leb (put + room) (length out)
         go true h = sym (le-leb (put + room) (length out) (omega (arith, leb-true room (length out - put) h)))
         go false h = sym (lt-leb (put + room) (length out) (omega (arith, leb-false room (length out - put) h)))
-
-    in-turn : (c d : Bool) → c && (d && b) ≡ (c && d) && b
-    in-turn true d = refl
-    in-turn false d = refl
 
 -- the run is not ready if too little is known of the next line
 pub unsure : (ended : Bool) (space : ℕ) (h : Held) → sure ended (h .lines) (h .rest) ≡ false → ready ended space h ≡ false
@@ -88,13 +84,14 @@ unsure ended space h e = go (ready ended space h) refl
     go true f = sym (is-ready ended space h f .is-sure) ∙ e
     go false f = refl
 
--- the same, as the loop asks for it
+-- the run is ready if the loop's two tests hold
 pub sure-next : {ended : Bool} {piece out₀ : List ℕ} {h₀ : Held} {table out : List ℕ} {taken put lines : ℕ} {going : Bool} {next : Next}
     → Eating ended piece out₀ h₀ table out taken put lines going → going && leb room (length out - put) ≡ true
     → next ≡ nextIn ended lines piece taken → not (next .sure) ≡ false
     → ready ended (length out₀) (now-held piece taken put lines going table out) ≡ true
 sure-next {next = next} e f n g = ready-test e f (sym (ap (λ (x : Next). x .sure) n) ∙ not-false (next .sure) g)
 
+-- it is not ready if the second fails
 pub unsure-next : {ended : Bool} {piece out₀ : List ℕ} {h₀ : Held} {table out : List ℕ} {taken put lines : ℕ} {going : Bool} {next : Next}
     → Eating ended piece out₀ h₀ table out taken put lines going
     → next ≡ nextIn ended lines piece taken → not (next .sure) ≡ true
@@ -286,12 +283,8 @@ next-said ended lines piece start next e s behind k =
     go true f d h = refl
     go false f true h = refl
     go false f false h =
-        let long = ltb-true tooLong (length rest) (or-false (ltb tooLong (length rest)) h) in
+        let long = ltb-true tooLong (length rest) (sym (or-false (ltb tooLong (length rest))) ∙ h) in
         absurd (omega (arith, leb-true reached longest short, reach-all tooLong rest f))
-      where
-        or-false : (b : Bool) → b || false ≡ true → b ≡ true
-        or-false true h = refl
-        or-false false h = h
 
 -- a refusal does the same with any table
 pub refuse-on : {at : ℕ} {out out′ : List ℕ} {r : Answered} (number k : ℕ) (table : List ℕ)
