@@ -15,71 +15,71 @@ use Rattle.rows.specs.Event.{byte}
 use Rattle.rows.specs.Rows.{rows}
 use Rattle.rows.specs.Permitted.{asked}
 use Rattle.steps.proofs.Passing.{all_get_d}
-use Rattle.event.specs.Refusals.{issueE, below, fault}
+use Rattle.event.specs.Refusals.{issue_e, below, fault}
 use Rattle.answers.specs.declared.Question.{Question}
-use Rattle.answers.specs.Answers.{question, questionBytes, answerLimits, permits, numbersFrom, choices, all_below, answersTo}
+use Rattle.answers.specs.Answers.{question, question_bytes, answer_limits, permits, numbers_from, choices, all_below, answers_to}
 use Rattle.answers.specs.Ascending.{ascending}
-use Rattle.answers.specs.Listed.{answerLength, asking, faultOf}
-use Rattle.answers.specs.Table.{spans, numbers, answers, firstOnDat}
-use Rattle.answers.specs.Code.{span_of, tenOf, withDerr, answerAt, answersIn}
-use Rattle.answers.proofs.Ascending.{all-member, same-members}
-use Rattle.answers.proofs.Choices.{chosen, choices-members, chosen-below, allBelow-members, allBelow-ascending, keep-members, keep-ascending}
-use Rattle.answers.proofs.OfRows.{rowChoices, rowAsked, answersOf, rows-members}
-use Rattle.answers.proofs.Sorted.{order, insert, sorted, alike, alike-equal, sorted-members}
+use Rattle.answers.specs.Listed.{answer_length, asking, fault_of}
+use Rattle.answers.specs.Table.{spans, numbers, answers, first_on_dat}
+use Rattle.answers.specs.Code.{span_of, ten_of, with_derr, answer_at, answers_in}
+use Rattle.answers.proofs.Ascending.{all_member, same_members}
+use Rattle.answers.proofs.Choices.{chosen, choices_members, chosen_below, all_below-members, all_below-ascending, keep_members, keep_ascending}
+use Rattle.answers.proofs.OfRows.{row_choices, row_asked, answers_of, rows_members}
+use Rattle.answers.proofs.Sorted.{order, insert, sorted, alike, alike_equal, sorted_members}
 
 -- the six bytes of every question in range
 unfoldable pub questions : List (List ℕ)
-questions = choices ((asking issueE).requests ∷ map (numbersFrom 0) (asking issueE).limits)
+questions = choices ((asking issue_e).requests ∷ map (numbers_from 0) (asking issue_e).limits)
 
 -- the question with these six bytes
-abbrev pub questionAt : List ℕ → Question
-questionAt b = question (byte b 0) (byte b 1) (byte b 2) (byte b 3) (byte b 4) (byte b 5)
+abbrev pub question_at : List ℕ → Question
+question_at b = question (byte b 0) (byte b 1) (byte b 2) (byte b 3) (byte b 4) (byte b 5)
 
 -- a question that is not refused with 4 or 5 is one of them
-in-range : (b r : Bool) → ◌≡◌ {A = ℕ} (cond b (cond r 0 5) 4) 0 → (b ≡ true) × (r ≡ true)
-in-range true true h = (refl, refl)
-in-range true false h = absurd (omega arith)
-in-range false r h = absurd (omega arith)
+in_range_lem : (b r : Bool) → ◌≡◌ {A = ℕ} (cond b (cond r 0 5) 4) 0 → (b ≡ true) × (r ≡ true)
+in_range_lem true true h = (refl, refl)
+in_range_lem true false h = absurd (omega arith)
+in_range_lem false r h = absurd (omega arith)
 
-asked-question : (q : Question) → faultOf issueE q ≡ 0 → any (same (questionBytes q)) questions ≡ true
+asked_question : (q : Question) → fault_of issue_e q ≡ 0 → any (same (question_bytes q)) questions ≡ true
 unfolding questions fault
-asked-question q h =
-    let k = in-range (below (questionBytes q) 1 (asking issueE).limits) (q.request.0 ∈? (asking issueE).requests) h in
-    choices-members ((asking issueE).requests ∷ map (numbersFrom 0) (asking issueE).limits) (questionBytes q)
-    ∙ and_both k.1 (chosen-below (asking issueE).limits (questionBytes q) 1 ∙ k.0)
+asked_question q h =
+    let k = in_range_lem (below (question_bytes q) 1 (asking issue_e).limits) (q.request.0 ∈? (asking issue_e).requests) h in
+    choices_members ((asking issue_e).requests ∷ map (numbers_from 0) (asking issue_e).limits) (question_bytes q)
+    ∙ and_both k.1 (chosen_below (asking issue_e).limits (question_bytes q) 1 ∙ k.0)
 
 -- a test that is computed for every question in range holds for each that is not refused with 4 or 5
-pub every-question : (p : Question → Bool) → all (λ b. p (questionAt b)) questions ≡ true → (q : Question) → faultOf issueE q ≡ 0 → p q ≡ true
-every-question p h q k = all-member (λ b. p (questionAt b)) questions (questionBytes q) h (asked-question q k)
+pub every_question : (p : Question → Bool) → all (λ b. p (question_at b)) questions ≡ true → (q : Question) → fault_of issue_e q ≡ 0 → p q ≡ true
+every_question p h q k = all_member (λ b. p (question_at b)) questions (question_bytes q) h (asked_question q k)
 
 -- the table's list ascends, and has the same answers as the rows
-rightList : Question → Bool
-rightList q = ascending (answersIn (span_of q)) && alike (answersIn (span_of q)) (sorted (answersOf q rows))
+right_list : Question → Bool
+right_list q = ascending (answers_in (span_of q)) && alike (answers_in (span_of q)) (sorted (answers_of q rows))
 
 -- THE COMPUTED FACT
-all_right : all (λ b. rightList (questionAt b)) questions ≡ true
-unfolding rightList questions rows asked rowChoices rowAsked answersOf order insert sorted alike spans numbers span_of answerAt answersIn
+all_right : all (λ b. right_list (question_at b)) questions ≡ true
+unfolding right_list questions rows asked row_choices row_asked answers_of order insert sorted alike spans numbers span_of answer_at answers_in
 all_right = refl
 
 -- every answer of the table is in range, on either channel and with either error field
 in_range : ℕ → ℕ → ℕ → Bool
-in_range w channel error = below (tenOf channel w error) 0 (answerLimits issueE)
+in_range w channel error = below (ten_of channel w error) 0 (answer_limits issue_e)
 
-wordInRange : ℕ → Bool
-wordInRange w = all (λ channel. all (in_range w channel) (OK ∷ DERR ∷ [])) (RSP ∷ DAT ∷ [])
+word_in_range : ℕ → Bool
+word_in_range w = all (λ channel. all (in_range w channel) (OK ∷ DERR ∷ [])) (RSP ∷ DAT ∷ [])
 
-words-in-range : all wordInRange answers ≡ true
-unfolding wordInRange in_range
-words-in-range = refl
+words_in_range : all word_in_range answers ≡ true
+unfolding word_in_range in_range
+words_in_range = refl
 
-zero-in-range : wordInRange 0 ≡ true
-unfolding wordInRange in_range
-zero-in-range = refl
+zero_in_range : word_in_range 0 ≡ true
+unfolding word_in_range in_range
+zero_in_range = refl
 
 -- the channel and the error field that a number stands for
-on-either : (b : Bool) (m w : ℕ) → m < 2 → wordInRange w ≡ true → in_range w (cond b RSP DAT) (m * DERR) ≡ true
-unfolding wordInRange
-on-either b m w l h = error m l (one_of (λ channel. all (in_range w channel) (OK ∷ DERR ∷ [])) (cond b RSP DAT) (RSP ∷ DAT ∷ []) (channel b) h)
+on_either : (b : Bool) (m w : ℕ) → m < 2 → word_in_range w ≡ true → in_range w (cond b RSP DAT) (m * DERR) ≡ true
+unfolding word_in_range
+on_either b m w l h = error m l (one_of (λ channel. all (in_range w channel) (OK ∷ DERR ∷ [])) (cond b RSP DAT) (RSP ∷ DAT ∷ []) (channel b) h)
   where
     channel : (t : Bool) → cond t RSP DAT ∈? (RSP ∷ DAT ∷ []) ≡ true
     channel true = refl
@@ -90,50 +90,50 @@ on-either b m w l h = error m l (one_of (λ channel. all (in_range w channel) (O
     error (suc zero) k r = one_of (in_range w (cond b RSP DAT)) DERR (OK ∷ DERR ∷ []) refl r
     error (suc (suc n)) k r = absurd (omega arith)
 
-all-in-range : (ns : List ℕ) → all (λ a. below a 0 (answerLimits issueE)) (map answerAt ns) ≡ true
-unfolding answerAt in_range
-all-in-range [] = refl
-all-in-range (n ∷ ns) =
+all_in_range : (ns : List ℕ) → all (λ a. below a 0 (answer_limits issue_e)) (map answer_at ns) ≡ true
+unfolding answer_at in_range
+all_in_range [] = refl
+all_in_range (n ∷ ns) =
     and_both
-    (on-either (ltb (n % withDerr) firstOnDat) (n / withDerr % 2) (get_or answers (n % withDerr) 0) (mod-lt (n / withDerr) (omega arith))
-    (all_get_d wordInRange answers (n % withDerr) zero-in-range words-in-range))
-    (all-in-range ns)
+    (on_either (ltb (n % with_derr) first_on_dat) (n / with_derr % 2) (get_or answers (n % with_derr) 0) (mod-lt (n / with_derr) (omega arith))
+    (all_get_d word_in_range answers (n % with_derr) zero_in_range words_in_range))
+    (all_in_range ns)
 
 -- a test that follows from the other two
-added-test : (n p b : Bool) → (n && p ≡ true → b ≡ true) → n && p ≡ p && (n && b)
-added-test true true b h = sym (h refl)
-added-test true false b h = refl
-added-test false true b h = refl
-added-test false false b h = refl
+added_test : (n p b : Bool) → (n && p ≡ true → b ≡ true) → n && p ≡ p && (n && b)
+added_test true true b h = sym (h refl)
+added_test true false b h = refl
+added_test false true b h = refl
+added_test false false b h = refl
 
-pub answers-ascend : (q : Question) → ascending (answersTo issueE q) ≡ true
-unfolding answersTo
-answers-ascend q = keep-ascending (permits q) (all_below (answerLimits issueE)) (allBelow-ascending (answerLimits issueE))
+pub answers_ascend : (q : Question) → ascending (answers_to issue_e q) ≡ true
+unfolding answers_to
+answers_ascend q = keep_ascending (permits q) (all_below (answer_limits issue_e)) (all_below-ascending (answer_limits issue_e))
 
-pub answers-members : (q : Question) (a : List ℕ) → any (same a) (answersTo issueE q) ≡ permits q a && (eqb (length a) answerLength && below a 0 (answerLimits issueE))
-unfolding answersTo
-answers-members q a = keep-members (permits q) (all_below (answerLimits issueE)) a ∙ ap (λ (b : Bool). permits q a && b) (allBelow-members (answerLimits issueE) a)
+pub answers_members : (q : Question) (a : List ℕ) → any (same a) (answers_to issue_e q) ≡ permits q a && (eqb (length a) answer_length && below a 0 (answer_limits issue_e))
+unfolding answers_to
+answers_members q a = keep_members (permits q) (all_below (answer_limits issue_e)) a ∙ ap (λ (b : Bool). permits q a && b) (all_below-members (answer_limits issue_e) a)
 
 -- the list of a question in the table is the list of all permitted answers
-pub table-right : (q : Question) → faultOf issueE q ≡ 0 → answersIn (span_of q) ≡ answersTo issueE q
-unfolding rightList answersIn
-table-right q h = same-members (answersIn (span_of q)) (answersTo issueE q) ascends (answers-ascend q) members
+pub table_right : (q : Question) → fault_of issue_e q ≡ 0 → answers_in (span_of q) ≡ answers_to issue_e q
+unfolding right_list answers_in
+table_right q h = same_members (answers_in (span_of q)) (answers_to issue_e q) ascends (answers_ascend q) members
   where
-    right : ascending (answersIn (span_of q)) && alike (answersIn (span_of q)) (sorted (answersOf q rows)) ≡ true
-    right = every-question rightList all_right q h
+    right : ascending (answers_in (span_of q)) && alike (answers_in (span_of q)) (sorted (answers_of q rows)) ≡ true
+    right = every_question right_list all_right q h
 
-    ascends : ascending (answersIn (span_of q)) ≡ true
-    ascends = and_left (ascending (answersIn (span_of q))) (alike (answersIn (span_of q)) (sorted (answersOf q rows))) right
+    ascends : ascending (answers_in (span_of q)) ≡ true
+    ascends = and_left (ascending (answers_in (span_of q))) (alike (answers_in (span_of q)) (sorted (answers_of q rows))) right
 
-    of-rows : (a : List ℕ) → any (same a) (answersIn (span_of q)) ≡ eqb (length a) answerLength && permits q a
-    of-rows a =
-        ap (any (same a)) (alike-equal (answersIn (span_of q)) (sorted (answersOf q rows)) (and_right (ascending (answersIn (span_of q))) (alike (answersIn (span_of q)) (sorted (answersOf q rows))) right))
-        ∙ sorted-members a (answersOf q rows)
-        ∙ rows-members q a
+    of_rows : (a : List ℕ) → any (same a) (answers_in (span_of q)) ≡ eqb (length a) answer_length && permits q a
+    of_rows a =
+        ap (any (same a)) (alike_equal (answers_in (span_of q)) (sorted (answers_of q rows)) (and_right (ascending (answers_in (span_of q))) (alike (answers_in (span_of q)) (sorted (answers_of q rows))) right))
+        ∙ sorted_members a (answers_of q rows)
+        ∙ rows_members q a
 
-    members : (a : List ℕ) → any (same a) (answersIn (span_of q)) ≡ any (same a) (answersTo issueE q)
+    members : (a : List ℕ) → any (same a) (answers_in (span_of q)) ≡ any (same a) (answers_to issue_e q)
     members a =
-        of-rows a
-        ∙ added-test (eqb (length a) answerLength) (permits q a) (below a 0 (answerLimits issueE))
-        (λ k. all-member (λ x. below x 0 (answerLimits issueE)) (answersIn (span_of q)) a (all-in-range (take (span_of q % 64) (drop (span_of q / 64) numbers))) (of-rows a ∙ k))
-        ∙ sym (answers-members q a)
+        of_rows a
+        ∙ added_test (eqb (length a) answer_length) (permits q a) (below a 0 (answer_limits issue_e))
+        (λ k. all_member (λ x. below x 0 (answer_limits issue_e)) (answers_in (span_of q)) a (all_in_range (take (span_of q % 64) (drop (span_of q / 64) numbers))) (of_rows a ∙ k))
+        ∙ sym (answers_members q a)

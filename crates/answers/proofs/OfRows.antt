@@ -1,7 +1,7 @@
 -- The answers of the rows: an answer is among them exactly when it is permitted.
 -- Assumes nothing.
 use mathlib.Core.Path.{◌≡◌, refl, sym, ◌∙◌, ap, subst}
-use mathlib.Core.Bool.{Bool, true, false, cond, ◌&&◌, ◌||◌, and-true, and-false}
+use mathlib.Core.Bool.{Bool, true, false, cond, ◌&&◌, ◌||◌, and_true, and_false}
 use mathlib.Core.List.{List, [], ◌∷◌, ◌++◌}
 use Prim.Native.Nat.{ℕ}
 use borrow.Author.Tests.{eqb-true, eq-eqb}
@@ -12,169 +12,169 @@ use Rattle.kinds.specs.declared.Answer.{Answer}
 use Rattle.kinds.specs.declared.Answer.TheVariants.{SnpResp, SnpRespData, SnpRespDataPtl}
 use Rattle.kinds.specs.declared.Forward.TheVariants.{NoForward, CompData}
 use Rattle.kinds.specs.Answers.{wire}
-use Rattle.kinds.proofs.Lists.{In, any_found, found-any, and_left, and_right, and_both, same-equal, same_truth}
-use Rattle.rows.specs.Event.{byte, answer_of, respErrOf, tagOpOf, stateAfterOf}
+use Rattle.kinds.proofs.Lists.{In, any_found, found_any, and_left, and_right, and_both, same_equal, same_truth}
+use Rattle.rows.specs.Event.{byte, answer_of, resp_err_of, tag_op_of, state_after_of}
 use Rattle.rows.specs.Rows.{Row, rows}
-use Rattle.rows.specs.Permitted.{rulesOf, onForward, asked, answered, tagsAllow, tagOps, tagged}
-use Rattle.rows.proofs.ByRows.{Permits, permitted-row, row-permitted}
+use Rattle.rows.specs.Permitted.{rules_of, on_forward, asked, answered, tags_allow, tag_ops, tagged}
+use Rattle.rows.proofs.ByRows.{Permits, permitted_row, row_permitted}
 use Rattle.answers.specs.declared.Question.{Question}
-use Rattle.answers.specs.Answers.{eventWith, choices, permits}
-use Rattle.answers.specs.Listed.{answerLength}
+use Rattle.answers.specs.Answers.{event_with, choices, permits}
+use Rattle.answers.specs.Listed.{answer_length}
 use Rattle.answers.proofs.Ascending.{same_self}
-use Rattle.answers.proofs.Choices.{any_append, chosen, choices-members}
+use Rattle.answers.proofs.Choices.{any_append, chosen, choices_members}
 
 -- what each byte of a row's answers may be
-unfoldable pub rowChoices : Question → Row → List (List ℕ)
-rowChoices q r =
+unfoldable pub row_choices : Question → Row → List (List ℕ)
+row_choices q r =
     (byte (wire r.answer) 0 ∷ []) ∷
     (byte (wire r.answer) 1 ∷ []) ∷
     (byte (wire r.answer) 2 ∷ []) ∷
     (byte (wire r.answer) 3 ∷ []) ∷
-    tagOps q.tag.0 r.table r.before r.answer ∷
-    (rulesOf r.table).errors r.answer ∷
+    tag_ops q.tag.0 r.table r.before r.answer ∷
+    (rules_of r.table).errors r.answer ∷
     (byte (wire r.answer) 4 ∷ []) ∷
     (byte (wire r.answer) 5 ∷ []) ∷
     r.finals ∷
-    onForward r.answer ∷
+    on_forward r.answer ∷
     []
 
 -- the row is for the question: its state before, its snoop and its tag state
-unfoldable pub rowAsked : Question → Row → Bool
-rowAsked q r =
+unfoldable pub row_asked : Question → Row → Bool
+row_asked q r =
     eqb q.before.0 r.before
-    && asked (eventWith q []) r.table r.ret r.marked
-    && tagsAllow q.tag.0 r.before r.answer
+    && asked (event_with q []) r.table r.ret r.marked
+    && tags_allow q.tag.0 r.before r.answer
 
 -- the answers that some rows permit, in the order of the rows
-unfoldable pub answersOf : Question → List Row → List (List ℕ)
-answersOf q [] = []
-answersOf q (r ∷ rs) = cond (rowAsked q r) (choices (rowChoices q r)) [] ++ answersOf q rs
+unfoldable pub answers_of : Question → List Row → List (List ℕ)
+answers_of q [] = []
+answers_of q (r ∷ rs) = cond (row_asked q r) (choices (row_choices q r)) [] ++ answers_of q rs
 
 -- an answer is among those of a row
-ofRow : Question → List ℕ → Row → Bool
-ofRow q a r = rowAsked q r && (eqb (length a) answerLength && chosen (rowChoices q r) a 0)
+of_row : Question → List ℕ → Row → Bool
+of_row q a r = row_asked q r && (eqb (length a) answer_length && chosen (row_choices q r) a 0)
 
-row-members : (q : Question) (a : List ℕ) (r : Row) → any (same a) (cond (rowAsked q r) (choices (rowChoices q r)) []) ≡ ofRow q a r
-unfolding ofRow rowChoices
-row-members q a r = go (rowAsked q r)
+row_members : (q : Question) (a : List ℕ) (r : Row) → any (same a) (cond (row_asked q r) (choices (row_choices q r)) []) ≡ of_row q a r
+unfolding of_row row_choices
+row_members q a r = go (row_asked q r)
   where
-    go : (b : Bool) → any (same a) (cond b (choices (rowChoices q r)) []) ≡ b && (eqb (length a) answerLength && chosen (rowChoices q r) a 0)
-    go true = choices-members (rowChoices q r) a
+    go : (b : Bool) → any (same a) (cond b (choices (row_choices q r)) []) ≡ b && (eqb (length a) answer_length && chosen (row_choices q r) a 0)
+    go true = choices_members (row_choices q r) a
     go false = refl
 
-answers-members : (q : Question) (a : List ℕ) (rs : List Row) → any (same a) (answersOf q rs) ≡ any (ofRow q a) rs
-unfolding answersOf
-answers-members q a [] = refl
-answers-members q a (r ∷ rs) =
-    any_append (same a) (cond (rowAsked q r) (choices (rowChoices q r)) []) (answersOf q rs)
-    ∙ ap (λ (b : Bool). b || any (same a) (answersOf q rs)) (row-members q a r)
-    ∙ ap (λ (b : Bool). ofRow q a r || b) (answers-members q a rs)
+answers_members : (q : Question) (a : List ℕ) (rs : List Row) → any (same a) (answers_of q rs) ≡ any (of_row q a) rs
+unfolding answers_of
+answers_members q a [] = refl
+answers_members q a (r ∷ rs) =
+    any_append (same a) (cond (row_asked q r) (choices (row_choices q r)) []) (answers_of q rs)
+    ∙ ap (λ (b : Bool). b || any (same a) (answers_of q rs)) (row_members q a r)
+    ∙ ap (λ (b : Bool). of_row q a r || b) (answers_members q a rs)
 
 -- the six bytes of an answer, one by one
-wire-six : (w : Answer) → byte (wire w) 0 ∷ byte (wire w) 1 ∷ byte (wire w) 2 ∷ byte (wire w) 3 ∷ byte (wire w) 4 ∷ byte (wire w) 5 ∷ [] ≡ wire w
-wire-six (SnpResp r NoForward) = refl
-wire-six (SnpResp r (CompData f x)) = refl
-wire-six (SnpRespData r NoForward) = refl
-wire-six (SnpRespData r (CompData f x)) = refl
-wire-six (SnpRespDataPtl r) = refl
+wire_six : (w : Answer) → byte (wire w) 0 ∷ byte (wire w) 1 ∷ byte (wire w) 2 ∷ byte (wire w) 3 ∷ byte (wire w) 4 ∷ byte (wire w) 5 ∷ [] ≡ wire w
+wire_six (SnpResp r NoForward) = refl
+wire_six (SnpResp r (CompData f x)) = refl
+wire_six (SnpRespData r NoForward) = refl
+wire_six (SnpRespData r (CompData f x)) = refl
+wire_six (SnpRespDataPtl r) = refl
 
 -- the tests of an answer's bytes, those of its six wire bytes first
-last-six : (o e g h f x : Bool) → o && (e && ((g || false) && ((h || false) && (f && (x && true))))) ≡ (g && (h && true)) && (o && (e && (f && x)))
-last-six o e true true f x = ap (λ (b : Bool). o && (e && (f && b))) (and-true x)
-last-six o e true false f x = ap (λ (b : Bool). o && b) (and-false e) ∙ and-false o
-last-six o e false h f x = ap (λ (b : Bool). o && b) (and-false e) ∙ and-false o
+last_six : (o e g h f x : Bool) → o && (e && ((g || false) && ((h || false) && (f && (x && true))))) ≡ (g && (h && true)) && (o && (e && (f && x)))
+last_six o e true true f x = ap (λ (b : Bool). o && (e && (f && b))) (and_true x)
+last_six o e true false f x = ap (λ (b : Bool). o && b) (and_false e) ∙ and_false o
+last_six o e false h f x = ap (λ (b : Bool). o && b) (and_false e) ∙ and_false o
 
 regrouped : (a b c d o e g h f x : Bool)
     → (a || false) && ((b || false) && ((c || false) && ((d || false) && (o && (e && ((g || false) && ((h || false) && (f && (x && true)))))))))
     ≡ (a && (b && (c && (d && (g && (h && true)))))) && (o && (e && (f && x)))
-regrouped true true true true o e g h f x = last-six o e g h f x
+regrouped true true true true o e g h f x = last_six o e g h f x
 regrouped true true true false o e g h f x = refl
 regrouped true true false d o e g h f x = refl
 regrouped true false c d o e g h f x = refl
 regrouped false b c d o e g h f x = refl
 
 -- the six wire bytes of ten
-sixOf : List ℕ → List ℕ
-sixOf a = byte a 0 ∷ byte a 1 ∷ byte a 2 ∷ byte a 3 ∷ byte a 6 ∷ byte a 7 ∷ []
+six_of : List ℕ → List ℕ
+six_of a = byte a 0 ∷ byte a 1 ∷ byte a 2 ∷ byte a 3 ∷ byte a 6 ∷ byte a 7 ∷ []
 
-chosen-parts : (q : Question) (a : List ℕ) (r : Row)
-    → chosen (rowChoices q r) a 0
-    ≡ same (sixOf a) (wire r.answer)
-    && ((byte a 4 ∈? tagOps q.tag.0 r.table r.before r.answer)
-    && ((byte a 5 ∈? (rulesOf r.table).errors r.answer) && ((byte a 8 ∈? r.finals) && (byte a 9 ∈? onForward r.answer))))
-unfolding rowChoices sixOf
-chosen-parts q a r =
+chosen_parts : (q : Question) (a : List ℕ) (r : Row)
+    → chosen (row_choices q r) a 0
+    ≡ same (six_of a) (wire r.answer)
+    && ((byte a 4 ∈? tag_ops q.tag.0 r.table r.before r.answer)
+    && ((byte a 5 ∈? (rules_of r.table).errors r.answer) && ((byte a 8 ∈? r.finals) && (byte a 9 ∈? on_forward r.answer))))
+unfolding row_choices six_of
+chosen_parts q a r =
     let w = wire r.answer in
-    let o = byte a 4 ∈? tagOps q.tag.0 r.table r.before r.answer in
-    let e = byte a 5 ∈? (rulesOf r.table).errors r.answer in
+    let o = byte a 4 ∈? tag_ops q.tag.0 r.table r.before r.answer in
+    let e = byte a 5 ∈? (rules_of r.table).errors r.answer in
     let f = byte a 8 ∈? r.finals in
-    let x = byte a 9 ∈? onForward r.answer in
+    let x = byte a 9 ∈? on_forward r.answer in
     regrouped (eqb (byte a 0) (byte w 0)) (eqb (byte a 1) (byte w 1)) (eqb (byte a 2) (byte w 2)) (eqb (byte a 3) (byte w 3)) o e
     (eqb (byte a 6) (byte w 4)) (eqb (byte a 7) (byte w 5)) f x
-    ∙ ap (λ (l : List ℕ). same (sixOf a) l && (o && (e && (f && x)))) (wire-six r.answer)
+    ∙ ap (λ (l : List ℕ). same (six_of a) l && (o && (e && (f && x)))) (wire_six r.answer)
 
 -- an answer of a row, of ten bytes, is one that the row permits
-row-permits : (q : Question) (a : List ℕ) (r : Row) → In r rows → ofRow q a r ≡ true → (eqb (length a) answerLength ≡ true) × Permits (eventWith q a) q.tag.0 q.before.0 (byte a 8)
-unfolding ofRow rowAsked asked answered tagged sixOf
-row-permits q a r inside h =
+row_permits : (q : Question) (a : List ℕ) (r : Row) → In r rows → of_row q a r ≡ true → (eqb (length a) answer_length ≡ true) × Permits (event_with q a) q.tag.0 q.before.0 (byte a 8)
+unfolding of_row row_asked asked answered tagged six_of
+row_permits q a r inside h =
     let from = eqb q.before.0 r.before in
-    let isAsked = asked (eventWith q []) r.table r.ret r.marked in
-    let allow = tagsAllow q.tag.0 r.before r.answer in
-    let wired = same (sixOf a) (wire r.answer) in
-    let op = byte a 4 ∈? tagOps q.tag.0 r.table r.before r.answer in
-    let error = byte a 5 ∈? (rulesOf r.table).errors r.answer in
+    let isAsked = asked (event_with q []) r.table r.ret r.marked in
+    let allow = tags_allow q.tag.0 r.before r.answer in
+    let wired = same (six_of a) (wire r.answer) in
+    let op = byte a 4 ∈? tag_ops q.tag.0 r.table r.before r.answer in
+    let error = byte a 5 ∈? (rules_of r.table).errors r.answer in
     let to = byte a 8 ∈? r.finals in
-    let onward = byte a 9 ∈? onForward r.answer in
-    let ten = eqb (length a) answerLength in
-    let front = and_left (rowAsked q r) (ten && chosen (rowChoices q r) a 0) h in
-    let back = and_right (rowAsked q r) (ten && chosen (rowChoices q r) a 0) h in
+    let onward = byte a 9 ∈? on_forward r.answer in
+    let ten = eqb (length a) answer_length in
+    let front = and_left (row_asked q r) (ten && chosen (row_choices q r) a 0) h in
+    let back = and_right (row_asked q r) (ten && chosen (row_choices q r) a 0) h in
     let both = and_left (from && isAsked) allow front in
-    let parts = sym (chosen-parts q a r) ∙ and_right ten (chosen (rowChoices q r) a 0) back in
+    let parts = sym (chosen_parts q a r) ∙ and_right ten (chosen (row_choices q r) a 0) back in
     let rest = and_right wired (op && (error && (to && onward))) parts in
     let ends = and_right op (error && (to && onward)) rest in
     let last = and_right error (to && onward) ends in (
-      and_left ten (chosen (rowChoices q r) a 0) back,
+      and_left ten (chosen (row_choices q r) a 0) back,
       record {
         row = r;
         inside = inside;
         from = and_left from isAsked both;
         to = and_left to onward last;
-        is-asked = and_right from isAsked both;
-        is-answered = and_both (and_both (and_left wired (op && (error && (to && onward))) parts) (and_left error (to && onward) ends)) (and_right to onward last);
-        is-tagged = and_both (and_right (from && isAsked) allow front) (and_left op (error && (to && onward)) rest);
+        is_asked = and_right from isAsked both;
+        is_answered = and_both (and_both (and_left wired (op && (error && (to && onward))) parts) (and_left error (to && onward) ends)) (and_right to onward last);
+        is_tagged = and_both (and_right (from && isAsked) allow front) (and_left op (error && (to && onward)) rest);
       },
     )
 
-permits-row : (q : Question) (a : List ℕ) → eqb (length a) answerLength ≡ true → (p : Permits (eventWith q a) q.tag.0 q.before.0 (byte a 8)) → ofRow q a p.row ≡ true
-unfolding ofRow rowAsked asked answered tagged sixOf
-permits-row q a ten p =
+permits_row : (q : Question) (a : List ℕ) → eqb (length a) answer_length ≡ true → (p : Permits (event_with q a) q.tag.0 q.before.0 (byte a 8)) → of_row q a p.row ≡ true
+unfolding of_row row_asked asked answered tagged six_of
+permits_row q a ten p =
     let r = p.row in
-    let wired = same (sixOf a) (wire r.answer) in
-    let error = byte a 5 ∈? (rulesOf r.table).errors r.answer in
-    let onward = byte a 9 ∈? onForward r.answer in
-    let allow = tagsAllow q.tag.0 r.before r.answer in
-    let op = byte a 4 ∈? tagOps q.tag.0 r.table r.before r.answer in
-    let shown = and_left (wired && error) onward p.is-answered in
+    let wired = same (six_of a) (wire r.answer) in
+    let error = byte a 5 ∈? (rules_of r.table).errors r.answer in
+    let onward = byte a 9 ∈? on_forward r.answer in
+    let allow = tags_allow q.tag.0 r.before r.answer in
+    let op = byte a 4 ∈? tag_ops q.tag.0 r.table r.before r.answer in
+    let shown = and_left (wired && error) onward p.is_answered in
     and_both
-    (and_both (and_both p.from p.is-asked) (and_left allow op p.is-tagged))
+    (and_both (and_both p.from p.is_asked) (and_left allow op p.is_tagged))
     (and_both ten
-    (chosen-parts q a r
+    (chosen_parts q a r
     ∙ and_both (and_left wired error shown)
-    (and_both (and_right allow op p.is-tagged)
-    (and_both (and_right wired error shown) (and_both p.to (and_right (wired && error) onward p.is-answered))))))
+    (and_both (and_right allow op p.is_tagged)
+    (and_both (and_right wired error shown) (and_both p.to (and_right (wired && error) onward p.is_answered))))))
 
 -- an answer is among those of all rows exactly when it has ten bytes and is permitted
-pub rows-members : (q : Question) (a : List ℕ) → any (same a) (answersOf q rows) ≡ eqb (length a) answerLength && permits q a
+pub rows_members : (q : Question) (a : List ℕ) → any (same a) (answers_of q rows) ≡ eqb (length a) answer_length && permits q a
 unfolding permits
-rows-members q a = answers-members q a rows ∙ same_truth (any (ofRow q a) rows) (eqb (length a) answerLength && permits q a) there back
+rows_members q a = answers_members q a rows ∙ same_truth (any (of_row q a) rows) (eqb (length a) answer_length && permits q a) there back
   where
-    there : any (ofRow q a) rows ≡ true → eqb (length a) answerLength && permits q a ≡ true
+    there : any (of_row q a) rows ≡ true → eqb (length a) answer_length && permits q a ≡ true
     there h =
-        let f = any_found (ofRow q a) rows h in
-        let k = row-permits q a f.one f.inside f.passes in
-        and_both k.0 (row-permitted (eventWith q a) q.tag.0 q.before.0 (byte a 8) k.1)
+        let f = any_found (of_row q a) rows h in
+        let k = row_permits q a f.one f.inside f.passes in
+        and_both k.0 (row_permitted (event_with q a) q.tag.0 q.before.0 (byte a 8) k.1)
 
-    back : eqb (length a) answerLength && permits q a ≡ true → any (ofRow q a) rows ≡ true
+    back : eqb (length a) answer_length && permits q a ≡ true → any (of_row q a) rows ≡ true
     back h =
-        let p = permitted-row (eventWith q a) q.tag.0 q.before.0 (byte a 8) (and_right (eqb (length a) answerLength) (permits q a) h) in
-        found-any (ofRow q a) p.inside (permits-row q a (and_left (eqb (length a) answerLength) (permits q a) h) p)
+        let p = permitted_row (event_with q a) q.tag.0 q.before.0 (byte a 8) (and_right (eqb (length a) answer_length) (permits q a) h) in
+        found_any (of_row q a) p.inside (permits_row q a (and_left (eqb (length a) answer_length) (permits q a) h) p)

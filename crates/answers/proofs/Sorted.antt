@@ -7,7 +7,7 @@ use Prim.Native.Nat.{ℕ}
 use borrow.Author.Tests.{eqb-true}
 use lib.Dec.{eqb, ltb}
 use Rattle.kinds.specs.Tests.{any, same}
-use Rattle.kinds.proofs.Lists.{and_left, and_right, same-equal}
+use Rattle.kinds.proofs.Lists.{and_left, and_right, same_equal}
 
 -- how two lists of bytes lie to each other
 pub data Order : Type 0 where
@@ -42,52 +42,52 @@ alike [] (m ∷ ms) = false
 alike (l ∷ ls) [] = false
 alike (l ∷ ls) (m ∷ ms) = same l m && alike ls ms
 
-pub alike-equal : (ls ms : List (List ℕ)) → alike ls ms ≡ true → ls ≡ ms
+pub alike_equal : (ls ms : List (List ℕ)) → alike ls ms ≡ true → ls ≡ ms
 unfolding alike
-alike-equal [] [] h = refl
-alike-equal [] (m ∷ ms) h = absurd (false≢true h)
-alike-equal (l ∷ ls) [] h = absurd (false≢true h)
-alike-equal (l ∷ ls) (m ∷ ms) h =
-    ap₂ ◌∷◌ (same-equal l m (and_left (same l m) (alike ls ms) h)) (alike-equal ls ms (and_right (same l m) (alike ls ms) h))
+alike_equal [] [] h = refl
+alike_equal [] (m ∷ ms) h = absurd (false≢true h)
+alike_equal (l ∷ ls) [] h = absurd (false≢true h)
+alike_equal (l ∷ ls) (m ∷ ms) h =
+    ap₂ ◌∷◌ (same_equal l m (and_left (same l m) (alike ls ms) h)) (alike_equal ls ms (and_right (same l m) (alike ls ms) h))
 
 -- whether two lists lie so
-isEqual : Order → Bool
-isEqual first = false
-isEqual equal = true
-isEqual later = false
+is_equal : Order → Bool
+is_equal first = false
+is_equal equal = true
+is_equal later = false
 
-order-equal : (l m : List ℕ) → isEqual (order l m) ≡ true → l ≡ m
-unfolding order isEqual
-order-equal [] [] h = refl
-order-equal [] (y ∷ ys) h = absurd (false≢true h)
-order-equal (x ∷ xs) [] h = absurd (false≢true h)
-order-equal (x ∷ xs) (y ∷ ys) h = go (ltb x y) (eqb x y) refl h (order-equal xs ys)
+order_equal : (l m : List ℕ) → is_equal (order l m) ≡ true → l ≡ m
+unfolding order is_equal
+order_equal [] [] h = refl
+order_equal [] (y ∷ ys) h = absurd (false≢true h)
+order_equal (x ∷ xs) [] h = absurd (false≢true h)
+order_equal (x ∷ xs) (y ∷ ys) h = go (ltb x y) (eqb x y) refl h (order_equal xs ys)
   where
-    go : (b e : Bool) → eqb x y ≡ e → isEqual (cond b first (cond e (order xs ys) later)) ≡ true → (isEqual (order xs ys) ≡ true → xs ≡ ys) → x ∷ xs ≡ y ∷ ys
+    go : (b e : Bool) → eqb x y ≡ e → is_equal (cond b first (cond e (order xs ys) later)) ≡ true → (is_equal (order xs ys) ≡ true → xs ≡ ys) → x ∷ xs ≡ y ∷ ys
     go true e p k rest = absurd (false≢true k)
     go false true p k rest = ap₂ ◌∷◌ (eqb-true x y p) (rest k)
     go false false p k rest = absurd (false≢true k)
 
 -- of three tests the first two exchanged
-or-exchanged : (a b c : Bool) → a || (b || c) ≡ b || (a || c)
-or-exchanged true true c = refl
-or-exchanged true false c = refl
-or-exchanged false b c = refl
+or_exchanged : (a b c : Bool) → a || (b || c) ≡ b || (a || c)
+or_exchanged true true c = refl
+or_exchanged true false c = refl
+or_exchanged false b c = refl
 
-insert-members : (a l : List ℕ) (ms : List (List ℕ)) → any (same a) (insert l ms) ≡ same a l || any (same a) ms
-unfolding insert isEqual
-insert-members a l [] = refl
-insert-members a l (m ∷ ms) = go (order l m) refl (insert-members a l ms)
+insert_members : (a l : List ℕ) (ms : List (List ℕ)) → any (same a) (insert l ms) ≡ same a l || any (same a) ms
+unfolding insert is_equal
+insert_members a l [] = refl
+insert_members a l (m ∷ ms) = go (order l m) refl (insert_members a l ms)
   where
     go : (o : Order) → order l m ≡ o → any (same a) (insert l ms) ≡ same a l || any (same a) ms
         → any (same a) (by_order o (l ∷ m ∷ ms) (m ∷ ms) (m ∷ insert l ms)) ≡ same a l || (same a m || any (same a) ms)
     go first e rest = refl
     go equal e rest =
         sym (or_self_left (same a m) (any (same a) ms))
-        ∙ ap (λ (x : List ℕ). same a x || (same a m || any (same a) ms)) (sym (order-equal l m (ap isEqual e)))
-    go later e rest = ap (λ (b : Bool). same a m || b) rest ∙ or-exchanged (same a m) (same a l) (any (same a) ms)
+        ∙ ap (λ (x : List ℕ). same a x || (same a m || any (same a) ms)) (sym (order_equal l m (ap is_equal e)))
+    go later e rest = ap (λ (b : Bool). same a m || b) rest ∙ or_exchanged (same a m) (same a l) (any (same a) ms)
 
-pub sorted-members : (a : List ℕ) (ls : List (List ℕ)) → any (same a) (sorted ls) ≡ any (same a) ls
+pub sorted_members : (a : List ℕ) (ls : List (List ℕ)) → any (same a) (sorted ls) ≡ any (same a) ls
 unfolding sorted
-sorted-members a [] = refl
-sorted-members a (l ∷ ls) = insert-members a l (sorted ls) ∙ ap (λ (b : Bool). same a l || b) (sorted-members a ls)
+sorted_members a [] = refl
+sorted_members a (l ∷ ls) = insert_members a l (sorted ls) ∙ ap (λ (b : Bool). same a l || b) (sorted_members a ls)

@@ -3,23 +3,23 @@ use Rattle.std.specs.Prelude.{ℕ, ◌*◌, Bool, cond, List, [], ◌∷◌, ◌
 use Rattle.event.specs.Refusals.{Issue, fault}
 use Rattle.answers.specs.declared.Question.{Question}
 use Rattle.answers.specs.declared.Listed.{Listed}
-use Rattle.answers.specs.Answers.{questionBytes, answersTo}
+use Rattle.answers.specs.Answers.{question_bytes, answers_to}
 
 -- the length of an answer in bytes
-abbrev pub answerLength : ℕ
-answerLength = 10
+abbrev pub answer_length : ℕ
+answer_length = 10
 
 -- the most answers of a list
-abbrev pub mostAnswers : ℕ
-mostAnswers = 57
+abbrev pub most_answers : ℕ
+most_answers = 57
 
 -- what the bytes of a question may be: RetToSrc, DoNotGoToSD and excl as in an event, a tag state that was seen, one of the seven states
 abbrev pub asking : Issue → Issue
 asking issue = record { limits = take 3 issue.limits ++ (3 ∷ 7 ∷ []); requests = issue.requests }
 
 -- 4 for a byte outside its range, then 5 for a request that is not judged, else 0
-abbrev pub faultOf : Issue → Question → ℕ
-faultOf issue q = fault (asking issue) (questionBytes q)
+abbrev pub fault_of : Issue → Question → ℕ
+fault_of issue q = fault (asking issue) (question_bytes q)
 
 -- the lists, one after another
 abbrev pub joined : List (List ℕ) → List ℕ
@@ -31,25 +31,25 @@ pub record ListLeft : Type 0 where
   pub result : Listed
   pub room : List ℕ
 
-abbrev pub listLeft : Listed → List ℕ → ListLeft
-listLeft result room = record { result = result; room = room }
+abbrev pub list_left : Listed → List ℕ → ListLeft
+list_left result room = record { result = result; room = room }
 
 -- a result: number, place, count
 abbrev pub result : ℕ → ℕ → ℕ → Listed
 result number place count = record { refusal = record { 0 = number }; place = place; count = count }
 
 -- an accepted question: the answers stand at the front of the room, and the bytes behind them are as they were
-abbrev pub acceptedList : List (List ℕ) → List ℕ → ListLeft
-acceptedList answers room = listLeft (result 0 0 (length answers)) (joined answers ++ drop (answerLength * length answers) room)
+abbrev pub accepted_list : List (List ℕ) → List ℕ → ListLeft
+accepted_list answers room = list_left (result 0 0 (length answers)) (joined answers ++ drop (answer_length * length answers) room)
 
 -- a refused question: place 0, count 0, and the room as it was
-abbrev pub refusedList : ℕ → List ℕ → ListLeft
-refusedList number room = listLeft (result number 0 0) room
+abbrev pub refused_list : ℕ → List ℕ → ListLeft
+refused_list number room = list_left (result number 0 0) room
 
 -- 9 if the answers don't fit into the room
-abbrev pub listedIn : List (List ℕ) → List ℕ → ListLeft
-listedIn answers room = cond (leb (answerLength * length answers) (length room)) (acceptedList answers room) (refusedList 9 room)
+abbrev pub listed_in : List (List ℕ) → List ℕ → ListLeft
+listed_in answers room = cond (leb (answer_length * length answers) (length room)) (accepted_list answers room) (refused_list 9 room)
 
 -- THE WHOLE ANSWER: what a call leaves, accepted or refused; 4, then 5, then 9
 unfoldable pub listed : Issue → Question → List ℕ → ListLeft
-listed issue q room = cond (eqb (faultOf issue q) 0) (listedIn (answersTo issue q) room) (refusedList (faultOf issue q) room)
+listed issue q room = cond (eqb (fault_of issue q) 0) (listed_in (answers_to issue q) room) (refused_list (fault_of issue q) room)

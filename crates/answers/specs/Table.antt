@@ -73,17 +73,17 @@ answers =
     []
 
 -- how many lists there are
-abbrev pub listCount : ℕ
-listCount = 39
+abbrev pub list_count : ℕ
+list_count = 39
 
 -- how many numbers all lists have
-abbrev pub numberCount : ℕ
-numberCount = 518
+abbrev pub number_count : ℕ
+number_count = 518
 
 -- how many answers there are
-abbrev pub answerCount : ℕ
-answerCount = 95
+abbrev pub answer_count : ℕ
+answer_count = 95
 
 -- the number of the first answer on DAT
-abbrev pub firstOnDat : ℕ
-firstOnDat = 13
+abbrev pub first_on_dat : ℕ
+first_on_dat = 13

@@ -1,9 +1,9 @@
 // Every answer that a cache could have given to a snoop, listed (definition 11).
 ghost use Rattle.std.specs.Prelude.{◌+◌, ◌*◌, ◌≤◌, ◌≡◌, ◌++◌, length, get_or, take, drop};
-ghost use Rattle.event.specs.Refusals.{issueE};
-ghost use Rattle.answers.specs.Listed.{answerLength, mostAnswers, joined, faultOf, listLeft, listed};
+ghost use Rattle.event.specs.Refusals.{issue_e};
+ghost use Rattle.answers.specs.Listed.{answer_length, most_answers, joined, fault_of, list_left, listed};
 ghost use Rattle.answers.specs.Table.{spans, numbers};
-ghost use Rattle.answers.specs.Code.{tables_of, context_of, listAt, span_of, tenOf, answersAt};
+ghost use Rattle.answers.specs.Code.{tables_of, context_of, list_at, span_of, ten_of, answers_at};
 
 use kinds::{Channel, LineState, Refusal, Request, RespErr, TagState};
 
@@ -39,14 +39,14 @@ pub struct Listed {
 
 // The bytes of the longest list: with a room of so many, 9 is never given (definition 11.6).
 pub fn enough_room() -> usize
-    ensures { result ≡ answerLength * mostAnswers }
+    ensures { result ≡ answer_length * most_answers }
 {
     MOST_ANSWERS * ANSWER_BYTES
 }
 
 // The refusal number for the bytes of a question: 4, then 5 (definition 11.5).
 fn fault(q: Question) -> Refusal
-    ensures { result.0 ≡ faultOf issueE q }
+    ensures { result.0 ≡ fault_of issue_e q }
 {
     let request = q.request;
     let known = request.known();
@@ -84,7 +84,7 @@ fn context(q: Question) -> u64
 
 // The number of the list of a context: a byte of a word, by the state before.
 fn list_of(context: u64) -> u8
-    ensures { result ≡ listAt context }
+    ensures { result ≡ list_at context }
 {
     ((table::lists(context / 8) >> (context % 8 * 8)) % 256) as u8
 }
@@ -108,9 +108,9 @@ fn span(q: Question) -> u16
 // Puts the ten bytes of an answer into the room at an offset: its channel, the bytes of `rest`, the lowest first, and the error field
 // of its forwarded data. They must fit.
 fn put_answer(room: &mut [u8], at: usize, channel: u8, rest: u64, error: u8)
-    requires { at + answerLength ≤ length room.old }
+    requires { at + answer_length ≤ length room.old }
     ensures { room.new ≡
-        take at room.old ++ tenOf channel rest error ++ drop (at + answerLength) room.old }
+        take at room.old ++ ten_of channel rest error ++ drop (at + answer_length) room.old }
 {
     room[at] = channel;
     room[at + 1] = (rest % 256) as u8;
@@ -127,8 +127,8 @@ fn put_answer(room: &mut [u8], at: usize, channel: u8, rest: u64, error: u8)
 // Puts so many answers into the room, one after another, by their numbers from `start` on. They must fit.
 fn put_answers(room: &mut [u8], start: usize, count: usize)
     requires count_in_bounds { start + count ≤ length numbers }
-    requires count_in_bounds_2 { answerLength * count ≤ length room.old }
-    ensures { room.new ≡ joined (answersAt start count) ++ drop (answerLength * count) room.old }
+    requires count_in_bounds_2 { answer_length * count ≤ length room.old }
+    ensures { room.new ≡ joined (answers_at start count) ++ drop (answer_length * count) room.old }
 {
     let numbers = table::NUMBERS;
     let mut k: usize = 0;
@@ -154,7 +154,7 @@ fn put_answers(room: &mut [u8], start: usize, count: usize)
 
 // Lists every permitted answer to a question in the room, each once, ascending byte by byte (definition 11.3 to 11.5).
 pub fn list_answers(question: Question, room: &mut [u8]) -> Listed
-    ensures { listLeft result room.new ≡ listed issueE question room.old }
+    ensures { list_left result room.new ≡ listed issue_e question room.old }
 {
     let refusal = fault(question);
     let number = refusal.0;

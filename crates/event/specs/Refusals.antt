@@ -2,8 +2,8 @@
 use Rattle.std.specs.Prelude.{ℕ, suc, Bool, true, cond, ◌&&◌, List, [], ◌∷◌, eqb, ltb, length}
 use Rattle.kinds.specs.Tests.{◌∈?◌}
 use Rattle.kinds.specs.Codes.{requests}
-use Rattle.kinds.specs.Places.{eventLength}
-use Rattle.rows.specs.Event.{byte, requestOf}
+use Rattle.kinds.specs.Places.{event_length}
+use Rattle.rows.specs.Event.{byte, request_of}
 
 -- What an issue of CHI permits in an event: the limit of each byte from byte 1 on, and the requests.
 pub record Issue : Type 0 where
@@ -11,8 +11,8 @@ pub record Issue : Type 0 where
   pub requests : List ℕ
 
 -- each byte is below its limit (definition 2.3)
-abbrev limitsE : List ℕ
-limitsE =
+abbrev limits_e : List ℕ
+limits_e =
     -- RetToSrc
     2 ∷
     -- DoNotGoToSD
@@ -44,8 +44,8 @@ limitsE =
     []
 
 -- the issue of CHI that the definition is about
-abbrev pub issueE : Issue
-issueE = record { limits = limitsE; requests = requests }
+abbrev pub issue_e : Issue
+issue_e = record { limits = limits_e; requests = requests }
 
 -- each byte from offset i on is below its limit
 abbrev pub below : List ℕ → ℕ → List ℕ → Bool
@@ -54,8 +54,8 @@ below e i (l ∷ ls) = ltb (byte e i) l && below e (suc i) ls
 
 -- 4 for a byte from 1 to 14 outside its range, then 5 for a request that is not judged, else 0
 unfoldable pub fault : Issue → List ℕ → ℕ
-fault issue e = cond (below e 1 issue.limits) (cond (requestOf e ∈? issue.requests) 0 5) 4
+fault issue e = cond (below e 1 issue.limits) (cond (request_of e ∈? issue.requests) 0 5) 4
 
 -- one event alone: 1 if it is not 15 bytes long, then its fault (definition 4.3)
-unfoldable pub refusalAlone : Issue → List ℕ → ℕ
-refusalAlone issue e = cond (eqb (length e) eventLength) (fault issue e) 1
+unfoldable pub refusal_alone : Issue → List ℕ → ℕ
+refusal_alone issue e = cond (eqb (length e) event_length) (fault issue e) 1

@@ -1,9 +1,9 @@
 // One event judged alone, whatever bytes are handed in (definition 3.1, 3.2).
 ghost use Rattle.std.specs.Prelude.{◌≡◌, cond, map, eqb};
-ghost use Rattle.steps.specs.Steps.{noDuty, setsAfter, dutyAlone};
+ghost use Rattle.steps.specs.Steps.{no_duty, sets_after, duty_alone};
 ghost use Rattle.kinds.specs.Codes.{states};
-ghost use Rattle.event.specs.Refusals.{issueE, below, fault, refusalAlone};
-ghost use Rattle.event.specs.Alone.{judgedAlone};
+ghost use Rattle.event.specs.Refusals.{issue_e, below, fault, refusal_alone};
+ghost use Rattle.event.specs.Alone.{judged_alone};
 
 use kinds::{Duty, EVENT_BYTES, LineState, Refusal, Request, place};
 
@@ -26,14 +26,14 @@ pub struct Judgment {
 
 // Whether each byte of the event, from byte 1 on, is below its limit: eight bytes at a time.
 fn in_range(event: &[u8]) -> bool
-    ensures { result ≡ below event.now 1 issueE.limits }
+    ensures { result ≡ below event.now 1 issue_e.limits }
 {
     (words::word_at(event, 0) & FRONT == 0) & (words::word_at(event, 7) & BACK == 0)
 }
 
 // The refusal number for an event's bytes: 4, then 5 (definition 4.1).
 pub fn fault(event: &[u8]) -> Refusal
-    ensures { result.0 ≡ fault issueE event.now }
+    ensures { result.0 ≡ fault issue_e event.now }
 {
     let fine = in_range(event);
     let known = Request(rows::byte_at(event, place::REQUEST)).known();
@@ -43,7 +43,7 @@ pub fn fault(event: &[u8]) -> Refusal
 
 // The refusal number of one event alone: 1, then 4, then 5 (definition 4.3).
 fn refusal_alone(event: &[u8]) -> Refusal
-    ensures { result.0 ≡ refusalAlone issueE event.now }
+    ensures { result.0 ≡ refusal_alone issue_e event.now }
 {
     let whole = event.len() == EVENT_BYTES;
     let refusal = fault(event);
@@ -52,15 +52,15 @@ fn refusal_alone(event: &[u8]) -> Refusal
 
 // The duty from one state, given its set of states after: 0 if that is empty.
 fn duty_from(duty: u8, after: u8) -> u8
-    ensures { result ≡ cond (eqb after 0) noDuty duty }
+    ensures { result ≡ cond (eqb after 0) no_duty duty }
 {
     kinds::choose_byte(after == 0, Duty::NONE.0, duty)
 }
 
 // The seven duties, each judged from its own state (definition 6.5). Of the state only Dirty or not matters: UD and I stand for all.
 fn duties_alone(event: &[u8], sets: [u8; 7]) -> [u8; 7]
-    requires { sets ≡ setsAfter event.now }
-    ensures { result ≡ map (dutyAlone event.now) states }
+    requires { sets ≡ sets_after event.now }
+    ensures { result ≡ map (duty_alone event.now) states }
 {
     let from_ud = steps::duty(event, 1 << LineState::UD.0);
     let from_i = steps::duty(event, 1 << LineState::I.0);
@@ -79,7 +79,7 @@ fn duties_alone(event: &[u8], sets: [u8; 7]) -> [u8; 7]
 
 // Judges one event alone.
 pub fn judge_event(event: &[u8]) -> Judgment
-    ensures { result ≡ judgedAlone issueE event.now }
+    ensures { result ≡ judged_alone issue_e event.now }
 {
     let refusal = refusal_alone(event);
     let number = refusal.0;

@@ -10,111 +10,111 @@ use borrow.Author.Tests.{le-leb, lt-leb, leb-true, leb-false, eq-eqb, ne_eqb}
 use lib.Dec.{eqb, leb, leb-zero, leb-suc-suc}
 use lib.ListN.{length, take, drop, get_or, length-drop, drop_of_length-le}
 use lib.Seq.{drop-cons, drop-drop}
-use Rattle.text.specs.Text.{comma, onFirst}
-use Rattle.fields.specs.Fields.{field, fields_of, fieldsFrom, fieldEnd}
+use Rattle.text.specs.Text.{comma, on_first}
+use Rattle.fields.specs.Fields.{field, fields_of, fields_from, field_end}
 
 -- at the end of the line, the field ends at once
-pub end-at-end : (line : List ℕ) (at : ℕ) → length line ≤ at → fieldEnd line at ≡ at
-unfolding fieldEnd
-end-at-end line at h = ap (λ (s : List ℕ). at + length (field s)) (drop_of_length-le line h) ∙ omega arith
+pub end_at_end : (line : List ℕ) (at : ℕ) → length line ≤ at → field_end line at ≡ at
+unfolding field_end
+end_at_end line at h = ap (λ (s : List ℕ). at + length (field s)) (drop_of_length-le line h) ∙ omega arith
 
 -- the rest of the line begins with the byte at this offset
 ahead : (line : List ℕ) (at : ℕ) → at < length line → field (drop at line) ≡ cond (eqb (get_or line at 0) comma) [] (get_or line at 0 ∷ field (drop (suc at) line))
 ahead line at h = ap field (drop-cons line at 0 h)
 
 -- a field ends at a comma
-pub end-at-comma : (line : List ℕ) (at : ℕ) → at < length line → get_or line at 0 ≡ comma → fieldEnd line at ≡ at
-unfolding fieldEnd
-end-at-comma line at h e =
+pub end_at_comma : (line : List ℕ) (at : ℕ) → at < length line → get_or line at 0 ≡ comma → field_end line at ≡ at
+unfolding field_end
+end_at_comma line at h e =
     ap (λ (s : List ℕ). at + length s) (ahead line at h ∙ ap (λ (b : Bool). cond b [] (get_or line at 0 ∷ field (drop (suc at) line))) (eq-eqb (get_or line at 0) comma e))
     ∙ omega arith
 
 -- any other byte belongs to the field
-pub end-further : (line : List ℕ) (at : ℕ) → at < length line → (get_or line at 0 ≡ comma → ⊥) → fieldEnd line (at + 1) ≡ fieldEnd line at
-unfolding fieldEnd
-end-further line at h n =
+pub end_further : (line : List ℕ) (at : ℕ) → at < length line → (get_or line at 0 ≡ comma → ⊥) → field_end line (at + 1) ≡ field_end line at
+unfolding field_end
+end_further line at h n =
     let on : length (field (drop at line)) ≡ suc (length (field (drop (suc at) line))) =
     ap length (ahead line at h ∙ ap (λ (b : Bool). cond b [] (get_or line at 0 ∷ field (drop (suc at) line))) (ne_eqb (get_or line at 0) comma n)) in
     ap (λ (i : ℕ). i + length (field (drop i line))) (add-one at) ∙ omega (arith, on)
 
 -- a field does not end before it starts
-pub end-from : (line : List ℕ) (at : ℕ) → at ≤ fieldEnd line at
-unfolding fieldEnd
-end-from line at = omega arith
+pub end_from : (line : List ℕ) (at : ℕ) → at ≤ field_end line at
+unfolding field_end
+end_from line at = omega arith
 
 -- a field is a prefix of the bytes
-field-front : (s : List ℕ) → field s ≡ take (length (field s)) s
-field-front [] = refl
-field-front (x ∷ s) = by_first (eqb x comma) x (field s) s (field-front s)
+field_front : (s : List ℕ) → field s ≡ take (length (field s)) s
+field_front [] = refl
+field_front (x ∷ s) = by_first (eqb x comma) x (field s) s (field_front s)
   where
     by_first : (b : Bool) (x : ℕ) (f s : List ℕ) → f ≡ take (length f) s → cond b [] (x ∷ f) ≡ take (length (cond b [] (x ∷ f))) (x ∷ s)
     by_first true x f s h = refl
     by_first false x f s h = ap (λ (l : List ℕ). x ∷ l) h
 
 -- a field is not longer than the bytes
-field-length : (s : List ℕ) → length (field s) ≤ length s
-field-length [] = omega arith
-field-length (x ∷ s) = by_first (eqb x comma) x (field s) s (field-length s)
+field_length : (s : List ℕ) → length (field s) ≤ length s
+field_length [] = omega arith
+field_length (x ∷ s) = by_first (eqb x comma) x (field s) s (field_length s)
   where
     by_first : (b : Bool) (x : ℕ) (f s : List ℕ) → length f ≤ length s → length (cond b [] (x ∷ f)) ≤ suc (length s)
     by_first true x f s h = omega arith
     by_first false x f s h = omega arith
 
 -- a field ends within the line
-pub end-within : (line : List ℕ) (at : ℕ) → at ≤ length line → fieldEnd line at ≤ length line
-unfolding fieldEnd
-end-within line at h = omega (arith, field-length (drop at line), length-drop at line)
+pub end_within : (line : List ℕ) (at : ℕ) → at ≤ length line → field_end line at ≤ length line
+unfolding field_end
+end_within line at h = omega (arith, field_length (drop at line), length-drop at line)
 
 -- the fields from offset 0 on are all fields
-pub fields-start : (line : List ℕ) → fieldsFrom line 0 ≡ fields_of line
-unfolding fieldsFrom
-fields-start line = ap (λ (b : Bool). cond b (fields_of line) []) (leb-zero (length line))
+pub fields_start : (line : List ℕ) → fields_from line 0 ≡ fields_of line
+unfolding fields_from
+fields_start line = ap (λ (b : Bool). cond b (fields_of line) []) (leb-zero (length line))
 
 -- past the end there is no field
-pub fields-none : (line : List ℕ) (at : ℕ) → length line < at → fieldsFrom line at ≡ []
-unfolding fieldsFrom
-fields-none line at h = ap (λ (b : Bool). cond b (fields_of (drop at line)) []) (lt-leb at (length line) h)
+pub fields_none : (line : List ℕ) (at : ℕ) → length line < at → fields_from line at ≡ []
+unfolding fields_from
+fields_none line at h = ap (λ (b : Bool). cond b (fields_of (drop at line)) []) (lt-leb at (length line) h)
 
 -- within the line, the fields from an offset on are those of the rest
-fields-left : (line : List ℕ) (at : ℕ) → at ≤ length line → fieldsFrom line at ≡ fields_of (drop at line)
-unfolding fieldsFrom
-fields-left line at h = ap (λ (b : Bool). cond b (fields_of (drop at line)) []) (le-leb at (length line) h)
+fields_left : (line : List ℕ) (at : ℕ) → at ≤ length line → fields_from line at ≡ fields_of (drop at line)
+unfolding fields_from
+fields_left line at h = ap (λ (b : Bool). cond b (fields_of (drop at line)) []) (le-leb at (length line) h)
 
 -- a byte more in front moves the offset by one
-fields-behind : (x : ℕ) (s : List ℕ) (k : ℕ) → fieldsFrom (x ∷ s) (suc k) ≡ fieldsFrom s k
-unfolding fieldsFrom
-fields-behind x s k = ap (λ (b : Bool). cond b (fields_of (drop k s)) []) (leb-suc-suc k (length s))
+fields_behind : (x : ℕ) (s : List ℕ) (k : ℕ) → fields_from (x ∷ s) (suc k) ≡ fields_from s k
+unfolding fields_from
+fields_behind x s k = ap (λ (b : Bool). cond b (fields_of (drop k s)) []) (leb-suc-suc k (length s))
 
 -- the fields are the first one, and those behind its comma
-first_then : (s : List ℕ) → fields_of s ≡ field s ∷ fieldsFrom s (suc (length (field s)))
-first_then [] = ap (λ (fs : List (List ℕ)). [] ∷ fs) (sym (fields-none [] 1 (omega arith)))
+first_then : (s : List ℕ) → fields_of s ≡ field s ∷ fields_from s (suc (length (field s)))
+first_then [] = ap (λ (fs : List (List ℕ)). [] ∷ fs) (sym (fields_none [] 1 (omega arith)))
 first_then (x ∷ s) = by_first (eqb x comma) x s (first_then s)
   where
     by_first :
-        (b : Bool) (x : ℕ) (s : List ℕ) → fields_of s ≡ field s ∷ fieldsFrom s (suc (length (field s)))
-        → cond b ([] ∷ fields_of s) (onFirst x (fields_of s)) ≡ cond b [] (x ∷ field s) ∷ fieldsFrom (x ∷ s) (suc (length (cond b [] (x ∷ field s))))
-    by_first true x s h = ap (λ (fs : List (List ℕ)). [] ∷ fs) (sym (fields-behind x s 0 ∙ fields-start s))
-    by_first false x s h = ap (onFirst x) h ∙ ap (λ (fs : List (List ℕ)). (x ∷ field s) ∷ fs) (sym (fields-behind x s (suc (length (field s)))))
+        (b : Bool) (x : ℕ) (s : List ℕ) → fields_of s ≡ field s ∷ fields_from s (suc (length (field s)))
+        → cond b ([] ∷ fields_of s) (on_first x (fields_of s)) ≡ cond b [] (x ∷ field s) ∷ fields_from (x ∷ s) (suc (length (cond b [] (x ∷ field s))))
+    by_first true x s h = ap (λ (fs : List (List ℕ)). [] ∷ fs) (sym (fields_behind x s 0 ∙ fields_start s))
+    by_first false x s h = ap (on_first x) h ∙ ap (λ (fs : List (List ℕ)). (x ∷ field s) ∷ fs) (sym (fields_behind x s (suc (length (field s)))))
 
 -- the fields of a rest, from an offset on, are fields of the line
-fields-further : (line : List ℕ) (at k : ℕ) → at ≤ length line → fieldsFrom (drop at line) k ≡ fieldsFrom line (at + k)
-unfolding fieldsFrom
-fields-further line at k h = ap₂ (λ (b : Bool) (s : List ℕ). cond b (fields_of s) []) (test (leb (at + k) (length line)) refl) (drop-drop k at line)
+fields_further : (line : List ℕ) (at k : ℕ) → at ≤ length line → fields_from (drop at line) k ≡ fields_from line (at + k)
+unfolding fields_from
+fields_further line at k h = ap₂ (λ (b : Bool) (s : List ℕ). cond b (fields_of s) []) (test (leb (at + k) (length line)) refl) (drop-drop k at line)
   where
     test : (b : Bool) → leb (at + k) (length line) ≡ b → leb k (length (drop at line)) ≡ b
     test true e = le-leb k (length (drop at line)) (omega (arith, length-drop at line, leb-true (at + k) (length line) e))
     test false e = lt-leb k (length (drop at line)) (omega (arith, length-drop at line, leb-false (at + k) (length line) e))
 
 -- the fields from an offset on: the field there, and those behind its end
-pub fields-step : (line : List ℕ) (at : ℕ) → at ≤ length line
-    → fieldsFrom line at ≡ take (fieldEnd line at - at) (drop at line) ∷ fieldsFrom line (fieldEnd line at + 1)
-unfolding fieldEnd
-fields-step line at h =
+pub fields_step : (line : List ℕ) (at : ℕ) → at ≤ length line
+    → fields_from line at ≡ take (field_end line at - at) (drop at line) ∷ fields_from line (field_end line at + 1)
+unfolding field_end
+fields_step line at h =
     let s = drop at line in
     let n = length (field s) in
     let this : n ≡ at + n - at = omega arith in
     let next : at + suc n ≡ at + n + 1 = omega arith in
-    fields-left line at h ∙ first_then s
+    fields_left line at h ∙ first_then s
     ∙ ap₂ (λ (f : List ℕ) (fs : List (List ℕ)). f ∷ fs)
-    (field-front s ∙ ap (λ (k : ℕ). take k s) this)
-    (fields-further line at (suc n) h ∙ ap (fieldsFrom line) next)
+    (field_front s ∙ ap (λ (k : ℕ). take k s) this)
+    (fields_further line at (suc n) h ∙ ap (fields_from line) next)

@@ -1,13 +1,13 @@
 // Finds where the fields of a line end (definition 8.3).
 ghost use Rattle.std.specs.Prelude.{◌≡◌};
-ghost use Rattle.fields.specs.Fields.{fieldEnd};
+ghost use Rattle.fields.specs.Fields.{field_end};
 
 // Separates two fields.
 const COMMA: u8 = 44;
 
 // The offset at which a field ends: at the next comma, or at the end of the line.
 pub fn end_of(line: &[u8], at: usize) -> usize
-    ensures { result ≡ fieldEnd line.now at }
+    ensures { result ≡ field_end line.now at }
 {
     let mut end = at;
     while end < line.len() {

@@ -14,34 +14,34 @@ use lib.Seq.{take-suc, get_or-drop, length-take-le, get_or-take}
 use Rattle.kinds.specs.Tests.{all}
 use Rattle.kinds.proofs.Lists.{and_left, and_right, and_both, neither, all_append}
 use Rattle.text.specs.Text.{comma, CR}
-use Rattle.names.specs.Names.{code_of, flagNames, unknown, mostDigits, isDigit, readDecimal, pair_of}
-use Rattle.names.proofs.Laws.{digit-high, pair-digits}
+use Rattle.names.specs.Names.{code_of, flag_names, unknown, most_digits, is_digit, read_decimal, pair_of}
+use Rattle.names.proofs.Laws.{digit_high, pair_digits}
 use Rattle.parser.specs.declared.Taken.{Taken}
 use Rattle.first_line.specs.declared.in_place.Digits.{Digits}
 use Rattle.parser.specs.Parsed.{known}
-use Rattle.first_line.specs.InPlace.{wordLength, Passed, takenAs, plain, Takes, DigitsAt}
-use Rattle.first_line.proofs.Matching.{took-name}
+use Rattle.first_line.specs.InPlace.{word_length, Passed, taken_as, plain, Takes, DigitsAt}
+use Rattle.first_line.proofs.Matching.{took_name}
 
 -- the number of some digits and one more
-read-snoc : (v : ℕ) (s : List ℕ) (d : ℕ) → readDecimal v (s ++ (d ∷ [])) ≡ readDecimal v s * 10 + (d - 48)
-unfolding readDecimal
-read-snoc v [] d = refl
-read-snoc v (x ∷ s) d = read-snoc (v * 10 + (x - 48)) s d
+read_snoc : (v : ℕ) (s : List ℕ) (d : ℕ) → read_decimal v (s ++ (d ∷ [])) ≡ read_decimal v s * 10 + (d - 48)
+unfolding read_decimal
+read_snoc v [] d = refl
+read_snoc v (x ∷ s) d = read_snoc (v * 10 + (x - 48)) s d
 
 -- `value` is the number of the first `count` bytes at the offset, which are digits
 abbrev pub Reading : List ℕ → ℕ → ℕ → ℕ → Type 0
 Reading text at value count = DigitsAt text at (record { count = count; value = value })
 
-pub reading-start : (text : List ℕ) (at : ℕ) → Reading text at 0 0
-unfolding readDecimal
-reading-start text at = record { few = omega arith; small = omega arith; digits-so = refl; value-so = refl }
+pub reading_start : (text : List ℕ) (at : ℕ) → Reading text at 0 0
+unfolding read_decimal
+reading_start text at = record { few = omega arith; small = omega arith; digits_so = refl; value_so = refl }
 
 one_more : (p v d : ℕ) → v < p → d ≤ 57 → v * 10 + (d - 48) < p * 10
 one_more p v d h k = omega arith
 
-pub reading-next : {text : List ℕ} {at value count : ℕ} → Reading text at value count → count < mostDigits → at + wordLength ≤ length text
-    → not (isDigit (get_or text (at + count) 0)) ≡ false → Reading text at (value * 10 + (get_or text (at + count) 0 - 48)) (count + 1)
-reading-next {text} {at} {value} {count} r h room t =
+pub reading_next : {text : List ℕ} {at value count : ℕ} → Reading text at value count → count < most_digits → at + word_length ≤ length text
+    → not (is_digit (get_or text (at + count) 0)) ≡ false → Reading text at (value * 10 + (get_or text (at + count) 0 - 48)) (count + 1)
+reading_next {text} {at} {value} {count} r h room t =
     let d : ℕ = get_or text (at + count) 0 in
     let s : List ℕ = drop at text in
     let more : take (count + 1) s ≡ take count s ++ (d ∷ []) =
@@ -49,45 +49,45 @@ reading-next {text} {at} {value} {count} r h room t =
     ∙ ap (λ (x : ℕ). take count s ++ (x ∷ [])) (get_or-drop at text count 0) in
     record {
       few = omega arith;
-      small = rw (add-one, pow-suc) (one_more (10 ^ count) value d r.small (digit-high d t));
-      digits-so = ap (all isDigit) more ∙ all_append isDigit (take count s) (d ∷ []) ∙ and_both r.digits-so (and_both (not-false (isDigit d) t) refl);
-      value-so = ap (λ (v : ℕ). v * 10 + (d - 48)) r.value-so ∙ sym (ap (readDecimal 0) more ∙ read-snoc 0 (take count s) d);
+      small = rw (add-one, pow-suc) (one_more (10 ^ count) value d r.small (digit_high d t));
+      digits_so = ap (all is_digit) more ∙ all_append is_digit (take count s) (d ∷ []) ∙ and_both r.digits_so (and_both (not-false (is_digit d) t) refl);
+      value_so = ap (λ (v : ℕ). v * 10 + (d - 48)) r.value_so ∙ sym (ap (read_decimal 0) more ∙ read_snoc 0 (take count s) d);
     }
 
 -- a digit is neither a comma nor CR
-digit-plain : (d : ℕ) → isDigit d ≡ true → plain d ≡ true
-digit-plain d h =
+digit_plain : (d : ℕ) → is_digit d ≡ true → plain d ≡ true
+digit_plain d h =
     let low : 48 ≤ d = leb-true 48 d (and_left (leb 48 d) (leb d 57) h) in
     and_both (ap not (ne_eqb d comma (λ e. omega arith))) (ap not (ne_eqb d CR (λ e. omega arith)))
 
-digits-plain : (s : List ℕ) → all isDigit s ≡ true → all plain s ≡ true
-digits-plain [] h = refl
-digits-plain (d ∷ s) h = and_both (digit-plain d (and_left (isDigit d) (all isDigit s) h)) (digits-plain s (and_right (isDigit d) (all isDigit s) h))
+digits_plain : (s : List ℕ) → all is_digit s ≡ true → all plain s ≡ true
+digits_plain [] h = refl
+digits_plain (d ∷ s) h = and_both (digit_plain d (and_left (is_digit d) (all is_digit s) h)) (digits_plain s (and_right (is_digit d) (all is_digit s) h))
 
 -- so many bytes, and a comma behind them
-front-then : (text : List ℕ) (at count : ℕ) → at + count < length text → get_or text (at + count) 0 ≡ comma
+front_then : (text : List ℕ) (at count : ℕ) → at + count < length text → get_or text (at + count) 0 ≡ comma
     → Passed (take count (drop at text) ++ (comma ∷ [])) text at (at + count + 1)
-front-then text at count h e =
+front_then text at count h e =
     let s : List ℕ = drop at text in
     let long : length s ≡ length text - at = length-drop at text in
     let front : length (take count s) ≡ count = length-take-le count s (omega arith) in
     let n : length (take count s ++ (comma ∷ [])) ≡ suc count = length-append (take count s) (comma ∷ []) ∙ omega arith in
     record {
       here = ap (λ (k : ℕ). take k s) n ∙ take-suc s count 0 (omega arith) ∙ ap (λ (x : ℕ). take count s ++ (x ∷ [])) (get_or-drop at text count 0 ∙ e);
-      next-so = omega arith;
+      next_so = omega arith;
     }
 
 -- a pair number of at most five digits is not the sentinel
-pair-known : (count value : ℕ) → count ≤ mostDigits → value < 10 ^ count → known value ≡ true
-pair-known count value few small =
+pair_known : (count value : ℕ) → count ≤ most_digits → value < 10 ^ count → known value ≡ true
+pair_known count value few small =
     ap not (ne_eqb value unknown (λ e. omega (arith, pow-le-pow_right {n = 10} (omega arith) few)))
 
 -- the field of a pair: its digits, then a comma, and no leading zero
-pub pair-met : (text : List ℕ) (at : ℕ) (found : Digits) → DigitsAt text at found → at + wordLength ≤ length text
+pub pair_met : (text : List ℕ) (at : ℕ) (found : Digits) → DigitsAt text at found → at + word_length ≤ length text
     → eqb found.count 0 || not (eqb (get_or text (at + found.count) 0) comma) ≡ false
     → eqb (get_or text at 0) 48 && ltb 1 found.count ≡ false
     → Takes pair_of (comma ∷ []) text at (record { code = found.value; next = at + found.count + 1 })
-pair-met text at found d room h z =
+pair_met text at found d room h z =
     let count : ℕ = found.count in
     let s : List ℕ = drop at text in
     let field : List ℕ = take count s in
@@ -99,43 +99,43 @@ pair-met text at found d room h z =
     let long : length s ≡ length text - at = length-drop at text in
     let front : length field ≡ count = length-take-le count s (omega arith) in
     let start : get_or field 0 0 ≡ get_or text at 0 = get_or-take count s 0 0 pos ∙ get_or-drop at text 0 0 ∙ ap (λ (i : ℕ). get_or text i 0) (add-zero at) in
-    took-name field refl (front-then text at count (omega arith) ends) (digits-plain field d.digits-so)
-    (sym (pair-digits field
-    (ap not (and_both (lt-ltb 0 (length field) (omega arith)) (le-leb (length field) mostDigits (omega arith))))
+    took_name field refl (front_then text at count (omega arith) ends) (digits_plain field d.digits_so)
+    (sym (pair_digits field
+    (ap not (and_both (lt-ltb 0 (length field) (omega arith)) (le-leb (length field) most_digits (omega arith))))
     (ap₂ (λ (x n : ℕ). eqb x 48 && ltb 1 n) start front ∙ z)
-    (d.value-so ∙ ap (λ (b : Bool). cond b (readDecimal 0 field) unknown) (sym d.digits-so))))
-    (pair-known count found.value d.few d.small)
+    (d.value_so ∙ ap (λ (b : Bool). cond b (read_decimal 0 field) unknown) (sym d.digits_so))))
+    (pair_known count found.value d.few d.small)
 
 -- a flag's digit is its code, which is known
 record FlagDigit (d : ℕ) : Type 0 where
-  code : code_of flagNames (d ∷ []) ≡ d - 48
-  digit : isDigit d ≡ true
+  code : code_of flag_names (d ∷ []) ≡ d - 48
+  digit : is_digit d ≡ true
   knows : known (d - 48) ≡ true
 
-flag-digit : (d : ℕ) → eqb d 48 || eqb d 49 ≡ true → FlagDigit d
-unfolding code_of flagNames
-flag-digit d h = go (eqb d 48) refl (eqb d 49) refl h
+flag_digit : (d : ℕ) → eqb d 48 || eqb d 49 ≡ true → FlagDigit d
+unfolding code_of flag_names
+flag_digit d h = go (eqb d 48) refl (eqb d 49) refl h
   where
     go : (a : Bool) → eqb d 48 ≡ a → (b : Bool) → eqb d 49 ≡ b → a || b ≡ true → FlagDigit d
     go true e b f h = subst FlagDigit (sym (eqb-true d 48 e)) (record { code = refl; digit = refl; knows = refl })
     go false e true f h = subst FlagDigit (sym (eqb-true d 49 f)) (record { code = refl; digit = refl; knows = refl })
     go false e false f h = absurd (false≢true h)
 
-pub flag-low : (d : ℕ) (b : Bool) → (eqb d 48 || eqb d 49) && b ≡ true → 48 ≤ d
-flag-low d b h = leb-true 48 d (and_left (leb 48 d) (leb d 57) (flag-digit d (and_left (eqb d 48 || eqb d 49) b h)).digit)
+pub flag_low : (d : ℕ) (b : Bool) → (eqb d 48 || eqb d 49) && b ≡ true → 48 ≤ d
+flag_low d b h = leb-true 48 d (and_left (leb 48 d) (leb d 57) (flag_digit d (and_left (eqb d 48 || eqb d 49) b h)).digit)
 
 -- the field of a flag: its digit, then a comma
-pub flag-met : {r : Taken} (text : List ℕ) (at : ℕ) → at + wordLength ≤ length text
+pub flag_met : {r : Taken} (text : List ℕ) (at : ℕ) → at + word_length ≤ length text
     → (eqb (get_or text at 0) 48 || eqb (get_or text at 0) 49) && eqb (get_or text (at + 1) 0) comma ≡ true
-    → r ≡ takenAs (get_or text at 0 - 48) (at + 2) → Takes (code_of flagNames) (comma ∷ []) text at r
-flag-met {r} text at room h e =
+    → r ≡ taken_as (get_or text at 0 - 48) (at + 2) → Takes (code_of flag_names) (comma ∷ []) text at r
+flag_met {r} text at room h e =
     let d : ℕ = get_or text at 0 in
     let s : List ℕ = drop at text in
     let ends : get_or text (at + 1) 0 ≡ comma = eqb-true (get_or text (at + 1) 0) comma (and_right (eqb d 48 || eqb d 49) (eqb (get_or text (at + 1) 0) comma) h) in
-    let flag : FlagDigit d = flag-digit d (and_left (eqb d 48 || eqb d 49) (eqb (get_or text (at + 1) 0) comma) h) in
+    let flag : FlagDigit d = flag_digit d (and_left (eqb d 48 || eqb d 49) (eqb (get_or text (at + 1) 0) comma) h) in
     let one : take 1 s ≡ d ∷ [] =
     take-suc s 0 0 (subst (λ (n : ℕ). 0 < n) (sym (length-drop at text)) (omega arith))
     ∙ ap (λ (x : ℕ). x ∷ []) (get_or-drop at text 0 0 ∙ ap (λ (i : ℕ). get_or text i 0) (add-zero at)) in
-    took-name (d ∷ []) e
-    (subst (λ (f : List ℕ). Passed (f ++ (comma ∷ [])) text at (at + 2)) one (subst (Passed (take 1 s ++ (comma ∷ [])) text at) (omega arith) (front-then text at 1 (omega arith) ends)))
-    (and_both (digit-plain d flag.digit) refl) flag.code flag.knows
+    took_name (d ∷ []) e
+    (subst (λ (f : List ℕ). Passed (f ++ (comma ∷ [])) text at (at + 2)) one (subst (Passed (take 1 s ++ (comma ∷ [])) text at) (omega arith) (front_then text at 1 (omega arith) ends)))
+    (and_both (digit_plain d flag.digit) refl) flag.code flag.knows

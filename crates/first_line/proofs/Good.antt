@@ -12,67 +12,67 @@ use lib.ListN.{length, take, drop, length-append, length-take, take-append-drop}
 use lib.Seq.{drop-drop, drop_at, take_at}
 use Rattle.kinds.specs.Tests.{all}
 use Rattle.kinds.proofs.Lists.{and_left, and_right, and_both, all_append}
-use Rattle.text.specs.Text.{comma, CR, eol, onFirst}
+use Rattle.text.specs.Text.{comma, CR, eol, on_first}
 use Rattle.lines.specs.Lines.{crlf}
-use Rattle.lines.specs.Seen.{longest, tooLong, reach, lineEnd}
-use Rattle.lines.proofs.Laws.{first-CR}
-use Rattle.lines.proofs.Parting.{reach-within}
+use Rattle.lines.specs.Seen.{longest, too_long, reach, line_end}
+use Rattle.lines.proofs.Laws.{first_CR}
+use Rattle.lines.proofs.Parting.{reach_within}
 use Rattle.fields.specs.Fields.{fields_of}
-use Rattle.names.specs.Names.{unknown, code_of, pair_of, requestNames, flagNames, tagNames, responseNames, tagOpNames, respErrNames, forwardNames, finalNames, fwdErrNames, columns}
-use Rattle.names.specs.Columns.{fwdErrCode}
+use Rattle.names.specs.Names.{unknown, code_of, pair_of, request_names, flag_names, tag_names, response_names, tag_op_names, resp_err_names, forward_names, final_names, fwd_err_names, columns}
+use Rattle.names.specs.Columns.{fwd_err_code}
 use Rattle.parser.specs.declared.Taken.{Taken}
 use Rattle.parser.specs.declared.Codes.{Codes}
 use Rattle.parser.specs.declared.ParsedLine.{ParsedLine}
-use Rattle.parser.specs.Parsed.{codes_of, known, dashesAgree, wellFormed, refusedParse, parsed}
-use Rattle.parser.specs.Code.{gatheredOf, line_of}
-use Rattle.parser.proofs.Events.{line-well}
+use Rattle.parser.specs.Parsed.{codes_of, known, dashes_agree, well_formed, refused_parse, parsed}
+use Rattle.parser.specs.Code.{gathered_of, line_of}
+use Rattle.parser.proofs.Events.{line_well}
 use Rattle.first_line.specs.declared.FirstLine.{FirstLine}
-use Rattle.first_line.specs.First.{lineTo, firstLine}
-use Rattle.first_line.specs.InPlace.{plain, Met, Takes, took, left, MetAll, last, more, noCR, Leads}
-use Rattle.first_line.proofs.Matching.{passed-within}
+use Rattle.first_line.specs.First.{line_to, first_line}
+use Rattle.first_line.specs.InPlace.{plain, Met, Takes, took, left, MetAll, last, more, no_cr, Leads}
+use Rattle.first_line.proofs.Matching.{passed_within}
 
 -- a field that is known is met
-known-met : {column : List ℕ → ℕ} {mark text : List ℕ} {at : ℕ} {f : Taken} → Takes column mark text at f → known f.code ≡ true → Met column mark text at f
-known-met (took m) k = m
-known-met (left e) k = absurd (false≢true (sym (ap (λ (x : Taken). known x.code) e) ∙ k))
+known_met : {column : List ℕ → ℕ} {mark text : List ℕ} {at : ℕ} {f : Taken} → Takes column mark text at f → known f.code ≡ true → Met column mark text at f
+known_met (took m) k = m
+known_met (left e) k = absurd (false≢true (sym (ap (λ (x : Taken). known x.code) e) ∙ k))
 
 -- so is one with a field that is met behind it
-before-met : {column other : List ℕ → ℕ} {mark text : List ℕ} {x : ℕ} {at : ℕ} {f g : Taken} → Takes column (comma ∷ []) text at f
+before_met : {column other : List ℕ → ℕ} {mark text : List ℕ} {x : ℕ} {at : ℕ} {f g : Taken} → Takes column (comma ∷ []) text at f
     → Met other (x ∷ mark) text f.next g → Met column (comma ∷ []) text at f
-before-met (took m) n = m
-before-met {mark = mark} {x = x} {f = f} (left e) n =
-    absurd (omega (arith, passed-within (omega (arith, length-append n.field (x ∷ mark))) n.stands, ap (λ (t : Taken). t.next) e))
+before_met (took m) n = m
+before_met {mark = mark} {x = x} {f = f} (left e) n =
+    absurd (omega (arith, passed_within (omega (arith, length-append n.field (x ∷ mark))) n.stands, ap (λ (t : Taken). t.next) e))
 
 -- twelve fields, each taken behind the one before, are all met if the last one is known
-pub all-met : (text : List ℕ) {f₀ f₁ f₂ f₃ f₄ f₅ f₆ f₇ f₈ f₉ f₁₀ f₁₁ : Taken} {r : Codes}
+pub all_met : (text : List ℕ) {f₀ f₁ f₂ f₃ f₄ f₅ f₆ f₇ f₈ f₉ f₁₀ f₁₁ : Taken} {r : Codes}
     → Takes pair_of (comma ∷ []) text 0 f₀
-    → Takes (code_of requestNames) (comma ∷ []) text f₀.next f₁
-    → Takes (code_of flagNames) (comma ∷ []) text f₁.next f₂
-    → Takes (code_of flagNames) (comma ∷ []) text f₂.next f₃
-    → Takes (code_of flagNames) (comma ∷ []) text f₃.next f₄
-    → Takes (code_of tagNames) (comma ∷ []) text f₄.next f₅
-    → Takes (code_of responseNames) (comma ∷ []) text f₅.next f₆
-    → Takes (code_of tagOpNames) (comma ∷ []) text f₆.next f₇
-    → Takes (code_of respErrNames) (comma ∷ []) text f₇.next f₈
-    → Takes (code_of forwardNames) (comma ∷ []) text f₈.next f₉
-    → Takes (code_of finalNames) (comma ∷ []) text f₉.next f₁₀
-    → Takes (code_of fwdErrNames) eol text f₁₀.next f₁₁
-    → r ≡ gatheredOf f₀ f₁ f₂ f₃ f₄ f₅ f₆ f₇ f₈ f₉ f₁₀ f₁₁
-    → known (fwdErrCode r.codes) ≡ true → MetAll columns text 0 r.codes r.end
+    → Takes (code_of request_names) (comma ∷ []) text f₀.next f₁
+    → Takes (code_of flag_names) (comma ∷ []) text f₁.next f₂
+    → Takes (code_of flag_names) (comma ∷ []) text f₂.next f₃
+    → Takes (code_of flag_names) (comma ∷ []) text f₃.next f₄
+    → Takes (code_of tag_names) (comma ∷ []) text f₄.next f₅
+    → Takes (code_of response_names) (comma ∷ []) text f₅.next f₆
+    → Takes (code_of tag_op_names) (comma ∷ []) text f₆.next f₇
+    → Takes (code_of resp_err_names) (comma ∷ []) text f₇.next f₈
+    → Takes (code_of forward_names) (comma ∷ []) text f₈.next f₉
+    → Takes (code_of final_names) (comma ∷ []) text f₉.next f₁₀
+    → Takes (code_of fwd_err_names) eol text f₁₀.next f₁₁
+    → r ≡ gathered_of f₀ f₁ f₂ f₃ f₄ f₅ f₆ f₇ f₈ f₉ f₁₀ f₁₁
+    → known (fwd_err_code r.codes) ≡ true → MetAll columns text 0 r.codes r.end
 unfolding columns
-all-met text {f₀} {f₁} {f₂} {f₃} {f₄} {f₅} {f₆} {f₇} {f₈} {f₉} {f₁₀} {f₁₁} {r} t₀ t₁ t₂ t₃ t₄ t₅ t₆ t₇ t₈ t₉ t₁₀ t₁₁ e k =
-    let m₁₁ = known-met t₁₁ (subst (λ (c : Codes). known (fwdErrCode c.codes) ≡ true) e k) in
-    let m₁₀ = before-met t₁₀ m₁₁ in
-    let m₉ = before-met t₉ m₁₀ in
-    let m₈ = before-met t₈ m₉ in
-    let m₇ = before-met t₇ m₈ in
-    let m₆ = before-met t₆ m₇ in
-    let m₅ = before-met t₅ m₆ in
-    let m₄ = before-met t₄ m₅ in
-    let m₃ = before-met t₃ m₄ in
-    let m₂ = before-met t₂ m₃ in
-    let m₁ = before-met t₁ m₂ in
-    let m₀ = before-met t₀ m₁ in
+all_met text {f₀} {f₁} {f₂} {f₃} {f₄} {f₅} {f₆} {f₇} {f₈} {f₉} {f₁₀} {f₁₁} {r} t₀ t₁ t₂ t₃ t₄ t₅ t₆ t₇ t₈ t₉ t₁₀ t₁₁ e k =
+    let m₁₁ = known_met t₁₁ (subst (λ (c : Codes). known (fwd_err_code c.codes) ≡ true) e k) in
+    let m₁₀ = before_met t₁₀ m₁₁ in
+    let m₉ = before_met t₉ m₁₀ in
+    let m₈ = before_met t₈ m₉ in
+    let m₇ = before_met t₇ m₈ in
+    let m₆ = before_met t₆ m₇ in
+    let m₅ = before_met t₅ m₆ in
+    let m₄ = before_met t₄ m₅ in
+    let m₃ = before_met t₃ m₄ in
+    let m₂ = before_met t₂ m₃ in
+    let m₁ = before_met t₁ m₂ in
+    let m₀ = before_met t₀ m₁ in
     subst (λ (c : Codes). MetAll columns text 0 c.codes c.end) (sym e)
     (more m₀ (more m₁ (more m₂ (more m₃ (more m₄ (more m₅ (more m₆ (more m₇ (more m₈ (more m₉ (more m₁₀ (last m₁₁))))))))))))
 
@@ -84,152 +84,152 @@ parted : {column : List ℕ → ℕ} {mark text : List ℕ} {at : ℕ} {r : Take
 parted {column} {mark} {text} {at} {r} m =
     let n : ℕ = length (m.field ++ mark) in
     sym (take-append-drop n (drop at text))
-    ∙ ap₂ ◌++◌ m.stands.here (drop-drop n at text ∙ ap (λ (k : ℕ). drop k text) (sym m.stands.next-so))
+    ∙ ap₂ ◌++◌ m.stands.here (drop-drop n at text ∙ ap (λ (k : ℕ). drop k text) (sym m.stands.next_so))
     ∙ append_assoc m.field mark (drop r.next text)
 
-plain-comma : (b : ℕ) → plain b ≡ true → eqb b comma ≡ false
-plain-comma b h = not-true (eqb b comma) (and_left (not (eqb b comma)) (not (eqb b CR)) h)
+plain_comma : (b : ℕ) → plain b ≡ true → eqb b comma ≡ false
+plain_comma b h = not-true (eqb b comma) (and_left (not (eqb b comma)) (not (eqb b CR)) h)
 
-plain-cr : (f : List ℕ) → all plain f ≡ true → all noCR f ≡ true
-plain-cr [] h = refl
-plain-cr (b ∷ f) h =
-    and_both (and_right (not (eqb b comma)) (not (eqb b CR)) (and_left (plain b) (all plain f) h)) (plain-cr f (and_right (plain b) (all plain f) h))
+plain_cr : (f : List ℕ) → all plain f ≡ true → all no_cr f ≡ true
+plain_cr [] h = refl
+plain_cr (b ∷ f) h =
+    and_both (and_right (not (eqb b comma)) (not (eqb b CR)) (and_left (plain b) (all plain f) h)) (plain_cr f (and_right (plain b) (all plain f) h))
 
 -- a field alone, and a field before others
 one_field : (f : List ℕ) → all plain f ≡ true → fields_of f ≡ f ∷ []
 one_field [] h = refl
 one_field (b ∷ f) h =
-    ap₂ (λ (t : Bool) (fs : List (List ℕ)). cond t ([] ∷ fields_of f) (onFirst b fs)) (plain-comma b (and_left (plain b) (all plain f) h))
+    ap₂ (λ (t : Bool) (fs : List (List ℕ)). cond t ([] ∷ fields_of f) (on_first b fs)) (plain_comma b (and_left (plain b) (all plain f) h))
     (one_field f (and_right (plain b) (all plain f) h))
 
-field-then : (f line : List ℕ) → all plain f ≡ true → fields_of (f ++ (comma ∷ line)) ≡ f ∷ fields_of line
-field-then [] line h = refl
-field-then (b ∷ f) line h =
-    ap₂ (λ (t : Bool) (fs : List (List ℕ)). cond t ([] ∷ fields_of (f ++ (comma ∷ line))) (onFirst b fs)) (plain-comma b (and_left (plain b) (all plain f) h))
-    (field-then f line (and_right (plain b) (all plain f) h))
+field_then : (f line : List ℕ) → all plain f ≡ true → fields_of (f ++ (comma ∷ line)) ≡ f ∷ fields_of line
+field_then [] line h = refl
+field_then (b ∷ f) line h =
+    ap₂ (λ (t : Bool) (fs : List (List ℕ)). cond t ([] ∷ fields_of (f ++ (comma ∷ line))) (on_first b fs)) (plain_comma b (and_left (plain b) (all plain f) h))
+    (field_then f line (and_right (plain b) (all plain f) h))
 
 -- the line: its fields have these codes, no CR is in it, and CR LF stands behind it
 pub record LineMet (cs : List (List ℕ → ℕ)) (text : List ℕ) (at : ℕ) (codes : List ℕ) (end : ℕ) : Type 0 where
   pub line : List ℕ
-  pub starts-so : drop at text ≡ line ++ (eol ++ drop end text)
-  pub codes-so : codes_of cs (fields_of line) ≡ codes
+  pub starts_so : drop at text ≡ line ++ (eol ++ drop end text)
+  pub codes_so : codes_of cs (fields_of line) ≡ codes
   pub many : length (fields_of line) ≡ length cs
   pub all_known : all known codes ≡ true
-  pub no-cr : all noCR line ≡ true
-  pub end-so : end ≡ at + length line + 2
+  pub no_cr : all no_cr line ≡ true
+  pub end_so : end ≡ at + length line + 2
 
-pub line-met : {cs : List (List ℕ → ℕ)} {text : List ℕ} {at : ℕ} {codes : List ℕ} {end : ℕ} → MetAll cs text at codes end → LineMet cs text at codes end
-line-met (last {column} {text} {at} {r} m) = record {
+pub line_met : {cs : List (List ℕ → ℕ)} {text : List ℕ} {at : ℕ} {codes : List ℕ} {end : ℕ} → MetAll cs text at codes end → LineMet cs text at codes end
+line_met (last {column} {text} {at} {r} m) = record {
   line = m.field;
-  starts-so = parted m;
-  codes-so = ap (codes_of (column ∷ [])) (one_field m.field m.plainly) ∙ ap (λ (c : ℕ). c ∷ []) m.code-so;
+  starts_so = parted m;
+  codes_so = ap (codes_of (column ∷ [])) (one_field m.field m.plainly) ∙ ap (λ (c : ℕ). c ∷ []) m.code_so;
   many = ap length (one_field m.field m.plainly);
   all_known = and_both m.known_so refl;
-  no-cr = plain-cr m.field m.plainly;
-  end-so = let n : length (m.field ++ eol) ≡ length m.field + 2 = length-append m.field eol in omega (arith, m.stands.next-so);
+  no_cr = plain_cr m.field m.plainly;
+  end_so = let n : length (m.field ++ eol) ≡ length m.field + 2 = length-append m.field eol in omega (arith, m.stands.next_so);
 }
-line-met (more {column} {others} {text} {at} {r} {codes} {end} m rest) = behind-it (line-met rest)
+line_met (more {column} {others} {text} {at} {r} {codes} {end} m rest) = behind_it (line_met rest)
   where
-    behind-it : LineMet others text r.next codes end → LineMet (column ∷ others) text at (r.code ∷ codes) end
-    behind-it l = record {
+    behind_it : LineMet others text r.next codes end → LineMet (column ∷ others) text at (r.code ∷ codes) end
+    behind_it l = record {
       line = m.field ++ (comma ∷ l.line);
-      starts-so = parted m ∙ ap (λ (s : List ℕ). m.field ++ (comma ∷ s)) l.starts-so ∙ sym (append_assoc m.field (comma ∷ l.line) (eol ++ drop end text));
-      codes-so = ap (codes_of (column ∷ others)) (field-then m.field l.line m.plainly) ∙ ap₂ ◌∷◌ m.code-so l.codes-so;
-      many = ap length (field-then m.field l.line m.plainly) ∙ ap suc l.many;
+      starts_so = parted m ∙ ap (λ (s : List ℕ). m.field ++ (comma ∷ s)) l.starts_so ∙ sym (append_assoc m.field (comma ∷ l.line) (eol ++ drop end text));
+      codes_so = ap (codes_of (column ∷ others)) (field_then m.field l.line m.plainly) ∙ ap₂ ◌∷◌ m.code_so l.codes_so;
+      many = ap length (field_then m.field l.line m.plainly) ∙ ap suc l.many;
       all_known = and_both m.known_so l.all_known;
-      no-cr = all_append noCR m.field (comma ∷ l.line) ∙ and_both (plain-cr m.field m.plainly) l.no-cr;
-      end-so =
+      no_cr = all_append no_cr m.field (comma ∷ l.line) ∙ and_both (plain_cr m.field m.plainly) l.no_cr;
+      end_so =
           let n : length (m.field ++ (comma ∷ l.line)) ≡ length m.field + suc (length l.line) = length-append m.field (comma ∷ l.line) in
           let k : length (m.field ++ (comma ∷ [])) ≡ length m.field + 1 = length-append m.field (comma ∷ []) in
-          omega (arith, m.stands.next-so, l.end-so);
+          omega (arith, m.stands.next_so, l.end_so);
     }
 
 -- THE FIRST LINE OF A TEXT
 
 -- a line without CR reaches up to its CR LF
-reach-line : (n : ℕ) (line rest : List ℕ) → all noCR line ≡ true → length line ≤ n → reach n (line ++ (eol ++ rest)) ≡ length line
-reach-line zero [] rest h k = refl
-reach-line (suc n) [] rest h k = refl
-reach-line zero (b ∷ line) rest h k = absurd (omega arith)
-reach-line (suc n) (b ∷ line) rest h k =
-    ap₂ (λ (t : Bool) (m : ℕ). cond t 0 (suc m)) (first-CR b (line ++ (eol ++ rest)) (not-true (eqb b CR) (and_left (noCR b) (all noCR line) h)))
-    (reach-line n line rest (and_right (noCR b) (all noCR line) h) (omega arith))
+reach_line : (n : ℕ) (line rest : List ℕ) → all no_cr line ≡ true → length line ≤ n → reach n (line ++ (eol ++ rest)) ≡ length line
+reach_line zero [] rest h k = refl
+reach_line (suc n) [] rest h k = refl
+reach_line zero (b ∷ line) rest h k = absurd (omega arith)
+reach_line (suc n) (b ∷ line) rest h k =
+    ap₂ (λ (t : Bool) (m : ℕ). cond t 0 (suc m)) (first_CR b (line ++ (eol ++ rest)) (not-true (eqb b CR) (and_left (no_cr b) (all no_cr line) h)))
+    (reach_line n line rest (and_right (no_cr b) (all no_cr line) h) (omega arith))
 
 -- a text that begins with a line in a window of it
-pub first_good : (text : List ℕ) (n : ℕ) (r : FirstLine) (ended : Bool) → n ≤ longest + 2 → Leads (take n text) r → r ≡ firstLine true ended text
-unfolding firstLine
+pub first_good : (text : List ℕ) (n : ℕ) (r : FirstLine) (ended : Bool) → n ≤ longest + 2 → Leads (take n text) r → r ≡ first_line true ended text
+unfolding first_line
 first_good text n r ended few l =
-    l.r-so
+    l.r_so
     ∙ ap₂ (λ (m : ℕ) (s : List ℕ). record { line = parsed s; end = m; whole = true }) (sym reaches) (sym first)
-    ∙ ap₂ (λ (t u : Bool). record { line = cond ((t || ended) && u) (parsed (take (reach tooLong text) text)) (refusedParse 8); end = reach tooLong text; whole = t })
-    (sym ends) (sym (le-leb (reach tooLong text) longest (subst (λ (m : ℕ). m ≤ longest) (sym reaches) short)))
+    ∙ ap₂ (λ (t u : Bool). record { line = cond ((t || ended) && u) (parsed (take (reach too_long text) text)) (refused_parse 8); end = reach too_long text; whole = t })
+    (sym ends) (sym (le-leb (reach too_long text) longest (subst (λ (m : ℕ). m ≤ longest) (sym reaches) short)))
   where
     behind : List ℕ
     behind = l.rest ++ drop n text
 
-    whole-text : text ≡ l.line ++ (eol ++ behind)
-    whole-text =
-        sym (take-append-drop n text) ∙ ap (λ (s : List ℕ). s ++ drop n text) l.starts-so
+    whole_text : text ≡ l.line ++ (eol ++ behind)
+    whole_text =
+        sym (take-append-drop n text) ∙ ap (λ (s : List ℕ). s ++ drop n text) l.starts_so
         ∙ append_assoc l.line (eol ++ l.rest) (drop n text)
 
     short : length l.line ≤ longest
     short =
-        let e : length (take n text) ≡ length l.line + suc (suc (length l.rest)) = ap length l.starts-so ∙ length-append l.line (eol ++ l.rest) in
+        let e : length (take n text) ≡ length l.line + suc (suc (length l.rest)) = ap length l.starts_so ∙ length-append l.line (eol ++ l.rest) in
         omega (arith, length-take n text)
 
-    reaches : reach tooLong text ≡ length l.line
-    reaches = ap (reach tooLong) whole-text ∙ reach-line tooLong l.line behind l.no-cr (omega (arith, short))
+    reaches : reach too_long text ≡ length l.line
+    reaches = ap (reach too_long) whole_text ∙ reach_line too_long l.line behind l.no_cr (omega (arith, short))
 
-    first : take (reach tooLong text) text ≡ l.line
-    first = ap₂ take reaches whole-text ∙ take_at l.line (eol ++ behind) (length l.line) refl
+    first : take (reach too_long text) text ≡ l.line
+    first = ap₂ take reaches whole_text ∙ take_at l.line (eol ++ behind) (length l.line) refl
 
-    ends : crlf (drop (reach tooLong text) text) ≡ true
-    ends = ap crlf (ap₂ drop reaches whole-text ∙ drop_at l.line (eol ++ behind) (length l.line) refl)
+    ends : crlf (drop (reach too_long text) text) ≡ true
+    ends = ap crlf (ap₂ drop reaches whole_text ∙ drop_at l.line (eol ++ behind) (length l.line) refl)
 
 -- the test of `good_line`: the last code is known
-pub last-known : {code : ℕ} → (code ≡ unknown → ⊥) → known code ≡ true
-last-known {code} h = ap not (ne_eqb code unknown h)
+pub last_known : {code : ℕ} → (code ≡ unknown → ⊥) → known code ≡ true
+last_known {code} h = ap not (ne_eqb code unknown h)
 
 -- what `good_line` sees: the last code is known, and the dashes agree
-pub good-leads : {text : List ℕ} (t : Codes) {d : Bool} {line : ParsedLine} → MetAll columns text 0 t.codes t.end → d ≡ dashesAgree t.codes → not d ≡ false
+pub good_leads : {text : List ℕ} (t : Codes) {d : Bool} {line : ParsedLine} → MetAll columns text 0 t.codes t.end → d ≡ dashes_agree t.codes → not d ≡ false
     → line ≡ line_of t.codes → Leads text (record { line = line; end = t.end - 2; whole = true })
-unfolding wellFormed columns
-good-leads {text} t {d} {line} m f g e =
-    let l = line-met m in
-    let well : wellFormed l.line ≡ true =
-    ap₂ (λ (n : ℕ) (cs : List ℕ). eqb n (length columns) && all known cs && dashesAgree cs) l.many l.codes-so
+unfolding well_formed columns
+good_leads {text} t {d} {line} m f g e =
+    let l = line_met m in
+    let well : well_formed l.line ≡ true =
+    ap₂ (λ (n : ℕ) (cs : List ℕ). eqb n (length columns) && all known cs && dashes_agree cs) l.many l.codes_so
     ∙ ap₂ (λ (a b : Bool). eqb (length columns) (length columns) && a && b) l.all_known (sym f ∙ not-false d g) in
-    let end : t.end - 2 ≡ length l.line = omega (arith, l.end-so) in
+    let end : t.end - 2 ≡ length l.line = omega (arith, l.end_so) in
     record {
       line = l.line;
       rest = drop t.end text;
-      starts-so = l.starts-so;
-      no-cr = l.no-cr;
-      r-so =
+      starts_so = l.starts_so;
+      no_cr = l.no_cr;
+      r_so =
           ap₂ (λ (p : ParsedLine) (n : ℕ). record { line = p; end = n; whole = true })
-          (e ∙ ap line_of (sym l.codes-so) ∙ line-well l.line well) end;
+          (e ∙ ap line_of (sym l.codes_so) ∙ line_well l.line well) end;
     }
 
 -- CR LF stands behind the fields, so their end is at least 2
-pub met-end : {text : List ℕ} (t : Codes) → MetAll columns text 0 t.codes t.end → 2 ≤ t.end
-met-end t m = omega (arith, (line-met m).end-so)
+pub met_end : {text : List ℕ} (t : Codes) → MetAll columns text 0 t.codes t.end → 2 ≤ t.end
+met_end t m = omega (arith, (line_met m).end_so)
 
 -- the first line, read the general way
-pub any-first : (asked ended : Bool) (text : List ℕ) {line : ParsedLine} {end : ℕ} {whole : Bool} → end ≡ lineEnd text 0 → whole ≡ crlf (drop end text)
-    → line ≡ lineTo (asked && (whole || ended)) end text → record { line = line; end = end; whole = whole } ≡ firstLine asked ended text
-unfolding firstLine lineEnd
-any-first asked ended text {line} {end} {whole} e w p =
-    let at : end ≡ reach tooLong text = e ∙ zero-add (reach tooLong text) in
-    ap₂ (λ (l : ParsedLine) (b : Bool). record { line = l; end = end; whole = b }) (p ∙ ap (λ (b : Bool). lineTo (asked && (b || ended)) end text) w) w
-    ∙ ap (λ (n : ℕ). record { line = lineTo (asked && (crlf (drop n text) || ended)) n text; end = n; whole = crlf (drop n text) }) at
+pub any_first : (asked ended : Bool) (text : List ℕ) {line : ParsedLine} {end : ℕ} {whole : Bool} → end ≡ line_end text 0 → whole ≡ crlf (drop end text)
+    → line ≡ line_to (asked && (whole || ended)) end text → record { line = line; end = end; whole = whole } ≡ first_line asked ended text
+unfolding first_line line_end
+any_first asked ended text {line} {end} {whole} e w p =
+    let at : end ≡ reach too_long text = e ∙ zero-add (reach too_long text) in
+    ap₂ (λ (l : ParsedLine) (b : Bool). record { line = l; end = end; whole = b }) (p ∙ ap (λ (b : Bool). line_to (asked && (b || ended)) end text) w) w
+    ∙ ap (λ (n : ℕ). record { line = line_to (asked && (crlf (drop n text) || ended)) n text; end = n; whole = crlf (drop n text) }) at
 
 -- a line that is parsed, and one that is not
-pub line-told : (parse : Bool) (end : ℕ) (text : List ℕ) → not (parse && leb end longest) ≡ false → parsed (take end text) ≡ lineTo parse end text
-line-told parse end text h = sym (ap (λ (b : Bool). cond b (parsed (take end text)) (refusedParse 8)) (not-false (parse && leb end longest) h))
+pub line_told : (parse : Bool) (end : ℕ) (text : List ℕ) → not (parse && leb end longest) ≡ false → parsed (take end text) ≡ line_to parse end text
+line_told parse end text h = sym (ap (λ (b : Bool). cond b (parsed (take end text)) (refused_parse 8)) (not-false (parse && leb end longest) h))
 
-pub line-untold : (parse : Bool) (end : ℕ) (text : List ℕ) → not (parse && leb end longest) ≡ true → refusedParse 8 ≡ lineTo parse end text
-line-untold parse end text h = sym (ap (λ (b : Bool). cond b (parsed (take end text)) (refusedParse 8)) (not-true (parse && leb end longest) h))
+pub line_untold : (parse : Bool) (end : ℕ) (text : List ℕ) → not (parse && leb end longest) ≡ true → refused_parse 8 ≡ line_to parse end text
+line_untold parse end text h = sym (ap (λ (b : Bool). cond b (parsed (take end text)) (refused_parse 8)) (not-true (parse && leb end longest) h))
 
-pub end-inside : (text : List ℕ) {end : ℕ} → end ≡ lineEnd text 0 → end ≤ length text
-unfolding lineEnd
-end-inside text e = subst (λ (n : ℕ). n ≤ length text) (sym (e ∙ zero-add (reach tooLong text))) (reach-within tooLong text)
+pub end_inside : (text : List ℕ) {end : ℕ} → end ≡ line_end text 0 → end ≤ length text
+unfolding line_end
+end_inside text e = subst (λ (n : ℕ). n ≤ length text) (sym (e ∙ zero-add (reach too_long text))) (reach_within too_long text)

@@ -16,22 +16,22 @@ use lib.Seq.{drop-cons, drop-drop, take-add}
 use Rattle.kinds.specs.Tests.{all}
 use Rattle.kinds.proofs.Lists.{and_both, all_append, same_truth}
 use Rattle.words.specs.Words.{word, word_of}
-use Rattle.words.proofs.Laws.{bytesFrom, word-of, word-last}
+use Rattle.words.proofs.Laws.{bytes_from, word_of_lem, word_last}
 use Rattle.parser.specs.declared.Taken.{Taken}
 use Rattle.parser.specs.Parsed.{known}
-use Rattle.first_line.specs.InPlace.{wordLength, Passed, takenAs, Ends, ended, passed-by, plain, rest_of, Takes, took, left}
+use Rattle.first_line.specs.InPlace.{word_length, Passed, taken_as, Ends, ended, passed_by, plain, rest_of, Takes, took, left}
 
 -- BYTES AND NUMBERS
 
 -- the test of `at_hand`
-pub hand-test : (len at : ℕ) → wordLength ≤ len → leb at (len - wordLength) ≡ leb (at + wordLength) len
-hand-test len at h = same_truth (leb at (len - wordLength)) (leb (at + wordLength) len)
-    (λ t. le-leb (at + wordLength) len (omega (arith, leb-true at (len - wordLength) t)))
-    (λ t. le-leb at (len - wordLength) (omega (arith, leb-true (at + wordLength) len t)))
+pub hand_test : (len at : ℕ) → word_length ≤ len → leb at (len - word_length) ≡ leb (at + word_length) len
+hand_test len at h = same_truth (leb at (len - word_length)) (leb (at + word_length) len)
+    (λ t. le-leb (at + word_length) len (omega (arith, leb-true at (len - word_length) t)))
+    (λ t. le-leb at (len - word_length) (omega (arith, leb-true (at + word_length) len t)))
 
 -- enough bytes are at hand
-pub roomy : {b : Bool} (at len : ℕ) → b ≡ leb (at + wordLength) len → not b ≡ false → at + wordLength ≤ len
-roomy {b} at len e h = leb-true (at + wordLength) len (sym e ∙ not-false b h)
+pub roomy : {b : Bool} (at len : ℕ) → b ≡ leb (at + word_length) len → not b ≡ false → at + word_length ≤ len
+roomy {b} at len e h = leb-true (at + word_length) len (sym e ∙ not-false b h)
 
 -- no bytes are the number 0
 pub no_bytes : (w n : ℕ) → n ≡ 0 → 0 ≡ w % 256 ^ n
@@ -51,12 +51,12 @@ power_pos (suc k) = subst (λ (n : ℕ). 0 < n) (sym (pow-suc 256 k)) (omega (ar
 
 -- the first bytes of a text are those of a number's
 same_bytes : (b : List ℕ) → ((i : ℕ) → get_or b i 0 < 256) → (p : List ℕ) → ((i : ℕ) → get_or p i 0 < 256) → (at n : ℕ) → length p ≤ n
-    → word_of (bytesFrom b at n) % 256 ^ length p ≡ word_of p → at + length p ≤ length b → take (length p) (drop at b) ≡ p
+    → word_of (bytes_from b at n) % 256 ^ length p ≡ word_of p → at + length p ≤ length b → take (length p) (drop at b) ≡ p
 same_bytes b bytes [] small at n l e k = refl
 same_bytes b bytes (x ∷ p) small at zero l e k = absurd (omega arith)
 same_bytes b bytes (x ∷ p) small at (suc n) l e k =
     let y : ℕ = get_or b at 0 in
-    let rest : ℕ = word_of (bytesFrom b (suc at) n) in
+    let rest : ℕ = word_of (bytes_from b (suc at) n) in
     let parted = split rest y (256 ^ length p) (word_of p) x (power_pos (length p)) (bytes at) (small 0)
     (ap (λ (m : ℕ). (rest * 256 + y) % m) (sym (pow-suc 256 (length p))) ∙ e) in
     ap (take (suc (length p))) (drop-cons b at 0 (omega arith))
@@ -73,57 +73,57 @@ same_bytes b bytes (x ∷ p) small at (suc n) l e k =
 
 -- the test of `behind`
 pub matched : (text name : List ℕ) {at n next w v f : ℕ} → ((i : ℕ) → Fits w8 (get_or text i 0)) → ((i : ℕ) → Fits w8 (get_or name i 0))
-    → n ≡ length name → n ≤ wordLength → at + wordLength ≤ length text → w ≡ word text at → f ≡ w % 256 ^ n → v ≡ word name 0 → f ≡ v → next ≡ at + n
+    → n ≡ length name → n ≤ word_length → at + word_length ≤ length text → w ≡ word text at → f ≡ w % 256 ^ n → v ≡ word name 0 → f ≡ v → next ≡ at + n
     → Passed name text at next
 matched text name {at} {n} {next} {w} {v} {f} bytes small e k room h g m t s = record {
   here = same_bytes text (λ i. (bytes i).fits) name (λ i. (small i).fits) at 8 (omega arith)
-      (ap₂ (λ (x y : ℕ). x % 256 ^ y) (sym (word-of text at)) (sym e) ∙ ap (λ (x : ℕ). x % 256 ^ n) (sym h) ∙ sym g ∙ t ∙ m ∙ sym (word-last name 0 (omega arith)))
+      (ap₂ (λ (x y : ℕ). x % 256 ^ y) (sym (word_of_lem text at)) (sym e) ∙ ap (λ (x : ℕ). x % 256 ^ n) (sym h) ∙ sym g ∙ t ∙ m ∙ sym (word_last name 0 (omega arith)))
       (omega arith);
-  next-so = s ∙ ap (λ (x : ℕ). at + x) e;
+  next_so = s ∙ ap (λ (x : ℕ). at + x) e;
 }
 
 -- a second part stands right behind a first
-pub passed-both : {p q text : List ℕ} {at next end : ℕ} → Passed p text at next → Passed q text next end → Passed (p ++ q) text at end
-passed-both {p} {q} {text} {at} {next} {end} a b = record {
+pub passed_both : {p q text : List ℕ} {at next end : ℕ} → Passed p text at next → Passed q text next end → Passed (p ++ q) text at end
+passed_both {p} {q} {text} {at} {next} {end} a b = record {
   here =
       ap (λ (k : ℕ). take k (drop at text)) (length-append p q)
       ∙ take-add (length p) (length q) (drop at text)
-      ∙ ap₂ ◌++◌ a.here (ap (take (length q)) (drop-drop (length p) at text ∙ ap (λ (k : ℕ). drop k text) (sym a.next-so)) ∙ b.here);
-  next-so = let n : length (p ++ q) ≡ length p + length q = length-append p q in omega (arith, a.next-so, b.next-so);
+      ∙ ap₂ ◌++◌ a.here (ap (take (length q)) (drop-drop (length p) at text ∙ ap (λ (k : ℕ). drop k text) (sym a.next_so)) ∙ b.here);
+  next_so = let n : length (p ++ q) ≡ length p + length q = length-append p q in omega (arith, a.next_so, b.next_so);
 }
 
 -- what stands in the text ends in it
-pub passed-within : {p text : List ℕ} {at next : ℕ} → 0 < length p → Passed p text at next → at < length text
-passed-within {p} {text} {at} {next} pos a =
+pub passed_within : {p text : List ℕ} {at next : ℕ} → 0 < length p → Passed p text at next → at < length text
+passed_within {p} {text} {at} {next} pos a =
     omega (arith, ap length a.here, length-take (length p) (drop at text), length-drop at text)
 
 -- A FIELD
 
 -- one whose name stands there with its mark
-pub took-name : {column : List ℕ → ℕ} {mark text : List ℕ} {at code next : ℕ} {r : Taken} (field : List ℕ) → r ≡ takenAs code next
+pub took_name : {column : List ℕ → ℕ} {mark text : List ℕ} {at code next : ℕ} {r : Taken} (field : List ℕ) → r ≡ taken_as code next
     → Passed (field ++ mark) text at next → all plain field ≡ true → column field ≡ code → known code ≡ true → Takes column mark text at r
-took-name {column} {mark} {text} {at} {code} {next} {r} field e p l c k = took (record {
+took_name {column} {mark} {text} {at} {code} {next} {r} field e p l c k = took (record {
   field = field;
   stands = subst (Passed (field ++ mark) text at) (sym (ap (λ (x : Taken). x.next) e)) p;
   plainly = l;
-  code-so = c ∙ sym (ap (λ (x : Taken). x.code) e);
+  code_so = c ∙ sym (ap (λ (x : Taken). x.code) e);
   known_so = ap (λ (x : Taken). known x.code) e ∙ k;
 })
 
 -- one whose name ends there
-pub took-end : {column : List ℕ → ℕ} {mark text : List ℕ} {at code : ℕ} {r : Taken} (field : List ℕ) → Ends (field ++ mark) code text at r
+pub took_end : {column : List ℕ → ℕ} {mark text : List ℕ} {at code : ℕ} {r : Taken} (field : List ℕ) → Ends (field ++ mark) code text at r
     → all plain field ≡ true → column field ≡ code → known code ≡ true → Takes column mark text at r
-took-end field (ended p e) l c k = took-name field e p l c k
-took-end field (passed-by e) l c k = left e
+took_end field (ended p e) l c k = took_name field e p l c k
+took_end field (passed_by e) l c k = left e
 
 -- one whose name begins there
-pub took-rest : {column : List ℕ → ℕ} {mark text : List ℕ} {at next : ℕ} {r : Taken} (front : List ℕ) → Takes (rest_of front column) mark text next r
+pub took_rest : {column : List ℕ → ℕ} {mark text : List ℕ} {at next : ℕ} {r : Taken} (front : List ℕ) → Takes (rest_of front column) mark text next r
     → Passed front text at next → all plain front ≡ true → Takes column mark text at r
-took-rest {column} {mark} {text} {at} {next} {r} front (took m) p l = took (record {
+took_rest {column} {mark} {text} {at} {next} {r} front (took m) p l = took (record {
   field = front ++ m.field;
-  stands = subst (λ (s : List ℕ). Passed s text at r.next) (sym (append_assoc front m.field mark)) (passed-both p m.stands);
+  stands = subst (λ (s : List ℕ). Passed s text at r.next) (sym (append_assoc front m.field mark)) (passed_both p m.stands);
   plainly = all_append plain front m.field ∙ and_both l m.plainly;
-  code-so = m.code-so;
+  code_so = m.code_so;
   known_so = m.known_so;
 })
-took-rest front (left e) p l = left e
+took_rest front (left e) p l = left e

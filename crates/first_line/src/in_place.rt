@@ -3,9 +3,9 @@
 // What is not matched is not taken here.
 ghost use Rattle.std.specs.Prelude.{◌+◌, ◌≤◌, ◌%◌, ◌^◌, ◌≡◌, [], ◌∷◌, leb, length};
 ghost use Rattle.text.specs.Text.{bytes, comma, eol};
-ghost use Rattle.names.specs.Names.{code_of, pair_of, requestNames, flagNames, tagNames, responseNames, tagOpNames, respErrNames};
-ghost use Rattle.names.specs.Names.{forwardNames, finalNames, fwdErrNames};
-ghost use Rattle.first_line.specs.InPlace.{wordLength, notTaken, takenAs, Behind, Ends, rest_of, Takes, DigitsAt};
+ghost use Rattle.names.specs.Names.{code_of, pair_of, request_names, flag_names, tag_names, response_names, tag_op_names, resp_err_names};
+ghost use Rattle.names.specs.Names.{forward_names, final_names, fwd_err_names};
+ghost use Rattle.first_line.specs.InPlace.{word_length, not_taken, taken_as, Behind, Ends, rest_of, Takes, DigitsAt};
 
 use kinds::{FwdState, LineState, Request, RespErr, TagOp, TagState};
 use names::MOST_DIGITS;
@@ -32,7 +32,7 @@ struct Digits {
 
 // Whether enough bytes are at hand at an offset.
 fn at_hand(len: usize, at: usize) -> bool
-    ensures { result ≡ leb (at + wordLength) len }
+    ensures { result ≡ leb (at + word_length) len }
 {
     if len < WORD {
         return false;
@@ -42,7 +42,7 @@ fn at_hand(len: usize, at: usize) -> bool
 
 // A field that is not taken. Its offset is the end of the text, where none is taken.
 fn not_taken(len: usize) -> Taken
-    ensures { result ≡ notTaken len }
+    ensures { result ≡ not_taken len }
 {
     Taken {
         code: names::UNKNOWN,
@@ -52,7 +52,7 @@ fn not_taken(len: usize) -> Taken
 
 // A field with this code, and the offset behind its comma.
 fn taken(code: u8, next: usize) -> Taken
-    ensures { result ≡ takenAs code next }
+    ensures { result ≡ taken_as code next }
 {
     Taken {
         code: code as u32,
@@ -96,7 +96,7 @@ fn behind(text: &[u8], at: usize, name: &[u8]) -> usize
 
 // The digits at an offset, at most as many as a pair number has.
 fn read_digits(text: &[u8], at: usize) -> Digits
-    requires { at + wordLength ≤ length text.now }
+    requires { at + word_length ≤ length text.now }
     ensures { DigitsAt text.now at result }
 {
     let mut value: u32 = 0;
@@ -135,7 +135,7 @@ pub fn pair(text: &[u8], at: usize) -> Taken
 
 // A flag: RetToSrc, DoNotGoToSD or excl.
 pub fn flag(text: &[u8], at: usize) -> Taken
-    ensures { Takes (code_of flagNames) (comma ∷ []) text.now at result }
+    ensures { Takes (code_of flag_names) (comma ∷ []) text.now at result }
 {
     if !at_hand(text.len(), at) {
         return not_taken(text.len());
@@ -160,7 +160,7 @@ fn ending(text: &[u8], at: usize, name: &[u8], code: u8) -> Taken
 
 // A request behind SnpClean.
 fn clean(text: &[u8], at: usize) -> Taken
-    ensures { Takes (rest_of (bytes "SnpClean") (code_of requestNames)) (comma ∷ []) text.now at result }
+    ensures { Takes (rest_of (bytes "SnpClean") (code_of request_names)) (comma ∷ []) text.now at result }
 {
     let clean = behind(text, at, b",");
     if 0 < clean {
@@ -175,7 +175,7 @@ fn clean(text: &[u8], at: usize) -> Taken
 
 // A request behind SnpNotSharedDirt.
 fn not_shared_dirty(text: &[u8], at: usize) -> Taken
-    ensures { Takes (rest_of (bytes "SnpNotSharedDirt") (code_of requestNames)) (comma ∷ []) text.now at result }
+    ensures { Takes (rest_of (bytes "SnpNotSharedDirt") (code_of request_names)) (comma ∷ []) text.now at result }
 {
     let dirty = behind(text, at, b"y,");
     if 0 < dirty {
@@ -186,7 +186,7 @@ fn not_shared_dirty(text: &[u8], at: usize) -> Taken
 
 // A request behind SnpNotSh.
 fn not_shared(text: &[u8], at: usize) -> Taken
-    ensures { Takes (rest_of (bytes "SnpNotSh") (code_of requestNames)) (comma ∷ []) text.now at result }
+    ensures { Takes (rest_of (bytes "SnpNotSh") (code_of request_names)) (comma ∷ []) text.now at result }
 {
     let dirt = behind(text, at, b"aredDirt");
     if 0 < dirt {
@@ -197,7 +197,7 @@ fn not_shared(text: &[u8], at: usize) -> Taken
 
 // A request behind SnpPrefe.
 fn prefer_unique(text: &[u8], at: usize) -> Taken
-    ensures { Takes (rest_of (bytes "SnpPrefe") (code_of requestNames)) (comma ∷ []) text.now at result }
+    ensures { Takes (rest_of (bytes "SnpPrefe") (code_of request_names)) (comma ∷ []) text.now at result }
 {
     let unique = behind(text, at, b"rUnique,");
     if 0 < unique {
@@ -212,7 +212,7 @@ fn prefer_unique(text: &[u8], at: usize) -> Taken
 
 // The request.
 pub fn request(text: &[u8], at: usize) -> Taken
-    ensures { Takes (code_of requestNames) (comma ∷ []) text.now at result }
+    ensures { Takes (code_of request_names) (comma ∷ []) text.now at result }
 {
     let shared = behind(text, at, b"SnpShare");
     if 0 < shared {
@@ -243,7 +243,7 @@ pub fn request(text: &[u8], at: usize) -> Taken
 
 // The tag state.
 pub fn tag(text: &[u8], at: usize) -> Taken
-    ensures { Takes (code_of tagNames) (comma ∷ []) text.now at result }
+    ensures { Takes (code_of tag_names) (comma ∷ []) text.now at result }
 {
     let invalid = behind(text, at, b"Invalid,");
     if 0 < invalid {
@@ -266,7 +266,7 @@ pub fn tag(text: &[u8], at: usize) -> Taken
 
 // A response behind SnpResp_I_Fwded_.
 fn i_fwded(text: &[u8], at: usize) -> Taken
-    ensures { Takes (rest_of (bytes "SnpResp_I_Fwded_") (code_of responseNames)) (comma ∷ []) text.now at result }
+    ensures { Takes (rest_of (bytes "SnpResp_I_Fwded_") (code_of response_names)) (comma ∷ []) text.now at result }
 {
     let sc = behind(text, at, b"SC,");
     if 0 < sc {
@@ -289,7 +289,7 @@ fn i_fwded(text: &[u8], at: usize) -> Taken
 
 // A response behind SnpResp_SC_Fwded.
 fn sc_fwded(text: &[u8], at: usize) -> Taken
-    ensures { Takes (rest_of (bytes "SnpResp_SC_Fwded") (code_of responseNames)) (comma ∷ []) text.now at result }
+    ensures { Takes (rest_of (bytes "SnpResp_SC_Fwded") (code_of response_names)) (comma ∷ []) text.now at result }
 {
     let sc = behind(text, at, b"_SC,");
     if 0 < sc {
@@ -300,7 +300,7 @@ fn sc_fwded(text: &[u8], at: usize) -> Taken
 
 // A response behind SnpResp_.
 fn without_data(text: &[u8], at: usize) -> Taken
-    ensures { Takes (rest_of (bytes "SnpResp_") (code_of responseNames)) (comma ∷ []) text.now at result }
+    ensures { Takes (rest_of (bytes "SnpResp_") (code_of response_names)) (comma ∷ []) text.now at result }
 {
     let i = behind(text, at, b"I,");
     if 0 < i {
@@ -327,7 +327,7 @@ fn without_data(text: &[u8], at: usize) -> Taken
 
 // A response behind SnpRespData_I_Fw.
 fn i_data_fwded(text: &[u8], at: usize) -> Taken
-    ensures { Takes (rest_of (bytes "SnpRespData_I_Fw") (code_of responseNames)) (comma ∷ []) text.now at result }
+    ensures { Takes (rest_of (bytes "SnpRespData_I_Fw") (code_of response_names)) (comma ∷ []) text.now at result }
 {
     let next = behind(text, at, b"ded_SC,");
     if 0 < next {
@@ -342,7 +342,7 @@ fn i_data_fwded(text: &[u8], at: usize) -> Taken
 
 // A response behind SnpRespData_SC_F.
 fn sc_data_fwded(text: &[u8], at: usize) -> Taken
-    ensures { Takes (rest_of (bytes "SnpRespData_SC_F") (code_of responseNames)) (comma ∷ []) text.now at result }
+    ensures { Takes (rest_of (bytes "SnpRespData_SC_F") (code_of response_names)) (comma ∷ []) text.now at result }
 {
     let next = behind(text, at, b"wded_SC,");
     if 0 < next {
@@ -357,7 +357,7 @@ fn sc_data_fwded(text: &[u8], at: usize) -> Taken
 
 // A response behind SnpRespData_I_PD.
 fn i_pd(text: &[u8], at: usize) -> Taken
-    ensures { Takes (rest_of (bytes "SnpRespData_I_PD") (code_of responseNames)) (comma ∷ []) text.now at result }
+    ensures { Takes (rest_of (bytes "SnpRespData_I_PD") (code_of response_names)) (comma ∷ []) text.now at result }
 {
     let next = behind(text, at, b",");
     if 0 < next {
@@ -372,7 +372,7 @@ fn i_pd(text: &[u8], at: usize) -> Taken
 
 // A response behind SnpRespData_SC_P.
 fn sc_pd(text: &[u8], at: usize) -> Taken
-    ensures { Takes (rest_of (bytes "SnpRespData_SC_P") (code_of responseNames)) (comma ∷ []) text.now at result }
+    ensures { Takes (rest_of (bytes "SnpRespData_SC_P") (code_of response_names)) (comma ∷ []) text.now at result }
 {
     let next = behind(text, at, b"D,");
     if 0 < next {
@@ -387,7 +387,7 @@ fn sc_pd(text: &[u8], at: usize) -> Taken
 
 // A response behind SnpRespD, with forwarded data and without PD to Home.
 fn data_fwded(text: &[u8], at: usize) -> Taken
-    ensures { Takes (rest_of (bytes "SnpRespD") (code_of responseNames)) (comma ∷ []) text.now at result }
+    ensures { Takes (rest_of (bytes "SnpRespD") (code_of response_names)) (comma ∷ []) text.now at result }
 {
     let i = behind(text, at, b"ata_I_Fw");
     if 0 < i {
@@ -406,7 +406,7 @@ fn data_fwded(text: &[u8], at: usize) -> Taken
 
 // A response behind SnpRespD, with PD to Home or forwarded data.
 fn data_pd(text: &[u8], at: usize) -> Taken
-    ensures { Takes (rest_of (bytes "SnpRespD") (code_of responseNames)) (comma ∷ []) text.now at result }
+    ensures { Takes (rest_of (bytes "SnpRespD") (code_of response_names)) (comma ∷ []) text.now at result }
 {
     let i = behind(text, at, b"ata_I_PD");
     if 0 < i {
@@ -425,7 +425,7 @@ fn data_pd(text: &[u8], at: usize) -> Taken
 
 // A response behind SnpRespD.
 fn with_data(text: &[u8], at: usize) -> Taken
-    ensures { Takes (rest_of (bytes "SnpRespD") (code_of responseNames)) (comma ∷ []) text.now at result }
+    ensures { Takes (rest_of (bytes "SnpRespD") (code_of response_names)) (comma ∷ []) text.now at result }
 {
     let i = behind(text, at, b"ata_I,");
     if 0 < i {
@@ -444,7 +444,7 @@ fn with_data(text: &[u8], at: usize) -> Taken
 
 // The response, as its index among the 22.
 pub fn response(text: &[u8], at: usize) -> Taken
-    ensures { Takes (code_of responseNames) (comma ∷ []) text.now at result }
+    ensures { Takes (code_of response_names) (comma ∷ []) text.now at result }
 {
     let plain = behind(text, at, b"SnpResp_");
     if 0 < plain {
@@ -459,7 +459,7 @@ pub fn response(text: &[u8], at: usize) -> Taken
 
 // TagOp.
 pub fn tag_op(text: &[u8], at: usize) -> Taken
-    ensures { Takes (code_of tagOpNames) (comma ∷ []) text.now at result }
+    ensures { Takes (code_of tag_op_names) (comma ∷ []) text.now at result }
 {
     let invalid = behind(text, at, b"Invalid,");
     if 0 < invalid {
@@ -482,7 +482,7 @@ pub fn tag_op(text: &[u8], at: usize) -> Taken
 
 // RespErr.
 pub fn resp_err(text: &[u8], at: usize) -> Taken
-    ensures { Takes (code_of respErrNames) (comma ∷ []) text.now at result }
+    ensures { Takes (code_of resp_err_names) (comma ∷ []) text.now at result }
 {
     let ok = behind(text, at, b"OK,");
     if 0 < ok {
@@ -505,7 +505,7 @@ pub fn resp_err(text: &[u8], at: usize) -> Taken
 
 // A forward behind CompData.
 fn comp_data(text: &[u8], at: usize) -> Taken
-    ensures { Takes (rest_of (bytes "CompData") (code_of forwardNames)) (comma ∷ []) text.now at result }
+    ensures { Takes (rest_of (bytes "CompData") (code_of forward_names)) (comma ∷ []) text.now at result }
 {
     let sc = behind(text, at, b"_SC,");
     if 0 < sc {
@@ -524,7 +524,7 @@ fn comp_data(text: &[u8], at: usize) -> Taken
 
 // The FwdState of a forward; 0 for none.
 pub fn forward(text: &[u8], at: usize) -> Taken
-    ensures { Takes (code_of forwardNames) (comma ∷ []) text.now at result }
+    ensures { Takes (code_of forward_names) (comma ∷ []) text.now at result }
 {
     let none = behind(text, at, b"-,");
     if 0 < none {
@@ -539,7 +539,7 @@ pub fn forward(text: &[u8], at: usize) -> Taken
 
 // The state after, if it is none of the first four.
 fn other_state(text: &[u8], at: usize) -> Taken
-    ensures { Takes (code_of finalNames) (comma ∷ []) text.now at result }
+    ensures { Takes (code_of final_names) (comma ∷ []) text.now at result }
 {
     let udp = behind(text, at, b"UDP,");
     if 0 < udp {
@@ -562,7 +562,7 @@ fn other_state(text: &[u8], at: usize) -> Taken
 
 // The state after.
 pub fn state_after(text: &[u8], at: usize) -> Taken
-    ensures { Takes (code_of finalNames) (comma ∷ []) text.now at result }
+    ensures { Takes (code_of final_names) (comma ∷ []) text.now at result }
 {
     let i = behind(text, at, b"I,");
     if 0 < i {
@@ -585,7 +585,7 @@ pub fn state_after(text: &[u8], at: usize) -> Taken
 
 // The error field of forwarded data, with the CR LF that ends its line.
 pub fn fwd_err(text: &[u8], at: usize) -> Taken
-    ensures { Takes (code_of fwdErrNames) eol text.now at result }
+    ensures { Takes (code_of fwd_err_names) eol text.now at result }
 {
     let none = behind(text, at, b"-\r\n");
     if 0 < none {

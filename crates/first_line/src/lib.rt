@@ -2,9 +2,9 @@
 // line goes the general way, and both ways give the same.
 ghost use Rattle.std.specs.Prelude.{◌≡◌, true, false};
 ghost use Rattle.names.specs.Names.{columns};
-ghost use Rattle.names.specs.Columns.{fwdErrCode};
+ghost use Rattle.names.specs.Columns.{fwd_err_code};
 ghost use Rattle.parser.specs.Parsed.{known};
-ghost use Rattle.first_line.specs.First.{firstLine};
+ghost use Rattle.first_line.specs.First.{first_line};
 ghost use Rattle.first_line.specs.InPlace.{MetAll, Leads};
 
 use kinds::Refusal;
@@ -27,7 +27,7 @@ pub struct FirstLine {
 
 // Takes the twelve fields of the line at the front of a text, one after another, by matching names in place. If the last is known, all are.
 fn meet_all(text: &[u8]) -> Codes
-    ensures { known (fwdErrCode result.codes) ≡ true → MetAll columns text.now 0 result.codes result.end }
+    ensures { known (fwd_err_code result.codes) ≡ true → MetAll columns text.now 0 result.codes result.end }
 {
     let mut fields = Fields { line: text, at: 0 };
     let pair = in_place::pair(fields.line, fields.at);
@@ -90,7 +90,7 @@ fn good_line(text: &[u8]) -> FirstLine
 
 // The first line of a text, whatever it is. It is parsed if that is asked for, its end is known and it is not too long.
 fn any_line(text: &[u8], ended: bool, asked: bool) -> FirstLine
-    ensures { result ≡ firstLine asked ended text.now }
+    ensures { result ≡ first_line asked ended text.now }
 {
     let end = lines::line_end(text, 0);
     let whole = lines::ends_line(text, end);
@@ -111,7 +111,7 @@ fn any_line(text: &[u8], ended: bool, asked: bool) -> FirstLine
 // Finds the first line of a text, and parses it if that is asked for. If `ended`, nothing follows the text. Fields are taken in place if as
 // many bytes are at hand as a line has at most.
 pub fn parse(text: &[u8], ended: bool, asked: bool) -> FirstLine
-    ensures { result ≡ firstLine asked ended text.now }
+    ensures { result ≡ first_line asked ended text.now }
 {
     if asked & (WINDOW <= text.len()) {
         let good = good_line(&text[..WINDOW]);

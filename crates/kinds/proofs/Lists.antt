@@ -48,16 +48,16 @@ pub and_both : {a b : Bool} → a ≡ true → b ≡ true → a && b ≡ true
 and_both {a} {b} p q = ap (λ (x : Bool). x && b) p ∙ q
 
 -- "not, or": where the first holds, so does the second
-pub if-then : (a b : Bool) → a ≡ true → not a || b ≡ true → b ≡ true
-if-then true b p q = q
-if-then false b p q = absurd (false≢true p)
+pub if_then : (a b : Bool) → a ≡ true → not a || b ≡ true → b ≡ true
+if_then true b p q = q
+if_then false b p q = absurd (false≢true p)
 
-pub or-and : (a b c : Bool) → (a && c) || (b && c) ≡ (a || b) && c
-or-and true true true = refl
-or-and true true false = refl
-or-and true false true = refl
-or-and true false false = refl
-or-and false b c = refl
+pub or_and : (a b c : Bool) → (a && c) || (b && c) ≡ (a || b) && c
+or_and true true true = refl
+or_and true true false = refl
+or_and true false true = refl
+or_and true false false = refl
+or_and false b c = refl
 
 pub or_right : (a b : Bool) → b ≡ true → a || b ≡ true
 or_right true b h = refl
@@ -71,27 +71,27 @@ neither true b h = absurd (false≢true (sym h))
 neither false b h = (refl, h)
 
 -- what holds for each of the seven states holds for every number below seven
-pub each-state {ℓ} : (P : ℕ → Type ℓ) → P I → P UC → P UCE → P UD → P UDP → P SC → P SD → (n : ℕ) → n < 7 → P n
-each-state P i uc uce ud udp sc sd zero h = i
-each-state P i uc uce ud udp sc sd (suc zero) h = uc
-each-state P i uc uce ud udp sc sd (suc (suc zero)) h = uce
-each-state P i uc uce ud udp sc sd (suc (suc (suc zero))) h = ud
-each-state P i uc uce ud udp sc sd (suc (suc (suc (suc zero)))) h = udp
-each-state P i uc uce ud udp sc sd (suc (suc (suc (suc (suc zero))))) h = sc
-each-state P i uc uce ud udp sc sd (suc (suc (suc (suc (suc (suc zero)))))) h = sd
-each-state P i uc uce ud udp sc sd (suc (suc (suc (suc (suc (suc (suc n))))))) h = absurd (omega arith)
+pub each_state {ℓ} : (P : ℕ → Type ℓ) → P I → P UC → P UCE → P UD → P UDP → P SC → P SD → (n : ℕ) → n < 7 → P n
+each_state P i uc uce ud udp sc sd zero h = i
+each_state P i uc uce ud udp sc sd (suc zero) h = uc
+each_state P i uc uce ud udp sc sd (suc (suc zero)) h = uce
+each_state P i uc uce ud udp sc sd (suc (suc (suc zero))) h = ud
+each_state P i uc uce ud udp sc sd (suc (suc (suc (suc zero)))) h = udp
+each_state P i uc uce ud udp sc sd (suc (suc (suc (suc (suc zero))))) h = sc
+each_state P i uc uce ud udp sc sd (suc (suc (suc (suc (suc (suc zero)))))) h = sd
+each_state P i uc uce ud udp sc sd (suc (suc (suc (suc (suc (suc (suc n))))))) h = absurd (omega arith)
 
 -- every number below seven is a state
-pub state-in : (n : ℕ) → n < 7 → In n states
-state-in =
-    each-state (λ n. In n states)
+pub state_in : (n : ℕ) → n < 7 → In n states
+state_in =
+    each_state (λ n. In n states)
     here (there here) (there (there here)) (there (there (there here)))
     (there (there (there (there here)))) (there (there (there (there (there here)))))
     (there (there (there (there (there (there here))))))
 
 -- element n of a list with one value per state
-pub at-state : (f : ℕ → ℕ) (n : ℕ) → n < 7 → get_or (map f states) n 0 ≡ f n
-at-state f = each-state (λ n. get_or (map f states) n 0 ≡ f n) refl refl refl refl refl refl refl
+pub at_state : (f : ℕ → ℕ) (n : ℕ) → n < 7 → get_or (map f states) n 0 ≡ f n
+at_state f = each_state (λ n. get_or (map f states) n 0 ≡ f n) refl refl refl refl refl refl refl
 
 -- seven numbers, one per state
 pub seven : (f : ℕ → ℕ) (x₀ x₁ x₂ x₃ x₄ x₅ x₆ : ℕ)
@@ -101,14 +101,14 @@ seven f x₀ x₁ x₂ x₃ x₄ x₅ x₆ h₀ h₁ h₂ h₃ h₄ h₅ h₆ =
     ap₂ ◌∷◌ h₀ (ap₂ ◌∷◌ h₁ (ap₂ ◌∷◌ h₂ (ap₂ ◌∷◌ h₃ (ap₂ ◌∷◌ h₄ (ap₂ ◌∷◌ h₅ (ap₂ ◌∷◌ h₆ refl))))))
 
 -- functions that agree on the seven states give the same list
-pub map-states : (f g : ℕ → ℕ) → ((s : ℕ) → s < 7 → f s ≡ g s) → map f states ≡ map g states
-map-states f g h =
+pub map_states : (f g : ℕ → ℕ) → ((s : ℕ) → s < 7 → f s ≡ g s) → map f states ≡ map g states
+map_states f g h =
     seven g (f 0) (f 1) (f 2) (f 3) (f 4) (f 5) (f 6)
     (h 0 (omega arith)) (h 1 (omega arith)) (h 2 (omega arith)) (h 3 (omega arith)) (h 4 (omega arith)) (h 5 (omega arith)) (h 6 (omega arith))
 
 -- tests that agree on the seven states agree on whether some state passes
-pub any-states : (p q : ℕ → Bool) → ((s : ℕ) → s < 7 → p s ≡ q s) → any p states ≡ any q states
-any-states p q h =
+pub any_states : (p q : ℕ → Bool) → ((s : ℕ) → s < 7 → p s ≡ q s) → any p states ≡ any q states
+any_states p q h =
     cc (h 0 (omega arith), h 1 (omega arith), h 2 (omega arith), h 3 (omega arith), h 4 (omega arith), h 5 (omega arith), h 6 (omega arith))
 
 module _ {ℓ} {A : Type ℓ} where
@@ -126,14 +126,14 @@ module _ {ℓ} {A : Type ℓ} where
       go true e k f = record { one = x; inside = here; passes = e }
       go false e k f = let r = f k in record { one = r.one; inside = there r.inside; passes = r.passes }
 
-  pub found-any : (p : A → Bool) {x : A} {xs : List A} → In x xs → p x ≡ true → any p xs ≡ true
-  found-any p (here {xs = xs}) h = or_left (any p xs) h
-  found-any p (there {y = y} {xs = xs} i) h = or_right (p y) (any p xs) (found-any p i h)
+  pub found_any : (p : A → Bool) {x : A} {xs : List A} → In x xs → p x ≡ true → any p xs ≡ true
+  found_any p (here {xs = xs}) h = or_left (any p xs) h
+  found_any p (there {y = y} {xs = xs} i) h = or_right (p y) (any p xs) (found_any p i h)
 
   -- what holds for all elements holds for each
-  pub all-at : (p : A → Bool) {x : A} {xs : List A} → all p xs ≡ true → In x xs → p x ≡ true
-  all-at p {xs = xs} h (here {x = x} {xs = ys}) = and_left (p x) (all p ys) h
-  all-at p {xs = xs} h (there {y = y} {xs = ys} i) = all-at p (and_right (p y) (all p ys) h) i
+  pub all_at : (p : A → Bool) {x : A} {xs : List A} → all p xs ≡ true → In x xs → p x ≡ true
+  all_at p {xs = xs} h (here {x = x} {xs = ys}) = and_left (p x) (all p ys) h
+  all_at p {xs = xs} h (there {y = y} {xs = ys} i) = all_at p (and_right (p y) (all p ys) h) i
 
   -- `all` of two lists joined
   pub all_append : (p : A → Bool) (xs ys : List A) → all p (xs ++ ys) ≡ all p xs && all p ys
@@ -141,9 +141,9 @@ module _ {ℓ} {A : Type ℓ} where
   all_append p (x ∷ xs) ys = ap (λ (b : Bool). p x && b) (all_append p xs ys) ∙ sym (and_assoc (p x) (all p xs) (all p ys))
 
   -- `any` of tests that share one side of `&&`
-  pub any-and : (p : A → Bool) (b : Bool) (xs : List A) → any (λ x. p x && b) xs ≡ any p xs && b
-  any-and p b [] = refl
-  any-and p b (x ∷ xs) = ap (λ (t : Bool). (p x && b) || t) (any-and p b xs) ∙ or-and (p x) (any p xs) b
+  pub any_and : (p : A → Bool) (b : Bool) (xs : List A) → any (λ x. p x && b) xs ≡ any p xs && b
+  any_and p b [] = refl
+  any_and p b (x ∷ xs) = ap (λ (t : Bool). (p x && b) || t) (any_and p b xs) ∙ or_and (p x) (any p xs) b
 
   -- `any` on a list with one more element at the end
   pub any_snoc : (p : A → Bool) (xs : List A) (x : A) → any p (xs ++ (x ∷ [])) ≡ any p xs || p x
@@ -154,27 +154,27 @@ module _ {ℓ} {A : Type ℓ} where
 pub one_of : (p : ℕ → Bool) (n : ℕ) (ns : List ℕ) → n ∈? ns ≡ true → all p ns ≡ true → p n ≡ true
 one_of p n ns h k =
     let f = any_found (eqb n) ns h in
-    ap p (eqb-true n f.one f.passes) ∙ all-at p k f.inside
+    ap p (eqb-true n f.one f.passes) ∙ all_at p k f.inside
 
 -- every number below n passes the test
-abbrev pub everyBelow : (ℕ → Bool) → ℕ → Bool
-everyBelow p zero = true
-everyBelow p (suc n) = p n && everyBelow p n
+abbrev pub every_below : (ℕ → Bool) → ℕ → Bool
+every_below p zero = true
+every_below p (suc n) = p n && every_below p n
 
 -- a test that is computed for every number below n holds for each
-pub each_below : (p : ℕ → Bool) (n : ℕ) → everyBelow p n ≡ true → (k : ℕ) → k < n → p k ≡ true
+pub each_below : (p : ℕ → Bool) (n : ℕ) → every_below p n ≡ true → (k : ℕ) → k < n → p k ≡ true
 each_below p zero h k l = absurd (omega arith)
-each_below p (suc n) h k l = go (eqb k n) refl (each_below p n (and_right (p n) (everyBelow p n) h) k)
+each_below p (suc n) h k l = go (eqb k n) refl (each_below p n (and_right (p n) (every_below p n) h) k)
   where
     go : (t : Bool) → eqb k n ≡ t → (k < n → p k ≡ true) → p k ≡ true
-    go true e f = ap p (eqb-true k n e) ∙ and_left (p n) (everyBelow p n) h
+    go true e f = ap p (eqb-true k n e) ∙ and_left (p n) (every_below p n) h
     go false e f = let d = eqb-false k n e in f (omega arith)
 
 -- the numbers of a list as bits of one word: bit k is set exactly when k is in the list, for every k below the number of bits
-pub of-bits : (w bits : ℕ) (ns : List ℕ) → all (λ k. ltb k bits) ns ≡ true
-    → everyBelow (λ k. agree (eqb (w / 2 ^ k % 2) 1) (k ∈? ns)) bits ≡ true
+pub of_bits : (w bits : ℕ) (ns : List ℕ) → all (λ k. ltb k bits) ns ≡ true
+    → every_below (λ k. agree (eqb (w / 2 ^ k % 2) 1) (k ∈? ns)) bits ≡ true
     → (n : ℕ) → ltb n bits && eqb (w / 2 ^ (n % bits) % 2) 1 ≡ n ∈? ns
-of-bits w bits ns few right n = go (ltb n bits) refl (n ∈? ns) refl
+of_bits w bits ns few right n = go (ltb n bits) refl (n ∈? ns) refl
   where
     go : (t : Bool) → ltb n bits ≡ t → (u : Bool) → n ∈? ns ≡ u → t && eqb (w / 2 ^ (n % bits) % 2) 1 ≡ u
     go true e u f =
@@ -186,19 +186,19 @@ of-bits w bits ns few right n = go (ltb n bits) refl (n ∈? ns) refl
     go false e false f = refl
 
 -- two lists that are the same number by number are equal
-pub same-equal : (xs ys : List ℕ) → same xs ys ≡ true → xs ≡ ys
-same-equal [] [] h = refl
-same-equal [] (y ∷ ys) h = absurd (false≢true h)
-same-equal (x ∷ xs) [] h = absurd (false≢true h)
-same-equal (x ∷ xs) (y ∷ ys) h =
-    ap₂ ◌∷◌ (eqb-true x y (and_left (eqb x y) (same xs ys) h)) (same-equal xs ys (and_right (eqb x y) (same xs ys) h))
+pub same_equal : (xs ys : List ℕ) → same xs ys ≡ true → xs ≡ ys
+same_equal [] [] h = refl
+same_equal [] (y ∷ ys) h = absurd (false≢true h)
+same_equal (x ∷ xs) [] h = absurd (false≢true h)
+same_equal (x ∷ xs) (y ∷ ys) h =
+    ap₂ ◌∷◌ (eqb-true x y (and_left (eqb x y) (same xs ys) h)) (same_equal xs ys (and_right (eqb x y) (same xs ys) h))
 
 -- a number that is none of the first n is not below n
-pub beyond-le : (n number : ℕ) → beyond number n → n ≤ number
-beyond-le zero number h = omega arith
-beyond-le (suc n) number h = omega (arith, beyond-le n number h.0, h.1)
+pub beyond_le : (n number : ℕ) → beyond number n → n ≤ number
+beyond_le zero number h = omega arith
+beyond_le (suc n) number h = omega (arith, beyond_le n number h.0, h.1)
 
 -- a number that is none of n from `first` on, and not below `first`, is past them
-pub beside-le : (first n number : ℕ) → beside number first n → first ≤ number → first + n ≤ number
-beside-le first zero number h k = omega arith
-beside-le first (suc n) number h k = omega (arith, beside-le first n number h.0 k, h.1)
+pub beside_le : (first n number : ℕ) → beside number first n → first ≤ number → first + n ≤ number
+beside_le first zero number h k = omega arith
+beside_le first (suc n) number h k = omega (arith, beside_le first n number h.0 k, h.1)

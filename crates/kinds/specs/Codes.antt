@@ -28,46 +28,46 @@ abbrev pub states : List ℕ
 states = I ∷ UC ∷ UCE ∷ UD ∷ UDP ∷ SC ∷ SD ∷ []
 
 -- the set of all seven states, which is the highest set (definition 2.2)
-abbrev pub allStates : ℕ
-allStates = 127
+abbrev pub all_states : ℕ
+all_states = 127
 
 -- whether a line in this state has to be written back by somebody
 abbrev pub dirty : ℕ → Bool
 dirty s = s ∈? (UD ∷ UDP ∷ SD ∷ [])
 
 -- the code for a state after that was not seen
-abbrev pub stateNotSeen : ℕ
-stateNotSeen = 7
+abbrev pub state_not_seen : ℕ
+state_not_seen = 7
 
 -- Tag states (definition 2.3, byte 4).
-abbrev pub tagInvalid : ℕ
-tagInvalid = 0
+abbrev pub tag_invalid : ℕ
+tag_invalid = 0
 
-abbrev pub tagClean : ℕ
-tagClean = 1
+abbrev pub tag_clean : ℕ
+tag_clean = 1
 
-abbrev pub tagDirty : ℕ
-tagDirty = 2
+abbrev pub tag_dirty : ℕ
+tag_dirty = 2
 
 abbrev pub tags : List ℕ
-tags = tagInvalid ∷ tagClean ∷ tagDirty ∷ []
+tags = tag_invalid ∷ tag_clean ∷ tag_dirty ∷ []
 
 -- the code for a tag state that was not seen
-abbrev pub tagNotSeen : ℕ
-tagNotSeen = 3
+abbrev pub tag_not_seen : ℕ
+tag_not_seen = 3
 
 -- TagOp (definition 2.3, byte 9).
-abbrev pub opInvalid : ℕ
-opInvalid = 0
+abbrev pub op_invalid : ℕ
+op_invalid = 0
 
-abbrev pub opTransfer : ℕ
-opTransfer = 1
+abbrev pub op_transfer : ℕ
+op_transfer = 1
 
-abbrev pub opUpdate : ℕ
-opUpdate = 2
+abbrev pub op_update : ℕ
+op_update = 2
 
-abbrev pub opMatch : ℕ
-opMatch = 3
+abbrev pub op_match : ℕ
+op_match = 3
 
 -- Error fields: RespErr of the answer to Home, and that of the forwarded data (definition 2.3, bytes 10 and 14).
 abbrev pub OK : ℕ
@@ -136,54 +136,54 @@ abbrev pub DAT : ℕ
 DAT = 1
 
 -- Opcodes: the first two are on RSP, the others on DAT (definition 2.5).
-abbrev pub op-SnpResp : ℕ
-op-SnpResp = 1
+abbrev pub op_SnpResp : ℕ
+op_SnpResp = 1
 
-abbrev pub op-SnpRespFwded : ℕ
-op-SnpRespFwded = 9
+abbrev pub op_SnpRespFwded : ℕ
+op_SnpRespFwded = 9
 
-abbrev pub op-SnpRespData : ℕ
-op-SnpRespData = 1
+abbrev pub op_SnpRespData : ℕ
+op_SnpRespData = 1
 
-abbrev pub op-SnpRespDataPtl : ℕ
-op-SnpRespDataPtl = 5
+abbrev pub op_SnpRespDataPtl : ℕ
+op_SnpRespDataPtl = 5
 
-abbrev pub op-SnpRespDataFwded : ℕ
-op-SnpRespDataFwded = 6
+abbrev pub op_SnpRespDataFwded : ℕ
+op_SnpRespDataFwded = 6
 
 -- Resp (definition 2.6).
-abbrev pub Resp-I : ℕ
-Resp-I = 0
+abbrev pub Resp_I : ℕ
+Resp_I = 0
 
-abbrev pub Resp-SC : ℕ
-Resp-SC = 1
+abbrev pub Resp_SC : ℕ
+Resp_SC = 1
 
-abbrev pub Resp-SD : ℕ
-Resp-SD = 3
+abbrev pub Resp_SD : ℕ
+Resp_SD = 3
 
-abbrev pub Resp-I-PD : ℕ
-Resp-I-PD = 4
+abbrev pub Resp_I_PD : ℕ
+Resp_I_PD = 4
 
-abbrev pub Resp-SC-PD : ℕ
-Resp-SC-PD = 5
+abbrev pub Resp_SC_PD : ℕ
+Resp_SC_PD = 5
 
 -- whether it carries PD (Pass Dirty)
-abbrev pub respPD : ℕ → Bool
-respPD r = r ∈? (Resp-I-PD ∷ Resp-SC-PD ∷ [])
+abbrev pub resp_pd : ℕ → Bool
+resp_pd r = r ∈? (Resp_I_PD ∷ Resp_SC_PD ∷ [])
 
 -- FwdState, and the Resp of CompData (definition 2.6).
-abbrev pub Fwd-SC : ℕ
-Fwd-SC = 1
+abbrev pub Fwd_SC : ℕ
+Fwd_SC = 1
 
-abbrev pub Fwd-UC : ℕ
-Fwd-UC = 2
+abbrev pub Fwd_UC : ℕ
+Fwd_UC = 2
 
-abbrev pub Fwd-UD-PD : ℕ
-Fwd-UD-PD = 6
+abbrev pub Fwd_UD_PD : ℕ
+Fwd_UD_PD = 6
 
-abbrev pub Fwd-SD-PD : ℕ
-Fwd-SD-PD = 7
+abbrev pub Fwd_SD_PD : ℕ
+Fwd_SD_PD = 7
 
 -- whether it carries PD (Pass Dirty)
-abbrev pub fwdPD : ℕ → Bool
-fwdPD f = f ∈? (Fwd-UD-PD ∷ Fwd-SD-PD ∷ [])
+abbrev pub fwd_pd : ℕ → Bool
+fwd_pd f = f ∈? (Fwd_UD_PD ∷ Fwd_SD_PD ∷ [])

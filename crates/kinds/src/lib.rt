@@ -1,9 +1,9 @@
 // The types that the judge speaks of: states, codes, answers and numbers, each with its codes (definition 2).
 ghost use Rattle.std.specs.Prelude.{◌≡◌, cond, ltb, length, set};
-ghost use Rattle.kinds.specs.Codes.{dirty, requests, respPD, fwdPD};
+ghost use Rattle.kinds.specs.Codes.{dirty, requests, resp_pd, fwd_pd};
 ghost use Rattle.kinds.specs.Tests.{◌∈?◌};
-ghost use Rattle.kinds.specs.Answers.{forwardAt, forwardWire, present, forwardError, wire, hasData, forwardOf, answerResp, answerFwd};
-ghost use Rattle.kinds.specs.Places.{setIn, pairIn, eventIn};
+ghost use Rattle.kinds.specs.Answers.{forward_at, forward_wire, present, forward_error, wire, has_data, forward_of, answer_resp, answer_fwd};
+ghost use Rattle.kinds.specs.Places.{set_in, pair_in, event_in};
 
 pub mod place;
 
@@ -197,7 +197,7 @@ impl Resp {
 
     // Whether it carries PD (Pass Dirty).
     pub fn passes_dirty(self) -> bool
-        ensures { result ≡ respPD self.0 }
+        ensures { result ≡ resp_pd self.0 }
     {
         let r = self.0;
         (r == Resp::I_PD.0) | (r == Resp::SC_PD.0)
@@ -221,7 +221,7 @@ impl FwdState {
 
     // Whether it carries PD (Pass Dirty).
     pub fn passes_dirty(self) -> bool
-        ensures { result ≡ fwdPD self.0 }
+        ensures { result ≡ fwd_pd self.0 }
     {
         let f = self.0;
         (f == FwdState::UD_PD.0) | (f == FwdState::SD_PD.0)
@@ -238,7 +238,7 @@ pub enum Forward {
 impl Forward {
     // The forward that a FwdState and the data's error field stand for.
     pub fn from_state(state: FwdState, error: RespErr) -> Forward
-        ensures { result ≡ forwardAt state.0 error.0 }
+        ensures { result ≡ forward_at state.0 error.0 }
     {
         let n = state.0;
         if n == FwdState::NONE.0 {
@@ -250,7 +250,7 @@ impl Forward {
 
     // Bytes 11 and 12 of the event: whether data is forwarded, and its Resp.
     pub fn wire(self) -> [u8; 2]
-        ensures { result ≡ forwardWire self }
+        ensures { result ≡ forward_wire self }
     {
         match self {
             Forward::NoForward => [0, 0],
@@ -270,7 +270,7 @@ impl Forward {
 
     // Byte 14 of the event: the error field of the forwarded data; OK without a forward.
     pub fn error(self) -> RespErr
-        ensures { result.0 ≡ forwardError self }
+        ensures { result.0 ≡ forward_error self }
     {
         match self {
             Forward::NoForward => RespErr::OK,
@@ -306,7 +306,7 @@ impl Answer {
 
     // Whether it brings data to Home.
     pub fn has_data(self) -> bool
-        ensures { result ≡ hasData self }
+        ensures { result ≡ has_data self }
     {
         match self {
             Answer::SnpResp(_, _) => false,
@@ -317,7 +317,7 @@ impl Answer {
 
     // What it forwards.
     pub fn forward(self) -> Forward
-        ensures { result ≡ forwardOf self }
+        ensures { result ≡ forward_of self }
     {
         match self {
             Answer::SnpResp(_, sent) => sent,
@@ -328,7 +328,7 @@ impl Answer {
 
     // Its Resp.
     pub fn resp(self) -> Resp
-        ensures { result.0 ≡ answerResp self }
+        ensures { result.0 ≡ answer_resp self }
     {
         match self {
             Answer::SnpResp(r, _) => r,
@@ -339,7 +339,7 @@ impl Answer {
 
     // Its FwdState; 0 without a forward.
     pub fn fwd_state(self) -> FwdState
-        ensures { result.0 ≡ answerFwd self }
+        ensures { result.0 ≡ answer_fwd self }
     {
         match self {
             Answer::SnpResp(_, forward) => match forward {
@@ -443,7 +443,7 @@ pub struct PairNumber(pub u16);
 impl PairNumber {
     // The pair's set in the table of sets; the empty set if the table does not have the pair.
     pub fn set_in(self, table: &[u8]) -> u8
-        ensures { result ≡ setIn table.now self.0 }
+        ensures { result ≡ set_in table.now self.0 }
     {
         let pair = self.0;
         let at = pair as usize;
@@ -477,7 +477,7 @@ pub struct EventNumber(pub u32);
 impl EventNumber {
     // The bytes of the event, as a part of the buffer: those from offset 15 times its number (definition 3.3).
     pub fn event_in(self, events: &[u8]) -> &[u8]
-        ensures { result.now ≡ eventIn events.now self.0 }
+        ensures { result.now ≡ event_in events.now self.0 }
     {
         let number = self.0;
         let start = (number as usize) * EVENT_BYTES;
@@ -493,7 +493,7 @@ impl EventNumber {
 
     // The pair of the event; pair 0 past the end.
     pub fn pair_in(self, pairs: &[u16]) -> PairNumber
-        ensures { result.0 ≡ pairIn pairs.now self.0 }
+        ensures { result.0 ≡ pair_in pairs.now self.0 }
     {
         let number = self.0;
         let at = number as usize;

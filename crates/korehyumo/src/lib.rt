@@ -1,14 +1,14 @@
 // The judge for other languages: one event alone, a whole trace and the list of permitted answers, as functions for a C program to link
 // (definition 10). include/korehyumo.h says in words what these claims say.
 ghost use Rattle.std.specs.Prelude.{◌<◌, ◌≤◌, ◌^◌, ◌≡◌};
-ghost use Rattle.event.specs.Refusals.{issueE};
-ghost use Rattle.event.specs.Alone.{judgedAlone};
+ghost use Rattle.event.specs.Refusals.{issue_e};
+ghost use Rattle.event.specs.Alone.{judged_alone};
 ghost use Rattle.trace.specs.Lent.{lent};
 ghost use Rattle.trace.specs.Judged.{judged};
 ghost use Rattle.answers.specs.Answers.{question};
-ghost use Rattle.answers.specs.Listed.{mostAnswers, listed};
-ghost use Rattle.korehyumo.specs.Calls.{placesEnd, inOne, withMore};
-ghost use Rattle.korehyumo.specs.Calls.{eventCall, eventTold, traceCall, traceTold, answersCall, answersTold};
+ghost use Rattle.answers.specs.Listed.{most_answers, listed};
+ghost use Rattle.korehyumo.specs.Calls.{places_end, in_one, with_more};
+ghost use Rattle.korehyumo.specs.Calls.{event_call, event_told, trace_call, trace_told, answers_call, answers_told};
 
 use answers::Question;
 use kinds::{LineState, Request, TagState};
@@ -18,8 +18,8 @@ const UPPER: u64 = 1 << 32;
 
 // A refusal number and its place packed into one number.
 fn in_one(number: u8, place: usize) -> u64
-    requires { place < placesEnd }
-    ensures { result ≡ inOne number place }
+    requires { place < places_end }
+    ensures { result ≡ in_one number place }
 {
     (place as u64) * 256 + (number as u64)
 }
@@ -27,8 +27,8 @@ fn in_one(number: u8, place: usize) -> u64
 // A packed number with what more a call answers in its upper half.
 fn with_more(packed: u64, more: usize) -> u64
     requires packed_bound { packed < 2 ^ 32 }
-    requires more_le_most_answers { more ≤ mostAnswers }
-    ensures { result ≡ withMore packed more }
+    requires more_le_most_answers { more ≤ most_answers }
+    ensures { result ≡ with_more packed more }
 {
     (more as u64) * UPPER + packed
 }
@@ -37,7 +37,7 @@ fn with_more(packed: u64, more: usize) -> u64
 // A refused event leaves seven empty sets and seven duties 0.
 #[unsafe(no_mangle)]
 pub extern "C" fn korehyumo_event(event: &[u8], sets: &mut [u8; 7], duties: &mut [u8; 7]) -> u64
-    ensures { eventCall result sets.new duties.new ≡ eventTold (judgedAlone issueE event.now) }
+    ensures { event_call result sets.new duties.new ≡ event_told (judged_alone issue_e event.now) }
 {
     let judgment = event::judge_event(event);
     let sets_after = judgment.sets;
@@ -57,8 +57,8 @@ pub extern "C" fn korehyumo_trace(
     duties: &mut [u8],
     afters: &mut [u8],
 ) -> u64
-    ensures { traceCall result table.new verdicts.new duties.new afters.new
-        ≡ traceTold (judged issueE (lent
+    ensures { trace_call result table.new verdicts.new duties.new afters.new
+        ≡ trace_told (judged issue_e (lent
         events.now pairs.now table.old
         verdicts.old duties.old afters.old)) }
 {
@@ -78,8 +78,8 @@ pub extern "C" fn korehyumo_answers(
     before: u8,
     room: &mut [u8],
 ) -> u64
-    ensures { answersCall result room.new
-        ≡ answersTold (listed issueE (question request ret_to_src do_not_go_to_sd excl tag before) room.old) }
+    ensures { answers_call result room.new
+        ≡ answers_told (listed issue_e (question request ret_to_src do_not_go_to_sd excl tag before) room.old) }
 {
     let question = Question {
         request: Request(request),

@@ -8,32 +8,32 @@ use native.Mathlib.Nat.{zero-min, min-zero, suc-min-suc}
 use native.Mathlib.Omega.{arith}
 use lib.ListN.{length, take, drop}
 use lib.Seq.{drop-nil}
-use Rattle.text.specs.Text.{onFirst}
+use Rattle.text.specs.Text.{on_first}
 use Rattle.lines.specs.Lines.{crlf, lines_of}
 use Rattle.lines.specs.Seen.{reach}
 
 -- if the search stops at a CR LF, the bytes before it are the first line, and the other lines follow after it
-pub whole-line : (n : ℕ) (s more : List ℕ) → crlf (drop (reach n s) s) ≡ true
+pub whole_line : (n : ℕ) (s more : List ℕ) → crlf (drop (reach n s) s) ≡ true
     → lines_of (s ++ more) ≡ take (reach n s) s ∷ lines_of (drop (reach n s + 2) s ++ more)
-whole-line zero [] more h = absurd (false≢true h)
-whole-line zero (x ∷ []) more h = absurd (false≢true h)
-whole-line zero (x ∷ y ∷ s) more h = ap (λ b. cond b ([] ∷ lines_of (s ++ more)) (onFirst x (lines_of (y ∷ s ++ more)))) h
-whole-line (suc n) [] more h = absurd (false≢true h)
-whole-line (suc n) (x ∷ []) more h = absurd (false≢true (sym (ap crlf (drop-nil (reach n []))) ∙ h))
-whole-line (suc n) (x ∷ y ∷ s) more h = go (crlf (x ∷ y ∷ s)) refl h (whole-line n (y ∷ s) more)
+whole_line zero [] more h = absurd (false≢true h)
+whole_line zero (x ∷ []) more h = absurd (false≢true h)
+whole_line zero (x ∷ y ∷ s) more h = ap (λ b. cond b ([] ∷ lines_of (s ++ more)) (on_first x (lines_of (y ∷ s ++ more)))) h
+whole_line (suc n) [] more h = absurd (false≢true h)
+whole_line (suc n) (x ∷ []) more h = absurd (false≢true (sym (ap crlf (drop-nil (reach n []))) ∙ h))
+whole_line (suc n) (x ∷ y ∷ s) more h = go (crlf (x ∷ y ∷ s)) refl h (whole_line n (y ∷ s) more)
   where
     r : ℕ
     r = reach n (y ∷ s)
 
     go : (b : Bool) → crlf (x ∷ y ∷ s) ≡ b → crlf (drop (cond b 0 (suc r)) (x ∷ y ∷ s)) ≡ true
         → (crlf (drop r (y ∷ s)) ≡ true → lines_of (y ∷ s ++ more) ≡ take r (y ∷ s) ∷ lines_of (drop (r + 2) (y ∷ s) ++ more))
-        → cond b ([] ∷ lines_of (s ++ more)) (onFirst x (lines_of (y ∷ s ++ more)))
+        → cond b ([] ∷ lines_of (s ++ more)) (on_first x (lines_of (y ∷ s ++ more)))
         ≡ take (cond b 0 (suc r)) (x ∷ y ∷ s) ∷ lines_of (drop (cond b 0 (suc r) + 2) (x ∷ y ∷ s) ++ more)
     go true e k f = refl
-    go false e k f = ap (onFirst x) (f k) ∙ ap (λ m. (x ∷ take r (y ∷ s)) ∷ lines_of (drop m (x ∷ y ∷ s) ++ more)) (two-more r)
+    go false e k f = ap (on_first x) (f k) ∙ ap (λ m. (x ∷ take r (y ∷ s)) ∷ lines_of (drop m (x ∷ y ∷ s) ++ more)) (two_more r)
       where
-        two-more : (m : ℕ) → suc (m + 2) ≡ suc m + 2
-        two-more m = omega arith
+        two_more : (m : ℕ) → suc (m + 2) ≡ suc m + 2
+        two_more m = omega arith
 
 -- the first line has at least n bytes
 pub record Long (n : ℕ) (ls : List (List ℕ)) : Type 0 where
@@ -42,30 +42,30 @@ pub record Long (n : ℕ) (ls : List (List ℕ)) : Type 0 where
   pub are : ls ≡ line ∷ others
   pub long : n ≤ length line
 
-longer : (n x : ℕ) (ls : List (List ℕ)) → Long n ls → Long (suc n) (onFirst x ls)
-longer n x ls l = record { line = x ∷ l.line; others = l.others; are = ap (onFirst x) l.are; long = omega (arith, l.long) }
+longer : (n x : ℕ) (ls : List (List ℕ)) → Long n ls → Long (suc n) (on_first x ls)
+longer n x ls l = record { line = x ∷ l.line; others = l.others; are = ap (on_first x) l.are; long = omega (arith, l.long) }
 
-some-line : (x : ℕ) (s : List ℕ) → Long 0 (lines_of (x ∷ s))
-some-line x [] = record { line = x ∷ []; others = []; are = refl; long = omega arith }
-some-line x (y ∷ s) = go (crlf (x ∷ y ∷ s))
+some_line : (x : ℕ) (s : List ℕ) → Long 0 (lines_of (x ∷ s))
+some_line x [] = record { line = x ∷ []; others = []; are = refl; long = omega arith }
+some_line x (y ∷ s) = go (crlf (x ∷ y ∷ s))
   where
-    first : (ls : List (List ℕ)) → Long 0 (onFirst x ls)
+    first : (ls : List (List ℕ)) → Long 0 (on_first x ls)
     first [] = record { line = x ∷ []; others = []; are = refl; long = omega arith }
     first (l ∷ ls) = record { line = x ∷ l; others = ls; are = refl; long = omega arith }
 
-    go : (b : Bool) → Long 0 (cond b ([] ∷ lines_of s) (onFirst x (lines_of (y ∷ s))))
+    go : (b : Bool) → Long 0 (cond b ([] ∷ lines_of s) (on_first x (lines_of (y ∷ s))))
     go true = record { line = []; others = lines_of s; are = refl; long = omega arith }
     go false = first (lines_of (y ∷ s))
 
 -- if the search stops after n bytes and more follow, the first line has at least n bytes
-pub long-line : (n : ℕ) (s more : List ℕ) → reach n s ≡ n → n < length s → Long n (lines_of (s ++ more))
-long-line n [] more e h = absurd (omega arith)
-long-line zero (x ∷ s) more e h = some-line x (s ++ more)
-long-line (suc n) (x ∷ []) more e h = absurd (omega arith)
-long-line (suc n) (x ∷ y ∷ s) more e h = go (crlf (x ∷ y ∷ s)) e (λ k. long-line n (y ∷ s) more k (omega (arith, h)))
+pub long_line : (n : ℕ) (s more : List ℕ) → reach n s ≡ n → n < length s → Long n (lines_of (s ++ more))
+long_line n [] more e h = absurd (omega arith)
+long_line zero (x ∷ s) more e h = some_line x (s ++ more)
+long_line (suc n) (x ∷ []) more e h = absurd (omega arith)
+long_line (suc n) (x ∷ y ∷ s) more e h = go (crlf (x ∷ y ∷ s)) e (λ k. long_line n (y ∷ s) more k (omega (arith, h)))
   where
     go : (b : Bool) → cond b 0 (suc (reach n (y ∷ s))) ≡ suc n → (reach n (y ∷ s) ≡ n → Long n (lines_of (y ∷ s ++ more)))
-        → Long (suc n) (cond b ([] ∷ lines_of (s ++ more)) (onFirst x (lines_of (y ∷ s ++ more))))
+        → Long (suc n) (cond b ([] ∷ lines_of (s ++ more)) (on_first x (lines_of (y ∷ s ++ more))))
     go true k f = absurd (omega (arith, k))
     go false k f = longer n x (lines_of (y ∷ s ++ more)) (f (omega (arith, k)))
 
@@ -77,15 +77,15 @@ last_line zero (x ∷ y ∷ s) h e = absurd (omega (arith, e))
 last_line (suc n) (x ∷ y ∷ s) h e = go (crlf (x ∷ y ∷ s)) e (λ k. last_line n (y ∷ s) (omega arith) k)
   where
     go : (b : Bool) → cond b 0 (suc (reach n (y ∷ s))) ≡ suc (suc (length s)) → (reach n (y ∷ s) ≡ suc (length s) → lines_of (y ∷ s) ≡ (y ∷ s) ∷ [])
-        → cond b ([] ∷ lines_of s) (onFirst x (lines_of (y ∷ s))) ≡ (x ∷ y ∷ s) ∷ []
+        → cond b ([] ∷ lines_of s) (on_first x (lines_of (y ∷ s))) ≡ (x ∷ y ∷ s) ∷ []
     go true k f = absurd (omega (arith, k))
-    go false k f = ap (onFirst x) (f (omega (arith, k)))
+    go false k f = ap (on_first x) (f (omega (arith, k)))
 
 -- if the search does not stop at a CR LF, it stops after n bytes or at the end
-pub reach-all : (n : ℕ) (s : List ℕ) → crlf (drop (reach n s) s) ≡ false → reach n s ≡ min n (length s)
-reach-all zero s h = sym (zero-min (length s))
-reach-all (suc n) [] h = sym (min-zero (suc n))
-reach-all (suc n) (x ∷ s) h = go (crlf (x ∷ s)) refl h (reach-all n s)
+pub reach_all : (n : ℕ) (s : List ℕ) → crlf (drop (reach n s) s) ≡ false → reach n s ≡ min n (length s)
+reach_all zero s h = sym (zero-min (length s))
+reach_all (suc n) [] h = sym (min-zero (suc n))
+reach_all (suc n) (x ∷ s) h = go (crlf (x ∷ s)) refl h (reach_all n s)
   where
     go : (b : Bool) → crlf (x ∷ s) ≡ b → crlf (drop (cond b 0 (suc (reach n s))) (x ∷ s)) ≡ false
         → (crlf (drop (reach n s) s) ≡ false → reach n s ≡ min n (length s)) → cond b 0 (suc (reach n s)) ≡ min (suc n) (suc (length s))
@@ -93,10 +93,10 @@ reach-all (suc n) (x ∷ s) h = go (crlf (x ∷ s)) refl h (reach-all n s)
     go false e k f = ap suc (f k) ∙ sym (suc-min-suc n (length s))
 
 -- the search does not go past the end
-pub reach-within : (n : ℕ) (s : List ℕ) → reach n s ≤ length s
-reach-within zero s = omega arith
-reach-within (suc n) [] = omega arith
-reach-within (suc n) (x ∷ s) = go (crlf (x ∷ s)) (reach-within n s)
+pub reach_within : (n : ℕ) (s : List ℕ) → reach n s ≤ length s
+reach_within zero s = omega arith
+reach_within (suc n) [] = omega arith
+reach_within (suc n) (x ∷ s) = go (crlf (x ∷ s)) (reach_within n s)
   where
     go : (b : Bool) → reach n s ≤ length s → cond b 0 (suc (reach n s)) ≤ suc (length s)
     go true h = omega arith

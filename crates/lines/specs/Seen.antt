@@ -7,8 +7,8 @@ abbrev pub longest : ℕ
 longest = 160
 
 -- a line with this many bytes is too long, whatever follows
-abbrev pub tooLong : ℕ
-tooLong = longest + 1
+abbrev pub too_long : ℕ
+too_long = longest + 1
 
 -- the number of bytes before the first CR LF; n if there are more, and all if there is no CR LF
 abbrev pub reach : ℕ → List ℕ → ℕ
@@ -16,6 +16,6 @@ reach zero s = 0
 reach (suc n) [] = 0
 reach (suc n) (x ∷ s) = cond (crlf (x ∷ s)) 0 (suc (reach n s))
 
--- the offset at which the line that starts at `start` ends, searched up to tooLong bytes
-unfoldable pub lineEnd : List ℕ → ℕ → ℕ
-lineEnd s start = start + reach tooLong (drop start s)
+-- the offset at which the line that starts at `start` ends, searched up to too_long bytes
+unfoldable pub line_end : List ℕ → ℕ → ℕ
+line_end s start = start + reach too_long (drop start s)

@@ -1,8 +1,8 @@
 // Finds where the lines of a text end (definition 8.1).
 ghost use Rattle.std.specs.Prelude.{◌≡◌, ◌+◌, ◌-◌, ◌≤◌, min, length, drop};
 ghost use Rattle.lines.specs.Lines.{crlf};
-ghost use Rattle.lines.specs.Seen.{lineEnd, tooLong};
-ghost use Rattle.lines.specs.Code.{beforeCR};
+ghost use Rattle.lines.specs.Seen.{line_end, too_long};
+ghost use Rattle.lines.specs.Code.{before_cr};
 
 // The most bytes that a line may have before its CR LF (definition 8.7).
 pub const LONGEST: usize = 160;
@@ -18,7 +18,7 @@ const LF: u8 = 10;
 // The offset up to which a line has to be searched for its CR LF.
 fn last_seen(text: &[u8], start: usize) -> usize
     requires { start ≤ length text.now }
-    ensures { result ≡ start + min (length (drop start text.now)) tooLong }
+    ensures { result ≡ start + min (length (drop start text.now)) too_long }
 {
     let left = text.len() - start;
     if left < TOO_LONG {
@@ -45,7 +45,7 @@ pub fn ends_line(text: &[u8], at: usize) -> bool
 fn next_cr(text: &[u8], start: usize, last: usize) -> usize
     requires start_le_last { start ≤ last }
     requires last_in_bounds { last ≤ length text.now }
-    ensures { result ≡ start + beforeCR (last - start) (drop start text.now) }
+    ensures { result ≡ start + before_cr (last - start) (drop start text.now) }
 {
     let mut at = start;
     while at < last {
@@ -59,7 +59,7 @@ fn next_cr(text: &[u8], start: usize, last: usize) -> usize
 
 // The offset at which a line ends: at its CR LF, where it is certainly too long, or at the end of the text.
 pub fn line_end(text: &[u8], start: usize) -> usize
-    ensures { result ≡ lineEnd text.now start }
+    ensures { result ≡ line_end text.now start }
 {
     if text.len() <= start {
         return start;

@@ -1,7 +1,7 @@
 // What an event can do to a line, looked up by request and state (definition 6): by its answer too, and for all states before at once.
 ghost use Rattle.std.specs.Prelude.{◌<◌, ◌≡◌};
-ghost use Rattle.lookup.specs.Code.{kind_of, context_of, entry_of, choice_of, lookedUp, packed, effect_of};
-ghost use Rattle.lookup.specs.Code.{from, to, told, spread, seenAfter, lookedSets};
+ghost use Rattle.lookup.specs.Code.{kind_of, context_of, entry_of, choice_of, looked_up, packed, effect_of};
+ghost use Rattle.lookup.specs.Code.{from, to, told, spread, seen_after, looked_sets};
 
 use kinds::{LineState, place};
 
@@ -73,7 +73,7 @@ fn choice_of(kind: u64, flags: u64) -> u64
 
 // The effect, by request, flags of the snoop and packed answer.
 fn look_up(request: u8, flags: u64, answer: u64) -> u64
-    ensures { result ≡ lookedUp request flags answer }
+    ensures { result ≡ looked_up request flags answer }
 {
     let kind = kind_of(answer) % 32;
     let entry = entry_of(request, kind);
@@ -119,7 +119,7 @@ fn spread(effect: Effect, seen: u8) -> [u8; 7]
 
 // The states after that the event may have, as a set.
 pub fn seen_after(event: &[u8]) -> u8
-    ensures { result ≡ seenAfter event.now }
+    ensures { result ≡ seen_after event.now }
 {
     let shown = rows::byte_at(event, place::STATE_AFTER) % 8;
     steps::seen_states(LineState(shown))
@@ -127,7 +127,7 @@ pub fn seen_after(event: &[u8]) -> u8
 
 // For each of the seven states before, the set of states after (definition 6.2).
 pub fn sets_after(event: &[u8]) -> [u8; 7]
-    ensures { result ≡ lookedSets event.now }
+    ensures { result ≡ looked_sets event.now }
 {
     let request = rows::byte_at(event, place::REQUEST);
     let flags = words::half_at(event, place::RET_TO_SRC);

@@ -13,17 +13,17 @@ use lib.Dec.{eqb, ltb, leb}
 use lib.ListN.{length}
 use Rattle.text.specs.Text.{bytes}
 use Rattle.kinds.specs.Tests.{same, all}
-use Rattle.kinds.proofs.Lists.{In, here, there, and_left, and_right, and_both, all-at, same-equal}
-use Rattle.names.specs.Names.{Named, unknown, code_of, requestNames, flagNames, tagNames, responses, responseNames, tagOpNames, respErrNames}
-use Rattle.names.specs.Names.{forwardNames, finalNames, fwdErrNames, mostDigits, isDigit, leadingZero, isPair, readDecimal, pair_of, columns}
+use Rattle.kinds.proofs.Lists.{In, here, there, and_left, and_right, and_both, all_at, same_equal}
+use Rattle.names.specs.Names.{Named, unknown, code_of, request_names, flag_names, tag_names, responses, response_names, tag_op_names, resp_err_names}
+use Rattle.names.specs.Names.{forward_names, final_names, fwd_err_names, most_digits, is_digit, leading_zero, is_pair, read_decimal, pair_of, columns}
 
--- `same` is the equality of lists; the other direction is `same-equal` of kinds
+-- `same` is the equality of lists; the other direction is `same_equal` of kinds
 pub same_self : (f : List ℕ) → same f f ≡ true
 same_self [] = refl
 same_self (x ∷ xs) = and_both (eq-eqb x x refl) (same_self xs)
 
-pub equal-same : (f n : List ℕ) → f ≡ n → same f n ≡ true
-equal-same f n h = ap (same f) (sym h) ∙ same_self f
+pub equal_same : (f n : List ℕ) → f ≡ n → same f n ≡ true
+equal_same f n h = ap (same f) (sym h) ∙ same_self f
 
 -- the two results of searching a field among names
 pub data Sought (ns : List Named) (f : List ℕ) : Type 0 where
@@ -31,12 +31,12 @@ pub data Sought (ns : List Named) (f : List ℕ) : Type 0 where
   found : (n : Named) → In n ns → f ≡ n.name → code_of ns f ≡ n.code → Sought ns f
 
 no_name : {f : List ℕ} (n : Named) → In n [] → f ≡ n.name → ⊥
-no_name n i h = absurd (false≢true (all-at (λ (m : Named). false) refl i))
+no_name n i h = absurd (false≢true (all_at (λ (m : Named). false) refl i))
 
-not-this : (m : Named) (ms : List Named) (f : List ℕ) → same f m.name ≡ false → ((n : Named) → In n ms → f ≡ n.name → ⊥)
+not_this : (m : Named) (ms : List Named) (f : List ℕ) → same f m.name ≡ false → ((n : Named) → In n ms → f ≡ n.name → ⊥)
     → (n : Named) → In n (m ∷ ms) → f ≡ n.name → ⊥
-not-this m ms f h k n here e = true≢false (sym (equal-same f m.name e) ∙ h)
-not-this m ms f h k n (there i) e = k n i e
+not_this m ms f h k n here e = true≢false (sym (equal_same f m.name e) ∙ h)
+not_this m ms f h k n (there i) e = k n i e
 
 pub seek : (ns : List Named) (f : List ℕ) → Sought ns f
 unfolding code_of
@@ -44,8 +44,8 @@ seek [] f = none refl no_name
 seek (m ∷ ms) f = go (same f m.name) refl (seek ms f)
   where
     go : (b : Bool) → same f m.name ≡ b → Sought ms f → Sought (m ∷ ms) f
-    go true h s = found m here (same-equal f m.name h) (ap (λ (b : Bool). cond b m.code (code_of ms f)) h)
-    go false h (none p q) = none (ap (λ (b : Bool). cond b m.code (code_of ms f)) h ∙ p) (not-this m ms f h q)
+    go true h s = found m here (same_equal f m.name h) (ap (λ (b : Bool). cond b m.code (code_of ms f)) h)
+    go false h (none p q) = none (ap (λ (b : Bool). cond b m.code (code_of ms f)) h ∙ p) (not_this m ms f h q)
     go false h (found n i p q) = found n (there i) p (ap (λ (b : Bool). cond b m.code (code_of ms f)) h ∙ q)
 
 -- two tests agree
@@ -58,8 +58,8 @@ tidy ns = all (λ (m : Named). not (eqb m.code unknown) && all (λ (n : Named). 
 
 -- the names and the codes of a column are one to one
 pub record OneToOne (ns : List Named) : Type 0 where
-  pub known-exactly : (n : Named) → In n ns → (f : List ℕ) → (code_of ns f ≡ n.code) ↔ (f ≡ n.name)
-  pub unknown-exactly : (f : List ℕ) → (code_of ns f ≡ unknown) ↔ ((n : Named) → In n ns → f ≡ n.name → ⊥)
+  pub known_exactly : (n : Named) → In n ns → (f : List ℕ) → (code_of ns f ≡ n.code) ↔ (f ≡ n.name)
+  pub unknown_exactly : (f : List ℕ) → (code_of ns f ≡ unknown) ↔ ((n : Named) → In n ns → f ≡ n.name → ⊥)
 
 agree_right : (a b : Bool) → agree a b ≡ true → a ≡ true → b ≡ true
 unfolding agree
@@ -72,218 +72,218 @@ agree_left true b h k = refl
 agree_left false b h k = absurd (true≢false (sym k ∙ not-true b h))
 
 module _ (ns : List Named) (t : tidy ns ≡ true) where
-  known-code : (n : Named) → In n ns → n.code ≡ unknown → ⊥
+  known_code : (n : Named) → In n ns → n.code ≡ unknown → ⊥
   unfolding tidy
-  known-code n i =
+  known_code n i =
       eqb-false n.code unknown
       (not-true (eqb n.code unknown)
       (and_left (not (eqb n.code unknown)) (all (λ (m : Named). agree (same n.name m.name) (eqb n.code m.code)) ns)
-      (all-at (λ (m : Named). not (eqb m.code unknown) && all (λ (k : Named). agree (same m.name k.name) (eqb m.code k.code)) ns) t i)))
+      (all_at (λ (m : Named). not (eqb m.code unknown) && all (λ (k : Named). agree (same m.name k.name) (eqb m.code k.code)) ns) t i)))
 
   agreed : (m n : Named) → In m ns → In n ns → agree (same m.name n.name) (eqb m.code n.code) ≡ true
   unfolding tidy
   agreed m n i j =
-      all-at (λ (k : Named). agree (same m.name k.name) (eqb m.code k.code))
+      all_at (λ (k : Named). agree (same m.name k.name) (eqb m.code k.code))
       (and_right (not (eqb m.code unknown)) (all (λ (k : Named). agree (same m.name k.name) (eqb m.code k.code)) ns)
-      (all-at (λ (q : Named). not (eqb q.code unknown) && all (λ (k : Named). agree (same q.name k.name) (eqb q.code k.code)) ns) t i))
+      (all_at (λ (q : Named). not (eqb q.code unknown) && all (λ (k : Named). agree (same q.name k.name) (eqb q.code k.code)) ns) t i))
       j
 
   one_name : (m n : Named) → In m ns → In n ns → m.code ≡ n.code → m.name ≡ n.name
   one_name m n i j h =
-      same-equal m.name n.name
+      same_equal m.name n.name
       (agree_left (same m.name n.name) (eqb m.code n.code) (agreed m n i j) (eq-eqb m.code n.code h))
 
   one_code : (m n : Named) → In m ns → In n ns → m.name ≡ n.name → m.code ≡ n.code
   one_code m n i j h =
       eqb-true m.code n.code
-      (agree_right (same m.name n.name) (eqb m.code n.code) (agreed m n i j) (equal-same m.name n.name h))
+      (agree_right (same m.name n.name) (eqb m.code n.code) (agreed m n i j) (equal_same m.name n.name h))
 
-  from-code : (n : Named) → In n ns → (f : List ℕ) → Sought ns f → code_of ns f ≡ n.code → f ≡ n.name
-  from-code n i f (none p q) h = absurd (known-code n i (sym h ∙ p))
-  from-code n i f (found m j p q) h = p ∙ one_name m n j i (sym q ∙ h)
+  from_code : (n : Named) → In n ns → (f : List ℕ) → Sought ns f → code_of ns f ≡ n.code → f ≡ n.name
+  from_code n i f (none p q) h = absurd (known_code n i (sym h ∙ p))
+  from_code n i f (found m j p q) h = p ∙ one_name m n j i (sym q ∙ h)
 
-  from-name : (n : Named) → In n ns → (f : List ℕ) → Sought ns f → f ≡ n.name → code_of ns f ≡ n.code
-  from-name n i f (none p q) h = absurd (q n i h)
-  from-name n i f (found m j p q) h = q ∙ one_code m n j i (sym p ∙ h)
+  from_name : (n : Named) → In n ns → (f : List ℕ) → Sought ns f → f ≡ n.name → code_of ns f ≡ n.code
+  from_name n i f (none p q) h = absurd (q n i h)
+  from_name n i f (found m j p q) h = q ∙ one_code m n j i (sym p ∙ h)
 
-  from-unknown : (f : List ℕ) → Sought ns f → code_of ns f ≡ unknown → (n : Named) → In n ns → f ≡ n.name → ⊥
-  from-unknown f (none p q) h n i e = q n i e
-  from-unknown f (found m j p q) h n i e = known-code m j (sym q ∙ h)
+  from_unknown : (f : List ℕ) → Sought ns f → code_of ns f ≡ unknown → (n : Named) → In n ns → f ≡ n.name → ⊥
+  from_unknown f (none p q) h n i e = q n i e
+  from_unknown f (found m j p q) h n i e = known_code m j (sym q ∙ h)
 
-  from-none : (f : List ℕ) → Sought ns f → ((n : Named) → In n ns → f ≡ n.name → ⊥) → code_of ns f ≡ unknown
-  from-none f (none p q) h = p
-  from-none f (found m j p q) h = absurd (h m j p)
+  from_none : (f : List ℕ) → Sought ns f → ((n : Named) → In n ns → f ≡ n.name → ⊥) → code_of ns f ≡ unknown
+  from_none f (none p q) h = p
+  from_none f (found m j p q) h = absurd (h m j p)
 
-  one-to-one : OneToOne ns
-  one-to-one =
+  one_to_one : OneToOne ns
+  one_to_one =
       record {
-        known-exactly = λ n i f. (from-code n i f (seek ns f), from-name n i f (seek ns f));
-        unknown-exactly = λ f. (from-unknown f (seek ns f), from-none f (seek ns f));
+        known_exactly = λ n i f. (from_code n i f (seek ns f), from_name n i f (seek ns f));
+        unknown_exactly = λ f. (from_unknown f (seek ns f), from_none f (seek ns f));
       }
 
 -- each column of names is one to one
-pub requests-both-ways : OneToOne requestNames
-unfolding tidy agree requestNames
-requests-both-ways = one-to-one requestNames refl
+pub requests_both_ways : OneToOne request_names
+unfolding tidy agree request_names
+requests_both_ways = one_to_one request_names refl
 
-pub flags-both-ways : OneToOne flagNames
-unfolding tidy agree flagNames
-flags-both-ways = one-to-one flagNames refl
+pub flags_both_ways : OneToOne flag_names
+unfolding tidy agree flag_names
+flags_both_ways = one_to_one flag_names refl
 
-pub tags-both-ways : OneToOne tagNames
-unfolding tidy agree tagNames
-tags-both-ways = one-to-one tagNames refl
+pub tags_both_ways : OneToOne tag_names
+unfolding tidy agree tag_names
+tags_both_ways = one_to_one tag_names refl
 
-pub responses-both-ways : OneToOne responseNames
-unfolding tidy agree responses responseNames
-responses-both-ways = one-to-one responseNames refl
+pub responses_both_ways : OneToOne response_names
+unfolding tidy agree responses response_names
+responses_both_ways = one_to_one response_names refl
 
-pub tag-ops-both-ways : OneToOne tagOpNames
-unfolding tidy agree tagOpNames
-tag-ops-both-ways = one-to-one tagOpNames refl
+pub tag_ops_both_ways : OneToOne tag_op_names
+unfolding tidy agree tag_op_names
+tag_ops_both_ways = one_to_one tag_op_names refl
 
-pub resp-errs-both-ways : OneToOne respErrNames
-unfolding tidy agree respErrNames
-resp-errs-both-ways = one-to-one respErrNames refl
+pub resp_errs_both_ways : OneToOne resp_err_names
+unfolding tidy agree resp_err_names
+resp_errs_both_ways = one_to_one resp_err_names refl
 
-pub forwards-both-ways : OneToOne forwardNames
-unfolding tidy agree forwardNames
-forwards-both-ways = one-to-one forwardNames refl
+pub forwards_both_ways : OneToOne forward_names
+unfolding tidy agree forward_names
+forwards_both_ways = one_to_one forward_names refl
 
-pub finals-both-ways : OneToOne finalNames
-unfolding tidy agree finalNames
-finals-both-ways = one-to-one finalNames refl
+pub finals_both_ways : OneToOne final_names
+unfolding tidy agree final_names
+finals_both_ways = one_to_one final_names refl
 
-pub fwd-errs-both-ways : OneToOne fwdErrNames
-unfolding tidy agree respErrNames fwdErrNames
-fwd-errs-both-ways = one-to-one fwdErrNames refl
+pub fwd_errs_both_ways : OneToOne fwd_err_names
+unfolding tidy agree resp_err_names fwd_err_names
+fwd_errs_both_ways = one_to_one fwd_err_names refl
 
 -- if all codes of a column are below a limit, every known field's code is
-pub codes-below : (ns : List Named) (limit : ℕ) → all (λ (n : Named). ltb n.code limit) ns ≡ true → (f : List ℕ)
+pub codes_below : (ns : List Named) (limit : ℕ) → all (λ (n : Named). ltb n.code limit) ns ≡ true → (f : List ℕ)
     → (code_of ns f ≡ unknown) ⊎ (code_of ns f < limit)
-codes-below ns limit t f = go (seek ns f)
+codes_below ns limit t f = go (seek ns f)
   where
     go : Sought ns f → (code_of ns f ≡ unknown) ⊎ (code_of ns f < limit)
     go (none p q) = inl p
-    go (found n i p q) = inr (omega (arith, q, ltb-true n.code limit (all-at (λ (m : Named). ltb m.code limit) t i)))
+    go (found n i p q) = inr (omega (arith, q, ltb-true n.code limit (all_at (λ (m : Named). ltb m.code limit) t i)))
 
 -- one more digit
-digit-more : (v d p q : ℕ) → d ≤ 57 → q < (v * 10 + (d - 48) + 1) * p → q < (v + 1) * (p * 10)
-digit-more v d p q h k =
+digit_more : (v d p q : ℕ) → d ≤ 57 → q < (v * 10 + (d - 48) + 1) * p → q < (v + 1) * (p * 10)
+digit_more v d p q h k =
     let le : v * 10 + (d - 48) + 1 ≤ (v + 1) * 10 = omega arith in
     subst (λ (n : ℕ). q < n) (mul_assoc (v + 1) 10 p ∙ ap (λ (n : ℕ). (v + 1) * n) (mul_comm 10 p)) (lt_of_lt_of_le k (mul-le-mul_right p le))
 
 -- a number of n digits is below 10 to the n
-decimal-below : (v : ℕ) (f : List ℕ) → all isDigit f ≡ true → readDecimal v f < (v + 1) * 10 ^ length f
-unfolding readDecimal
-decimal-below v [] h = omega arith
-decimal-below v (d ∷ ds) h =
+decimal_below : (v : ℕ) (f : List ℕ) → all is_digit f ≡ true → read_decimal v f < (v + 1) * 10 ^ length f
+unfolding read_decimal
+decimal_below v [] h = omega arith
+decimal_below v (d ∷ ds) h =
     rw pow-suc
-    (digit-more v d (10 ^ length ds) (readDecimal (v * 10 + (d - 48)) ds)
-    (leb-true d 57 (and_right (leb 48 d) (leb d 57) (and_left (isDigit d) (all isDigit ds) h)))
-    (decimal-below (v * 10 + (d - 48)) ds (and_right (isDigit d) (all isDigit ds) h)))
+    (digit_more v d (10 ^ length ds) (read_decimal (v * 10 + (d - 48)) ds)
+    (leb-true d 57 (and_right (leb 48 d) (leb d 57) (and_left (is_digit d) (all is_digit ds) h)))
+    (decimal_below (v * 10 + (d - 48)) ds (and_right (is_digit d) (all is_digit ds) h)))
 
 -- what the test of a pair's field means, part by part
-all_digits : (f : List ℕ) → isPair f ≡ true → all isDigit f ≡ true
-unfolding isPair
+all_digits : (f : List ℕ) → is_pair f ≡ true → all is_digit f ≡ true
+unfolding is_pair
 all_digits f h =
-    let a = all isDigit f in
+    let a = all is_digit f in
     let b = a && ltb 0 (length f) in
-    let c = b && leb (length f) mostDigits in
-    and_left a (ltb 0 (length f)) (and_left b (leb (length f) mostDigits) (and_left c (not (leadingZero f)) h))
+    let c = b && leb (length f) most_digits in
+    and_left a (ltb 0 (length f)) (and_left b (leb (length f) most_digits) (and_left c (not (leading_zero f)) h))
 
-not-long : (f : List ℕ) → isPair f ≡ true → length f ≤ mostDigits
-unfolding isPair
-not-long f h =
-    let b = all isDigit f && ltb 0 (length f) in
-    let c = b && leb (length f) mostDigits in
-    leb-true (length f) mostDigits (and_right b (leb (length f) mostDigits) (and_left c (not (leadingZero f)) h))
+not_long : (f : List ℕ) → is_pair f ≡ true → length f ≤ most_digits
+unfolding is_pair
+not_long f h =
+    let b = all is_digit f && ltb 0 (length f) in
+    let c = b && leb (length f) most_digits in
+    leb-true (length f) most_digits (and_right b (leb (length f) most_digits) (and_left c (not (leading_zero f)) h))
 
-some-digit : (f : List ℕ) → isPair f ≡ true → 0 < length f
-unfolding isPair
-some-digit f h =
-    let a = all isDigit f in
+some_digit : (f : List ℕ) → is_pair f ≡ true → 0 < length f
+unfolding is_pair
+some_digit f h =
+    let a = all is_digit f in
     let b = a && ltb 0 (length f) in
-    let c = b && leb (length f) mostDigits in
-    ltb-true 0 (length f) (and_right a (ltb 0 (length f)) (and_left b (leb (length f) mostDigits) (and_left c (not (leadingZero f)) h)))
+    let c = b && leb (length f) most_digits in
+    ltb-true 0 (length f) (and_right a (ltb 0 (length f)) (and_left b (leb (length f) most_digits) (and_left c (not (leading_zero f)) h)))
 
-not-zero : (d : ℕ) (ds : List ℕ) → isPair (d ∷ ds) ≡ true → 1 < length (d ∷ ds) → d ≡ 48 → ⊥
-unfolding isPair
-not-zero d ds h l e =
-    let c = all isDigit (d ∷ ds) && ltb 0 (length (d ∷ ds)) && leb (length (d ∷ ds)) mostDigits in
+not_zero : (d : ℕ) (ds : List ℕ) → is_pair (d ∷ ds) ≡ true → 1 < length (d ∷ ds) → d ≡ 48 → ⊥
+unfolding is_pair
+not_zero d ds h l e =
+    let c = all is_digit (d ∷ ds) && ltb 0 (length (d ∷ ds)) && leb (length (d ∷ ds)) most_digits in
     true≢false
     (sym (and_both (eq-eqb d 48 e) (lt-ltb 1 (length (d ∷ ds)) l))
-    ∙ not-true (leadingZero (d ∷ ds)) (and_right c (not (leadingZero (d ∷ ds))) h))
+    ∙ not-true (leading_zero (d ∷ ds)) (and_right c (not (leading_zero (d ∷ ds))) h))
 
 -- every pair number is below this
-abbrev pub pairLimit : ℕ
-pairLimit = 10 ^ mostDigits
+abbrev pub pair_limit : ℕ
+pair_limit = 10 ^ most_digits
 
-few-digits : (f : List ℕ) → isPair f ≡ true → readDecimal 0 f < pairLimit
-few-digits f h =
-    let le : 10 ^ length f ≤ pairLimit = pow-le-pow_right (omega arith) (not-long f h) in
-    omega (arith, le, decimal-below 0 f (all_digits f h))
+few_digits : (f : List ℕ) → is_pair f ≡ true → read_decimal 0 f < pair_limit
+few_digits f h =
+    let le : 10 ^ length f ≤ pair_limit = pow-le-pow_right (omega arith) (not_long f h) in
+    omega (arith, le, decimal_below 0 f (all_digits f h))
 
-pub pair-below : (f : List ℕ) → (pair_of f ≡ unknown) ⊎ (pair_of f < pairLimit)
+pub pair_below : (f : List ℕ) → (pair_of f ≡ unknown) ⊎ (pair_of f < pair_limit)
 unfolding pair_of
-pair-below f = go (isPair f) refl
+pair_below f = go (is_pair f) refl
   where
-    go : (b : Bool) → isPair f ≡ b → (cond b (readDecimal 0 f) unknown ≡ unknown) ⊎ (cond b (readDecimal 0 f) unknown < pairLimit)
+    go : (b : Bool) → is_pair f ≡ b → (cond b (read_decimal 0 f) unknown ≡ unknown) ⊎ (cond b (read_decimal 0 f) unknown < pair_limit)
     go false h = inl refl
-    go true h = inr (few-digits f h)
+    go true h = inr (few_digits f h)
 
 -- the bounds of a digit
-low : (d : ℕ) → isDigit d ≡ true → 48 ≤ d
+low : (d : ℕ) → is_digit d ≡ true → 48 ≤ d
 low d h = leb-true 48 d (and_left (leb 48 d) (leb d 57) h)
 
-high : (d : ℕ) → isDigit d ≡ true → d ≤ 57
+high : (d : ℕ) → is_digit d ≡ true → d ≤ 57
 high d h = leb-true d 57 (and_right (leb 48 d) (leb d 57) h)
 
 -- equally many digits with the same value are the same digits
-same_digits : (v w : ℕ) (f g : List ℕ) → length f ≡ length g → all isDigit f ≡ true → all isDigit g ≡ true → readDecimal v f ≡ readDecimal w g → (v ≡ w) × (f ≡ g)
-unfolding readDecimal
+same_digits : (v w : ℕ) (f g : List ℕ) → length f ≡ length g → all is_digit f ≡ true → all is_digit g ≡ true → read_decimal v f ≡ read_decimal w g → (v ≡ w) × (f ≡ g)
+unfolding read_decimal
 same_digits v w [] [] l p q h = (h, refl)
 same_digits v w [] (e ∷ es) l p q h = absurd (omega (arith, l))
 same_digits v w (d ∷ ds) [] l p q h = absurd (omega (arith, l))
 same_digits v w (d ∷ ds) (e ∷ es) l p q h =
-    let dp = and_left (isDigit d) (all isDigit ds) p in
-    let ep = and_left (isDigit e) (all isDigit es) q in
-    let r = same_digits (v * 10 + (d - 48)) (w * 10 + (e - 48)) ds es (omega (arith, l)) (and_right (isDigit d) (all isDigit ds) p) (and_right (isDigit e) (all isDigit es) q) h in
+    let dp = and_left (is_digit d) (all is_digit ds) p in
+    let ep = and_left (is_digit e) (all is_digit es) q in
+    let r = same_digits (v * 10 + (d - 48)) (w * 10 + (e - 48)) ds es (omega (arith, l)) (and_right (is_digit d) (all is_digit ds) p) (and_right (is_digit e) (all is_digit es) q) h in
     let first : d ≡ e = omega (arith, r.0, low d dp, high d dp, low e ep, high e ep) in
     let rest : ds ≡ es = r.1 in
     (omega (arith, r.0, low d dp, high d dp, low e ep, high e ep), cc)
 
 -- reading n digits on from v gives at least v times 10 to the n
-decimal-above : (v : ℕ) (f : List ℕ) → v * 10 ^ length f ≤ readDecimal v f
-unfolding readDecimal
-decimal-above v [] = omega arith
-decimal-above v (d ∷ ds) =
+decimal_above : (v : ℕ) (f : List ℕ) → v * 10 ^ length f ≤ read_decimal v f
+unfolding read_decimal
+decimal_above v [] = omega arith
+decimal_above v (d ∷ ds) =
     rw pow-suc
     (le_trans
     (subst (λ (n : ℕ). n ≤ (v * 10 + (d - 48)) * 10 ^ length ds)
     (mul_assoc v 10 (10 ^ length ds) ∙ ap (λ (n : ℕ). v * n) (mul_comm 10 (10 ^ length ds)))
     (mul-le-mul_right (10 ^ length ds) (omega arith)))
-    (decimal-above (v * 10 + (d - 48)) ds))
+    (decimal_above (v * 10 + (d - 48)) ds))
 
 -- a pair field of more than one digit stands for at least 10 to the number of the others
-pub pair-above : (d : ℕ) (ds : List ℕ) → isPair (d ∷ ds) ≡ true → 0 < length ds → 10 ^ length ds ≤ readDecimal 0 (d ∷ ds)
-unfolding readDecimal
-pair-above d ds p l =
-    let digit = low d (and_left (isDigit d) (all isDigit ds) (all_digits (d ∷ ds) p)) in
-    let more : 1 * 10 ^ length ds ≤ (0 * 10 + (d - 48)) * 10 ^ length ds = mul-le-mul_right (10 ^ length ds) (omega (arith, digit, not-zero d ds p (omega (arith, l)))) in
-    omega (arith, more, decimal-above (0 * 10 + (d - 48)) ds)
+pub pair_above : (d : ℕ) (ds : List ℕ) → is_pair (d ∷ ds) ≡ true → 0 < length ds → 10 ^ length ds ≤ read_decimal 0 (d ∷ ds)
+unfolding read_decimal
+pair_above d ds p l =
+    let digit = low d (and_left (is_digit d) (all is_digit ds) (all_digits (d ∷ ds) p)) in
+    let more : 1 * 10 ^ length ds ≤ (0 * 10 + (d - 48)) * 10 ^ length ds = mul-le-mul_right (10 ^ length ds) (omega (arith, digit, not_zero d ds p (omega (arith, l)))) in
+    omega (arith, more, decimal_above (0 * 10 + (d - 48)) ds)
 
 -- a shorter pair field never has the same value
-shorter : (f g : List ℕ) → isPair f ≡ true → isPair g ≡ true → length f < length g → readDecimal 0 f ≡ readDecimal 0 g → ⊥
+shorter : (f g : List ℕ) → is_pair f ≡ true → is_pair g ≡ true → length f < length g → read_decimal 0 f ≡ read_decimal 0 g → ⊥
 shorter f [] p q l h = omega arith
 shorter f (e ∷ es) p q l h =
-    let above = pair-above e es q (omega (arith, some-digit f p, l)) in
-    let below = decimal-below 0 f (all_digits f p) in
+    let above = pair_above e es q (omega (arith, some_digit f p, l)) in
+    let below = decimal_below 0 f (all_digits f p) in
     let wide : 10 ^ length f ≤ 10 ^ length es = pow-le-pow_right (omega arith) (omega (arith, l)) in
     omega (arith, above, below, wide, h)
 
 -- pair fields with the same value are the same field
-one_field : (f g : List ℕ) → isPair f ≡ true → isPair g ≡ true → readDecimal 0 f ≡ readDecimal 0 g → f ≡ g
+one_field : (f g : List ℕ) → is_pair f ≡ true → is_pair g ≡ true → read_decimal 0 f ≡ read_decimal 0 g → f ≡ g
 one_field f g p q h = go (ltb (length f) (length g)) refl (ltb (length g) (length f)) refl
   where
     go : (a : Bool) → ltb (length f) (length g) ≡ a → (b : Bool) → ltb (length g) (length f) ≡ b → f ≡ g
@@ -293,28 +293,28 @@ one_field f g p q h = go (ltb (length f) (length g)) refl (ltb (length g) (lengt
         (same_digits 0 0 f g (omega (arith, ltb-false (length f) (length g) k, ltb-false (length g) (length f) l)) (all_digits f p) (all_digits g q) h).1
 
 -- each pair has only one field: two known fields with the same number are equal
-pub pair-one-field : (f g : List ℕ) → pair_of f ≡ pair_of g → (pair_of f ≡ unknown → ⊥) → f ≡ g
+pub pair_one_field : (f g : List ℕ) → pair_of f ≡ pair_of g → (pair_of f ≡ unknown → ⊥) → f ≡ g
 unfolding pair_of
-pair-one-field f g h k = go (isPair f) refl (isPair g) refl h k
+pair_one_field f g h k = go (is_pair f) refl (is_pair g) refl h k
   where
-    go : (a : Bool) → isPair f ≡ a → (b : Bool) → isPair g ≡ b → cond a (readDecimal 0 f) unknown ≡ cond b (readDecimal 0 g) unknown
-        → (cond a (readDecimal 0 f) unknown ≡ unknown → ⊥) → f ≡ g
+    go : (a : Bool) → is_pair f ≡ a → (b : Bool) → is_pair g ≡ b → cond a (read_decimal 0 f) unknown ≡ cond b (read_decimal 0 g) unknown
+        → (cond a (read_decimal 0 f) unknown ≡ unknown → ⊥) → f ≡ g
     go true p true q l m = one_field f g p q l
     go true p false q l m = absurd (m l)
     go false p b q l m = absurd (m refl)
 
 -- the field is unknown exactly when it is not 1 to 5 digits without a leading zero
-pub pair-unknown : (f : List ℕ) → (pair_of f ≡ unknown) ↔ (isPair f ≡ false)
+pub pair_unknown : (f : List ℕ) → (pair_of f ≡ unknown) ↔ (is_pair f ≡ false)
 unfolding pair_of
-pair-unknown f = (to (isPair f) refl, λ h. ap (λ (b : Bool). cond b (readDecimal 0 f) unknown) h)
+pair_unknown f = (to (is_pair f) refl, λ h. ap (λ (b : Bool). cond b (read_decimal 0 f) unknown) h)
   where
-    to : (b : Bool) → isPair f ≡ b → cond b (readDecimal 0 f) unknown ≡ unknown → b ≡ false
+    to : (b : Bool) → is_pair f ≡ b → cond b (read_decimal 0 f) unknown ≡ unknown → b ≡ false
     to false p h = refl
-    to true p h = absurd (omega (arith, h, few-digits f p))
+    to true p h = absurd (omega (arith, h, few_digits f p))
 
 -- the limit of each column's codes
 abbrev pub limits : List ℕ
-limits = pairLimit ∷ 256 ∷ 2 ∷ 2 ∷ 2 ∷ 4 ∷ 22 ∷ 4 ∷ 4 ∷ 8 ∷ 8 ∷ 5 ∷ []
+limits = pair_limit ∷ 256 ∷ 2 ∷ 2 ∷ 2 ∷ 4 ∷ 22 ∷ 4 ∷ 4 ∷ 8 ∷ 8 ∷ 5 ∷ []
 
 -- every code of the column is unknown or below the limit
 abbrev pub Limited : (List ℕ → ℕ) → ℕ → Type 0
@@ -326,26 +326,26 @@ pub data AllLimited : List (List ℕ → ℕ) → List ℕ → Type 0 where
   one_more : {column : List ℕ → ℕ} {others : List (List ℕ → ℕ)} {limit : ℕ} {more : List ℕ} → Limited column limit → AllLimited others more
       → AllLimited (column ∷ others) (limit ∷ more)
 
-pub columns-limited : AllLimited columns limits
-unfolding columns requestNames flagNames tagNames responses responseNames tagOpNames respErrNames forwardNames finalNames fwdErrNames
-columns-limited =
-    one_more pair-below
-    (one_more (codes-below requestNames 256 refl)
-    (one_more (codes-below flagNames 2 refl)
-    (one_more (codes-below flagNames 2 refl)
-    (one_more (codes-below flagNames 2 refl)
-    (one_more (codes-below tagNames 4 refl)
-    (one_more (codes-below responseNames 22 refl)
-    (one_more (codes-below tagOpNames 4 refl)
-    (one_more (codes-below respErrNames 4 refl)
-    (one_more (codes-below forwardNames 8 refl)
-    (one_more (codes-below finalNames 8 refl)
-    (one_more (codes-below fwdErrNames 5 refl)
+pub columns_limited : AllLimited columns limits
+unfolding columns request_names flag_names tag_names responses response_names tag_op_names resp_err_names forward_names final_names fwd_err_names
+columns_limited =
+    one_more pair_below
+    (one_more (codes_below request_names 256 refl)
+    (one_more (codes_below flag_names 2 refl)
+    (one_more (codes_below flag_names 2 refl)
+    (one_more (codes_below flag_names 2 refl)
+    (one_more (codes_below tag_names 4 refl)
+    (one_more (codes_below response_names 22 refl)
+    (one_more (codes_below tag_op_names 4 refl)
+    (one_more (codes_below resp_err_names 4 refl)
+    (one_more (codes_below forward_names 8 refl)
+    (one_more (codes_below final_names 8 refl)
+    (one_more (codes_below fwd_err_names 5 refl)
     none_more)))))))))))
 
 -- examples of pair fields, good ones and bad ones, at each limit
 pub some_pairs :
     map pair_of (bytes "0" ∷ bytes "9" ∷ bytes "10" ∷ bytes "9999" ∷ bytes "10000" ∷ bytes "65535" ∷ bytes "99999" ∷ bytes "100000" ∷ bytes "" ∷ bytes "00" ∷ bytes "01" ∷ bytes "065535" ∷ bytes "1:" ∷ bytes "/1" ∷ bytes "-1" ∷ bytes " 1" ∷ [])
     ≡ 0 ∷ 9 ∷ 10 ∷ 9999 ∷ 10000 ∷ 65535 ∷ 99999 ∷ unknown ∷ unknown ∷ unknown ∷ unknown ∷ unknown ∷ unknown ∷ unknown ∷ unknown ∷ unknown ∷ []
-unfolding pair_of isPair readDecimal
+unfolding pair_of is_pair read_decimal
 some_pairs = refl

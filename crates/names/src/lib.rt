@@ -1,9 +1,9 @@
 // Finds the code of a field by its name (definition 8.4).
 ghost use Rattle.std.specs.Prelude.{◌≡◌, cond, ◌≤◌, length};
 ghost use Rattle.kinds.specs.Tests.{same, all};
-ghost use Rattle.names.specs.Names.{code_of, requestNames, flagNames, tagNames, responseNames, tagOpNames, respErrNames};
-ghost use Rattle.names.specs.Names.{forwardNames, finalNames, fwdErrNames, unknown, mostDigits, isDigit, readDecimal, pair_of};
-ghost use Rattle.names.specs.Names.{answerAt, inColumn};
+ghost use Rattle.names.specs.Names.{code_of, request_names, flag_names, tag_names, response_names, tag_op_names, resp_err_names};
+ghost use Rattle.names.specs.Names.{forward_names, final_names, fwd_err_names, unknown, most_digits, is_digit, read_decimal, pair_of};
+ghost use Rattle.names.specs.Names.{answer_at, in_column};
 
 use kinds::{Answer, Forward, FwdState, LineState, Request, Resp, RespErr, TagOp, TagState};
 
@@ -47,7 +47,7 @@ fn known(field: &[u8], name: &[u8], code: u8, other: u32) -> u32
 
 // The code of a request.
 pub fn request(field: &[u8]) -> u32
-    ensures { result ≡ code_of requestNames field.now }
+    ensures { result ≡ code_of request_names field.now }
 {
     let code = known(
         field,
@@ -88,7 +88,7 @@ pub fn request(field: &[u8]) -> u32
 
 // The code of a flag: RetToSrc, DoNotGoToSD or excl.
 pub fn flag(field: &[u8]) -> u32
-    ensures { result ≡ code_of flagNames field.now }
+    ensures { result ≡ code_of flag_names field.now }
 {
     let code = known(field, b"1", 1, UNKNOWN);
     known(field, b"0", 0, code)
@@ -96,7 +96,7 @@ pub fn flag(field: &[u8]) -> u32
 
 // The code of a tag state.
 pub fn tag(field: &[u8]) -> u32
-    ensures { result ≡ code_of tagNames field.now }
+    ensures { result ≡ code_of tag_names field.now }
 {
     let code = known(field, b"?", TagState::NOT_SEEN.0, UNKNOWN);
     let code = known(field, b"Dirty", TagState::DIRTY.0, code);
@@ -106,7 +106,7 @@ pub fn tag(field: &[u8]) -> u32
 
 // The index of a response among the 22.
 pub fn response(field: &[u8]) -> u32
-    ensures { result ≡ code_of responseNames field.now }
+    ensures { result ≡ code_of response_names field.now }
 {
     let code = known(field, b"SnpRespData_SC_PD_Fwded_SC", 21, UNKNOWN);
     let code = known(field, b"SnpRespData_I_PD_Fwded_SC", 20, code);
@@ -134,7 +134,7 @@ pub fn response(field: &[u8]) -> u32
 
 // The code of a TagOp.
 pub fn tag_op(field: &[u8]) -> u32
-    ensures { result ≡ code_of tagOpNames field.now }
+    ensures { result ≡ code_of tag_op_names field.now }
 {
     let code = known(field, b"Match", TagOp::MATCH.0, UNKNOWN);
     let code = known(field, b"Update", TagOp::UPDATE.0, code);
@@ -144,7 +144,7 @@ pub fn tag_op(field: &[u8]) -> u32
 
 // The code of a RespErr.
 pub fn resp_err(field: &[u8]) -> u32
-    ensures { result ≡ code_of respErrNames field.now }
+    ensures { result ≡ code_of resp_err_names field.now }
 {
     let code = known(field, b"NDERR", RespErr::NDERR.0, UNKNOWN);
     let code = known(field, b"DERR", RespErr::DERR.0, code);
@@ -154,7 +154,7 @@ pub fn resp_err(field: &[u8]) -> u32
 
 // The FwdState of a forward; 0 for none.
 pub fn forward(field: &[u8]) -> u32
-    ensures { result ≡ code_of forwardNames field.now }
+    ensures { result ≡ code_of forward_names field.now }
 {
     let code = known(field, b"CompData_SD_PD", FwdState::SD_PD.0, UNKNOWN);
     let code = known(field, b"CompData_UD_PD", FwdState::UD_PD.0, code);
@@ -168,7 +168,7 @@ pub const NO_FWD_ERR: u8 = 4;
 
 // The error field of forwarded data, with the names of RespErr; NO_FWD_ERR for none.
 pub fn fwd_err(field: &[u8]) -> u32
-    ensures { result ≡ code_of fwdErrNames field.now }
+    ensures { result ≡ code_of fwd_err_names field.now }
 {
     let code = resp_err(field);
     known(field, b"-", NO_FWD_ERR, code)
@@ -176,7 +176,7 @@ pub fn fwd_err(field: &[u8]) -> u32
 
 // The code of a state after.
 pub fn state_after(field: &[u8]) -> u32
-    ensures { result ≡ code_of finalNames field.now }
+    ensures { result ≡ code_of final_names field.now }
 {
     let code = known(field, b"?", LineState::NOT_SEEN.0, UNKNOWN);
     let code = known(field, b"SD", LineState::SD.0, code);
@@ -190,8 +190,8 @@ pub fn state_after(field: &[u8]) -> u32
 
 // The number that at most five digits stand for; UNKNOWN if some byte is not a digit.
 fn digits(field: &[u8]) -> u32
-    requires { length field.now ≤ mostDigits }
-    ensures { result ≡ cond (all isDigit field.now) (readDecimal 0 field.now) unknown }
+    requires { length field.now ≤ most_digits }
+    ensures { result ≡ cond (all is_digit field.now) (read_decimal 0 field.now) unknown }
 {
     let n = field.len();
     let mut v: u32 = 0;
@@ -224,7 +224,7 @@ pub fn pair(field: &[u8]) -> u32
 // The answer with this index among the 22 responses; past the last, the first. A name says nothing of the forwarded data's error field:
 // OK stands for it.
 pub fn answer(place: u8) -> Answer
-    ensures { result ≡ answerAt place }
+    ensures { result ≡ answer_at place }
 {
     match place {
         0 => Answer::SnpResp(Resp::I, Forward::NoForward),
@@ -255,7 +255,7 @@ pub fn answer(place: u8) -> Answer
 
 // The code of a field in the column with this number.
 pub fn column(number: usize, field: &[u8]) -> u32
-    ensures { result ≡ inColumn number field.now }
+    ensures { result ≡ in_column number field.now }
 {
     match number {
         columns::PAIR => pair(field),

@@ -11,16 +11,16 @@ use borrow.Author.Tests.{ltb-true, leb-true, lt-ltb, le-ltb, eq-eqb}
 use lib.Dec.{eqb, ltb, leb}
 use lib.ListN.{length, drop}
 use Rattle.kinds.specs.Tests.{all}
-use Rattle.kinds.specs.Places.{highestPair}
+use Rattle.kinds.specs.Places.{highest_pair}
 use Rattle.kinds.proofs.Lists.{and_left, and_right, and_both}
 use Rattle.fields.specs.Fields.{fields_of}
 use Rattle.names.specs.Names.{unknown, columns}
-use Rattle.names.specs.Columns.{pairCode}
-use Rattle.names.proofs.Names.{pairLimit, limits, Limited, AllLimited, none_more, one_more, columns-limited}
+use Rattle.names.specs.Columns.{pair_code}
+use Rattle.names.proofs.Names.{pair_limit, limits, Limited, AllLimited, none_more, one_more, columns_limited}
 use Rattle.parser.specs.declared.ParsedLine.{ParsedLine}
 use Rattle.parser.specs.declared.Found.{Found}
-use Rattle.parser.specs.Parsed.{codes_of, lineCodes, known, dashesAgree, wellFormed, eventOf, parsedAs, refusedParse, parsed}
-use Rattle.parser.specs.Code.{codesIn, asByte, line_of}
+use Rattle.parser.specs.Parsed.{codes_of, line_codes, known, dashes_agree, well_formed, event_of, parsed_as, refused_parse, parsed}
+use Rattle.parser.specs.Code.{codes_in, as_byte, line_of}
 
 -- as many numbers as limits, each below its own
 abbrev pub under : List ℕ → List ℕ → Bool
@@ -29,92 +29,92 @@ under [] (l ∷ ls) = false
 under (x ∷ xs) [] = false
 under (x ∷ xs) (l ∷ ls) = ltb x l && under xs ls
 
-known-below : {column : List ℕ → ℕ} {limit : ℕ} → Limited column limit → (f : List ℕ) → known (column f) ≡ true → ltb (column f) limit ≡ true
-known-below {column} {limit} p f k = go (p f)
+known_below : {column : List ℕ → ℕ} {limit : ℕ} → Limited column limit → (f : List ℕ) → known (column f) ≡ true → ltb (column f) limit ≡ true
+known_below {column} {limit} p f k = go (p f)
   where
     go : (column f ≡ unknown) ⊎ (column f < limit) → ltb (column f) limit ≡ true
     go (inl e) = absurd (false≢true (sym (ap not (eq-eqb (column f) unknown e)) ∙ k))
     go (inr b) = lt-ltb (column f) limit b
 
-codes-below : {cs : List (List ℕ → ℕ)} {ls : List ℕ} → AllLimited cs ls → (fs : List (List ℕ)) → all known (codes_of cs fs) ≡ true → under (codes_of cs fs) ls ≡ true
-codes-below none_more fs k = refl
-codes-below (one_more p ps) [] k = absurd (false≢true k)
-codes-below (one_more {column = c} {others = cs} p ps) (f ∷ fs) k =
-    and_both (known-below p f (and_left (known (c f)) (all known (codes_of cs fs)) k)) (codes-below ps fs (and_right (known (c f)) (all known (codes_of cs fs)) k))
+codes_below : {cs : List (List ℕ → ℕ)} {ls : List ℕ} → AllLimited cs ls → (fs : List (List ℕ)) → all known (codes_of cs fs) ≡ true → under (codes_of cs fs) ls ≡ true
+codes_below none_more fs k = refl
+codes_below (one_more p ps) [] k = absurd (false≢true k)
+codes_below (one_more {column = c} {others = cs} p ps) (f ∷ fs) k =
+    and_both (known_below p f (and_left (known (c f)) (all known (codes_of cs fs)) k)) (codes_below ps fs (and_right (known (c f)) (all known (codes_of cs fs)) k))
 
 -- every code of a well-formed line is known, and below its column's limit
-pub codes-known : (line : List ℕ) → wellFormed line ≡ true → all known (lineCodes line) ≡ true
-unfolding wellFormed
-codes-known line w =
+pub codes_known : (line : List ℕ) → well_formed line ≡ true → all known (line_codes line) ≡ true
+unfolding well_formed
+codes_known line w =
     let many = eqb (length (fields_of line)) (length columns) in
-    and_right many (all known (lineCodes line)) (and_left (many && all known (lineCodes line)) (dashesAgree (lineCodes line)) w)
+    and_right many (all known (line_codes line)) (and_left (many && all known (line_codes line)) (dashes_agree (line_codes line)) w)
 
 -- its dashes agree
-pub dashes-agree : (line : List ℕ) → wellFormed line ≡ true → dashesAgree (lineCodes line) ≡ true
-unfolding wellFormed
-dashes-agree line w = and_right (eqb (length (fields_of line)) (length columns) && all known (lineCodes line)) (dashesAgree (lineCodes line)) w
+pub dashes_agree_lem : (line : List ℕ) → well_formed line ≡ true → dashes_agree (line_codes line) ≡ true
+unfolding well_formed
+dashes_agree_lem line w = and_right (eqb (length (fields_of line)) (length columns) && all known (line_codes line)) (dashes_agree (line_codes line)) w
 
-pub codes-under : (line : List ℕ) → wellFormed line ≡ true → under (lineCodes line) limits ≡ true
-codes-under line w = codes-below columns-limited (fields_of line) (codes-known line w)
+pub codes_under : (line : List ℕ) → well_formed line ≡ true → under (line_codes line) limits ≡ true
+codes_under line w = codes_below columns_limited (fields_of line) (codes_known line w)
 
 -- numbers below limits of at most 256 are bytes already
-byte-kept : (xs ls : List ℕ) → under xs ls ≡ true → all (λ (l : ℕ). leb l 256) ls ≡ true → map asByte xs ≡ xs
-byte-kept [] ls h k = refl
-byte-kept (x ∷ xs) [] h k = absurd (false≢true h)
-byte-kept (x ∷ xs) (l ∷ ls) h k =
+byte_kept : (xs ls : List ℕ) → under xs ls ≡ true → all (λ (l : ℕ). leb l 256) ls ≡ true → map as_byte xs ≡ xs
+byte_kept [] ls h k = refl
+byte_kept (x ∷ xs) [] h k = absurd (false≢true h)
+byte_kept (x ∷ xs) (l ∷ ls) h k =
     ap₂ (λ (y : ℕ) (ys : List ℕ). y ∷ ys)
     (mod-eq_of_lt (omega (arith, ltb-true x l (and_left (ltb x l) (under xs ls) h), leb-true l 256 (and_left (leb l 256) (all (λ (m : ℕ). leb m 256) ls) k))))
-    (byte-kept xs ls (and_right (ltb x l) (under xs ls) h) (and_right (leb l 256) (all (λ (m : ℕ). leb m 256) ls) k))
+    (byte_kept xs ls (and_right (ltb x l) (under xs ls) h) (and_right (leb l 256) (all (λ (m : ℕ). leb m 256) ls) k))
 
 -- only the pair's code may exceed a byte, and the event does not use it
-event-kept : (codes : List ℕ) → under codes limits ≡ true → eventOf (map asByte codes) ≡ eventOf codes
-unfolding eventOf
-event-kept [] h = absurd (false≢true h)
-event-kept (pair ∷ codes) h =
-    ap (λ (cs : List ℕ). eventOf (pair ∷ cs)) (byte-kept codes (drop 1 limits) (and_right (ltb pair pairLimit) (under codes (drop 1 limits)) h) refl)
+event_kept : (codes : List ℕ) → under codes limits ≡ true → event_of (map as_byte codes) ≡ event_of codes
+unfolding event_of
+event_kept [] h = absurd (false≢true h)
+event_kept (pair ∷ codes) h =
+    ap (λ (cs : List ℕ). event_of (pair ∷ cs)) (byte_kept codes (drop 1 limits) (and_right (ltb pair pair_limit) (under codes (drop 1 limits)) h) refl)
 
 -- A PARSED LINE, case by case
 module _ (line : List ℕ) where
   saying : Bool → Bool → ParsedLine
-  saying good high = cond good (cond high (refusedParse 3) (parsedAs (pairCode (lineCodes line)) (eventOf (lineCodes line)))) (refusedParse 8)
+  saying good high = cond good (cond high (refused_parse 3) (parsed_as (pair_code (line_codes line)) (event_of (line_codes line)))) (refused_parse 8)
 
-  pub parsed-ill : wellFormed line ≡ false → parsed line ≡ refusedParse 8
+  pub parsed_ill : well_formed line ≡ false → parsed line ≡ refused_parse 8
   unfolding parsed saying
-  parsed-ill w = ap (λ (b : Bool). saying b (ltb highestPair (pairCode (lineCodes line)))) w
+  parsed_ill w = ap (λ (b : Bool). saying b (ltb highest_pair (pair_code (line_codes line)))) w
 
-  pub parsed-high : wellFormed line ≡ true → highestPair < pairCode (lineCodes line) → parsed line ≡ refusedParse 3
+  pub parsed_high : well_formed line ≡ true → highest_pair < pair_code (line_codes line) → parsed line ≡ refused_parse 3
   unfolding parsed saying
-  parsed-high w h = ap₂ saying w (lt-ltb highestPair (pairCode (lineCodes line)) h)
+  parsed_high w h = ap₂ saying w (lt-ltb highest_pair (pair_code (line_codes line)) h)
 
-  pub parsed-fine : wellFormed line ≡ true → pairCode (lineCodes line) ≤ highestPair → parsed line ≡ parsedAs (pairCode (lineCodes line)) (eventOf (lineCodes line))
+  pub parsed_fine : well_formed line ≡ true → pair_code (line_codes line) ≤ highest_pair → parsed line ≡ parsed_as (pair_code (line_codes line)) (event_of (line_codes line))
   unfolding parsed saying
-  parsed-fine w h = ap₂ saying w (le-ltb highestPair (pairCode (lineCodes line)) h)
+  parsed_fine w h = ap₂ saying w (le-ltb highest_pair (pair_code (line_codes line)) h)
 
 -- A LINE AND ITS CODES
-pub line-high : (codes : List ℕ) → highestPair < pairCode codes → refusedParse 3 ≡ line_of codes
-line-high codes h =
-    sym (ap (λ (b : Bool). cond b (refusedParse 3) (parsedAs (pairCode codes) (eventOf (map asByte codes)))) (lt-ltb highestPair (pairCode codes) h))
+pub line_high : (codes : List ℕ) → highest_pair < pair_code codes → refused_parse 3 ≡ line_of codes
+line_high codes h =
+    sym (ap (λ (b : Bool). cond b (refused_parse 3) (parsed_as (pair_code codes) (event_of (map as_byte codes)))) (lt-ltb highest_pair (pair_code codes) h))
 
-pub line-fine : (codes bytes event : List ℕ) → pairCode codes ≤ highestPair → bytes ≡ map asByte codes → event ≡ eventOf bytes
-    → parsedAs (pairCode codes) event ≡ line_of codes
-line-fine codes bytes event h b v =
-    ap (parsedAs (pairCode codes)) (v ∙ ap eventOf b)
-    ∙ sym (ap (λ (t : Bool). cond t (refusedParse 3) (parsedAs (pairCode codes) (eventOf (map asByte codes)))) (le-ltb highestPair (pairCode codes) h))
+pub line_fine : (codes bytes event : List ℕ) → pair_code codes ≤ highest_pair → bytes ≡ map as_byte codes → event ≡ event_of bytes
+    → parsed_as (pair_code codes) event ≡ line_of codes
+line_fine codes bytes event h b v =
+    ap (parsed_as (pair_code codes)) (v ∙ ap event_of b)
+    ∙ sym (ap (λ (t : Bool). cond t (refused_parse 3) (parsed_as (pair_code codes) (event_of (map as_byte codes)))) (le-ltb highest_pair (pair_code codes) h))
 
-pub line-well : (line : List ℕ) → wellFormed line ≡ true → line_of (lineCodes line) ≡ parsed line
+pub line_well : (line : List ℕ) → well_formed line ≡ true → line_of (line_codes line) ≡ parsed line
 unfolding parsed
-line-well line w =
-    let high : Bool = ltb highestPair (pairCode (lineCodes line)) in
-    let saying : List ℕ → ParsedLine = λ event. cond high (refusedParse 3) (parsedAs (pairCode (lineCodes line)) event) in
-    ap saying (event-kept (lineCodes line) (codes-under line w)) ∙ sym (ap (λ (b : Bool). cond b (saying (eventOf (lineCodes line))) (refusedParse 8)) w)
+line_well line w =
+    let high : Bool = ltb highest_pair (pair_code (line_codes line)) in
+    let saying : List ℕ → ParsedLine = λ event. cond high (refused_parse 3) (parsed_as (pair_code (line_codes line)) event) in
+    ap saying (event_kept (line_codes line) (codes_under line w)) ∙ sym (ap (λ (b : Bool). cond b (saying (event_of (line_codes line))) (refused_parse 8)) w)
 
 -- the same from what `codes_of` finds
-module _ (line : List ℕ) (f : Found) (e : f ≡ codesIn line) where
-  good-so : {b : Bool} → f.good ≡ b → wellFormed line ≡ b
-  good-so g = sym (ap (λ (x : Found). x.good) e) ∙ g
+module _ (line : List ℕ) (f : Found) (e : f ≡ codes_in line) where
+  good_so : {b : Bool} → f.good ≡ b → well_formed line ≡ b
+  good_so g = sym (ap (λ (x : Found). x.good) e) ∙ g
 
-  pub found-ill : f.good ≡ false → refusedParse 8 ≡ parsed line
-  found-ill g = sym (parsed-ill line (good-so g))
+  pub found_ill : f.good ≡ false → refused_parse 8 ≡ parsed line
+  found_ill g = sym (parsed_ill line (good_so g))
 
-  pub found-well : f.good ≡ true → line_of f.codes ≡ parsed line
-  found-well g = ap (λ (x : Found). line_of x.codes) e ∙ line-well line (good-so g)
+  pub found_well : f.good ≡ true → line_of f.codes ≡ parsed line
+  found_well g = ap (λ (x : Found). line_of x.codes) e ∙ line_well line (good_so g)

@@ -33,10 +33,10 @@ use denote.Triple.Call.{calls_at}
 use denote.Triple.Entry.{Args, Vals}
 use denote.Triple.Spec.{triple_of}
 use denote.Triple.Clauses.{ensured, lasts}
-use Rattle.parser.specs.Code.{gatheredOf}
+use Rattle.parser.specs.Code.{gathered_of}
 use Rattle.parser.specs.declared.Taken.{Taken}
 use Rattle.parser.specs.declared.Codes.{Codes}
-use Rattle.parser.proofs.Steps.{within, held, look-field, store-field}
+use Rattle.parser.proofs.Steps.{within, held, look_field, store_field}
 use Rattle.parser.proofs.Fields.TheLaws as Fields'
 use Rattle.parser.specs.contracts.Taken as TakenT
 use Rattle.parser.proofs.Taken.TheLaws as Taken'
@@ -85,24 +85,24 @@ module _ {M : Type 1} {𝓤 : Ura M} (𝓛 : Logic 𝓤) (κ : Lft) (q : Share) 
   Token = ‵ (flft κ q) ⊛ ‵ ftrue
 
   -- cells: of the reader at a place, of a field, of the line, of a place
-  abbrev pub readerTy : Ty
-  readerTy = Fields'.mir erased
+  abbrev pub reader_ty : Ty
+  reader_ty = Fields'.mir erased
 
   abbrev pub reader : ℕ → ℕ → Item 𝓤
-  reader b n = ‵ (fat full_share readerTy b zero (Fields'.lowered (record { line = s; at = n })))
+  reader b n = ‵ (fat full_share reader_ty b zero (Fields'.lowered (record { line = s; at = n })))
 
   abbrev pub taken : ℕ → Found → Item 𝓤
   taken b f = ‵ (fat full_share Taken'.mir b zero (Taken'.lowered f.it))
 
-  abbrev pub line-in : Ty → ℕ → Item 𝓤
-  line-in τ b = ‵ (fat full_share τ b zero v)
+  abbrev pub line_in : Ty → ℕ → Item 𝓤
+  line_in τ b = ‵ (fat full_share τ b zero v)
 
   abbrev pub place_in : ℕ → ℕ → Item 𝓤
   place_in b n = ‵ (fat full_share (ty_int w64) b zero (vint w64 n))
 
   -- the context once the line and the place are read into the locals i and j
   abbrev pub both : List (Item 𝓤) → ℕ → ℕ → ℕ → ℕ → ℕ → Ty → List (Item 𝓤)
-  both Δ i j n bᵢ bⱼ τ = put 𝓛 (cell j) (place_in bⱼ n) (put 𝓛 (cell i) (line-in τ bᵢ) Δ)
+  both Δ i j n bᵢ bⱼ τ = put 𝓛 (cell j) (place_in bⱼ n) (put 𝓛 (cell i) (line_in τ bᵢ) Δ)
 
   -- the reader stands at n, and there is room in the locals i, j and m: each read and each store finds its cell, by one `refl`
   abbrev pub Ready : Env 𝓤 H → List (Item 𝓤) → (i j m n b bᵢ bⱼ bₘ : ℕ) → Ty → Type 2
@@ -113,13 +113,13 @@ module _ {M : Type 1} {𝓤 : Ura M} (𝓛 : Logic 𝓤) (κ : Lft) (q : Share) 
     spot_of 𝓤 H E m,
     nth 𝓛 (cell 2) Δ,
     nth 𝓛 (cell i) Δ,
-    nth 𝓛 (cell 2) (put 𝓛 (cell i) (line-in τ bᵢ) Δ),
-    nth 𝓛 (cell j) (put 𝓛 (cell i) (line-in τ bᵢ) Δ),
+    nth 𝓛 (cell 2) (put 𝓛 (cell i) (line_in τ bᵢ) Δ),
+    nth 𝓛 (cell j) (put 𝓛 (cell i) (line_in τ bᵢ) Δ),
     nth 𝓛 (cell i) (both Δ i j n bᵢ bⱼ τ),
     nth 𝓛 (cell j) (both Δ i j n bᵢ bⱼ τ),
     nth 𝓛 (cell m) (both Δ i j n bᵢ bⱼ τ),
   ) (
-    (readerTy, b, zero),
+    (reader_ty, b, zero),
     (τ, bᵢ, zero),
     (ty_int w64, bⱼ, zero),
     (Taken'.mir, bₘ, zero),
@@ -127,7 +127,7 @@ module _ {M : Type 1} {𝓤 : Ura M} (𝓛 : Logic 𝓤) (κ : Lft) (q : Share) 
     ‵ (froom τ bᵢ zero),
     reader b n,
     ‵ (froom (ty_int w64) bⱼ zero),
-    line-in τ bᵢ,
+    line_in τ bᵢ,
     place_in bⱼ n,
     ‵ (froom Taken'.mir bₘ zero),
   )
@@ -152,11 +152,11 @@ module _ {M : Type 1} {𝓤 : Ura M} (𝓛 : Logic 𝓤) (κ : Lft) (q : Share) 
 
   module _ (C : Calls 𝓤 H) (Λ : Loops 𝓤 H) (fm : FmC 𝓤 H 𝓛.laws C) (wt : WT v) where
     -- such a call as a step: the field comes out, with what is said of it
-    calls-field : {K : Type 0} {Γ : List (Item 𝓤)} {E : Env 𝓤 H} {p : PostOf 𝓤 H} {xs : List Operand} {d : Place} {rest : Body} {name : Name} {Says : Taken → Type 0} → K
+    calls_field : {K : Type 0} {Γ : List (Item 𝓤)} {E : Env 𝓤 H} {p : PostOf 𝓤 H} {xs : List Operand} {d : Place} {rest : Body} {name : Name} {Says : Taken → Type 0} → K
         → (b : TakesBy C name Says) → Opds K 𝓛 (raw (b.contract.pre b.asked) ∷ ‵ Own ∷ Γ) E xs (b.contract.args b.asked)
         → ((f : Found) → Says f.it → Seq K 𝓛 (Token ∷ ‵ Own ∷ Γ) (lands C Λ E d (Taken'.lowered f.it) rest p))
         → Seq K 𝓛 (Token ∷ ‵ Own ∷ Γ) (runs C Λ E (seq (call name xs d) rest) p)
-    calls-field {K} {Γ} {E} {p} {xs} {d} {rest} {name} {Says} t b os k =
+    calls_field {K} {Γ} {E} {p} {xs} {d} {rest} {name} {Says} t b os k =
         use2 𝓛 (raw (b.contract.pre b.asked) ⊛ ‵ Own) b.goes $ split t $
         calls_at t fm b.contract b.known b.asked os (λ u.
         use1 𝓛 (later (some (λ (f : Taken). (Token ⊛ ‵ ((TakenT.the_row).own_val f (u ∷ []))) ⊛ raw (b.said f)))) (b.gives u) $ await t tt $ pick t (λ f.
@@ -175,23 +175,23 @@ module _ {M : Type 1} {𝓤 : Ura M} (𝓛 : Logic 𝓤) (κ : Lft) (q : Share) 
         → Seq K 𝓛 (Token ∷ ‵ Own ∷ Δ) (runs C Λ E (seq (assign (place i []) (rv_opd (copy (place 2 (field 0 ∷ []))))) (seq (assign (place j []) (rv_opd (copy (place 2 (field 1 ∷ [])))))
         (seq (call name xs (place m [])) rest))) p)
     takes {i = i} {j = j} {m = m} t c n ready ty fits os k =
-        assigns t (of_opd t (load t (within t (λ z. (ready z).0) (fld t refl (stop t))) (look-field t (slot 2) 0 (λ z. (ready z).4) refl)))
+        assigns t (of_opd t (load t (within t (λ z. (ready z).0) (fld t refl (stop t))) (look_field t (slot 2) 0 (λ z. (ready z).4) refl)))
         (within t (λ z. (ready z).1) (stop t)) (init t (slot i) (λ z. (ready z).5) (ty, wt)) $
-        assigns t (of_opd t (load t (within t (λ z. (ready z).0) (fld t refl (stop t))) (look-field t (slot 2) 1 (λ z. (ready z).6) refl)))
+        assigns t (of_opd t (load t (within t (λ z. (ready z).0) (fld t refl (stop t))) (look_field t (slot 2) 1 (λ z. (ready z).6) refl)))
         (within t (λ z. (ready z).2) (stop t)) (init t (slot j) (λ z. (ready z).7) (tt, record { fits = fits })) $
-        calls-field t c
+        calls_field t c
         (os (and_then t (held t (slot i) (λ z. (ready z).1) (λ z. (ready z).8)) (and_then t (held t (slot j) (λ z. (ready z).2) (λ z. (ready z).9)) (no_more t))))
         (λ f e. land t (within t (λ z. (ready z).3) (stop t)) (init t (slot m) (λ z. (ready z).10) (typed f)) $ k f e)
 
     -- the reader is moved on, to the place behind a field
     pub moves : {K : Type 0} {Δ : List (Item 𝓤)} {E : Env 𝓤 H} {p : PostOf 𝓤 H} {m n b bₘ : ℕ} {rest : Body} → K → (f : Found)
-        → spot_of 𝓤 H E 2 ≡ (readerTy, b, zero) → spot_of 𝓤 H E m ≡ (Taken'.mir, bₘ, zero)
+        → spot_of 𝓤 H E 2 ≡ (reader_ty, b, zero) → spot_of 𝓤 H E m ≡ (Taken'.mir, bₘ, zero)
         → nth 𝓛 (cell m) Δ ≡ taken bₘ f → nth 𝓛 (cell 2) Δ ≡ reader b n
         → Step K 𝓛 (Token ∷ ‵ Own ∷ put 𝓛 (cell 2) (reader b f.it.next) Δ) (runs C Λ E rest p)
         (Token ∷ ‵ Own ∷ Δ) (runs C Λ E (seq (assign (place 2 (field 1 ∷ [])) (rv_opd (copy (place m (field 1 ∷ []))))) rest) p)
     moves {m = m} t f at-2 at-m has-m has-2 =
-        assigns t (of_opd t (load t (within t at-m (fld t refl (stop t))) (look-field t (slot m) 1 has-m refl)))
-        (within t at-2 (fld t refl (stop t))) (store-field t (slot 2) 1 has-2 refl (tt, record { fits = next_fits f }))
+        assigns t (of_opd t (load t (within t at-m (fld t refl (stop t))) (look_field t (slot m) 1 has-m refl)))
+        (within t at-2 (fld t refl (stop t))) (store_field t (slot 2) 1 has-2 refl (tt, record { fits = next_fits f }))
 
     -- the call of `gathered`: what is passed, what it asks, what it says, and the call as a step
     module _ (mem : Memory → SProp 𝓤) (run : Routine → Fun 𝓤) (known-gathered : Triple 𝓤 (C #parser·gathered) (Gathered 𝓛 mem run))
@@ -200,35 +200,35 @@ module _ {M : Type 1} {𝓤 : Ura M} (𝓛 : Logic 𝓤) (κ : Lft) (q : Share) 
       all_found = (f₀.it, (f₁.it, (f₂.it, (f₃.it, (f₄.it, (f₅.it, (f₆.it, (f₇.it, (f₈.it, (f₉.it, (f₁₀.it, (f₁₁.it, tt))))))))))))
 
       -- the same as the machine has them
-      abbrev pub all-lowered : Vals gathered.signature tt
-      all-lowered =
+      abbrev pub all_lowered : Vals gathered.signature tt
+      all_lowered =
           let low : Found → List Val = λ f. Taken'.lowered f.it ∷ [] in
           (low f₀, (low f₁, (low f₂, (low f₃, (low f₄, (low f₅, (low f₆, (low f₇, (low f₈, (low f₉, (low f₁₀, (low f₁₁, tt))))))))))))
 
-      abbrev pub to-gathered : (Gathered 𝓛 mem run).Ghost
-      to-gathered = ((tt, tt, tt, all_found, all-lowered), tt)
+      abbrev pub to_gathered : (Gathered 𝓛 mem run).Ghost
+      to_gathered = ((tt, tt, tt, all_found, all_lowered), tt)
 
       abbrev pub codes : Codes
-      codes = gatheredOf f₀.it f₁.it f₂.it f₃.it f₄.it f₅.it f₆.it f₇.it f₈.it f₉.it f₁₀.it f₁₁.it
+      codes = gathered_of f₀.it f₁.it f₂.it f₃.it f₄.it f₅.it f₆.it f₇.it f₈.it f₉.it f₁₀.it f₁₁.it
 
-      goes-gathered : ent 𝓤 (emp 𝓤) ((Gathered 𝓛 mem run).pre to-gathered)
-      goes-gathered =
+      goes_gathered : ent 𝓤 (emp 𝓤) ((Gathered 𝓛 mem run).pre to_gathered)
+      goes_gathered =
           qed 𝓛 [] ∵ nothing ! $ joined ! f₁₁ $ joined ! f₁₀ $ joined ! f₉ $ joined ! f₈ $ joined ! f₇ $ joined ! f₆ $ joined ! f₅ $
           joined ! f₄ $ joined ! f₃ $ joined ! f₂ $ joined ! f₁ $ joined ! f₀ $ nothing ! $ join ! $ frame ! $ done !
 
-      gathered-said : (r : Codes) → ent 𝓤 (ensured 𝓛 gathered.ended (gathered.clauses 𝓛 mem run) tt all_found tt r) (fact 𝓤 (r ≡ codes))
-      gathered-said r = ex_e 𝓤 _ (λ ws. snd∗ 𝓤 (sem 𝓛 (lasts gathered.ended tt all_found ws)) (fact 𝓤 (r ≡ codes)))
+      gathered_said : (r : Codes) → ent 𝓤 (ensured 𝓛 gathered.ended (gathered.clauses 𝓛 mem run) tt all_found tt r) (fact 𝓤 (r ≡ codes))
+      gathered_said r = ex_e 𝓤 _ (λ ws. snd∗ 𝓤 (sem 𝓛 (lasts gathered.ended tt all_found ws)) (fact 𝓤 (r ≡ codes)))
 
-      pub calls-gathered : {K : Type 0} {Γ : List (Item 𝓤)} {E : Env 𝓤 H} {p : PostOf 𝓤 H} {xs : List Operand} {d : Place} {rest : Body} → K
-          → Opds K 𝓛 (raw ((Gathered 𝓛 mem run).pre to-gathered) ∷ Γ) E xs ((Gathered 𝓛 mem run).args to-gathered)
+      pub calls_gathered : {K : Type 0} {Γ : List (Item 𝓤)} {E : Env 𝓤 H} {p : PostOf 𝓤 H} {xs : List Operand} {d : Place} {rest : Body} → K
+          → Opds K 𝓛 (raw ((Gathered 𝓛 mem run).pre to_gathered) ∷ Γ) E xs ((Gathered 𝓛 mem run).args to_gathered)
           → ((r : Codes) (u : Val) → r ≡ codes → Holds (has_ty Codes'.mir u) × WT u → Seq K 𝓛 (‵ ((CodesT.the_row).own_val r (u ∷ [])) ∷ Γ) (lands C Λ E d u rest p))
           → Seq K 𝓛 Γ (runs C Λ E (seq (call #parser·gathered xs d) rest) p)
-      calls-gathered t os k =
-          use0 𝓛 (raw ((Gathered 𝓛 mem run).pre to-gathered)) goes-gathered $
-          calls_at t fm (Gathered 𝓛 mem run) known-gathered to-gathered os (λ u.
+      calls_gathered t os k =
+          use0 𝓛 (raw ((Gathered 𝓛 mem run).pre to_gathered)) goes_gathered $
+          calls_at t fm (Gathered 𝓛 mem run) known-gathered to_gathered os (λ u.
           use1 𝓛
           (later (some (λ (r : Codes).
           (‵ ftrue ⊛ ‵ ((CodesT.the_row).own_val r (u ∷ []))) ⊛ raw (ensured 𝓛 gathered.ended (gathered.clauses 𝓛 mem run) tt all_found tt r))))
           (id⊢ 𝓤 _) $ await t tt $ pick t (λ r.
-          split t $ move t (1 ∷ []) $ use1 𝓛 (raw (fact 𝓤 (r ≡ codes))) (gathered-said r) $ heard t (r ≡ codes) (λ e. split t $ drop t $
+          split t $ move t (1 ∷ []) $ use1 𝓛 (raw (fact 𝓤 (r ≡ codes))) (gathered_said r) $ heard t (r ≡ codes) (λ e. split t $ drop t $
           peeks t CodesT.the_row (Is CodesT.the_row) (shows 𝓛 CodesT.the_row) r (u ∷ []) (λ is. k r u e ((LL.lawful CodesT.the_type Codes'.the_laws 𝓛).typed r _ is).0))))

@@ -31,15 +31,15 @@ module _ {M : Type 1} {𝓤 : Ura M} {𝓛 : Logic 𝓤} {K : Type 0} {Γ : List
   held t n at_i at_n = load t (within t at_i (stop t)) (look t n at_n)
 
   -- reading and storing a field of a struct whose cell is item n of the context
-  pub look-field : K → (n k : ℕ) {q : Share} {ν : Sym} {τs : Tys} {b o : ℕ} {vs : Vals} {τ : Ty} {d : ℕ} → nth 𝓛 n Γ ≡ ‵ (fat q (ty_struct ν τs) b o (vstruct vs)) → field_at zero τs k ≡ some (τ, d)
+  pub look_field : K → (n k : ℕ) {q : Share} {ν : Sym} {τs : Tys} {b o : ℕ} {vs : Vals} {τ : Ty} {d : ℕ} → nth 𝓛 n Γ ≡ ‵ (fat q (ty_struct ν τs) b o (vstruct vs)) → field_at zero τs k ≡ some (τ, d)
       → Reads K 𝓛 Γ τ b (o + d) (get_v vs k)
-  look-field t n k {q} {ν} {τs} {b} {o} {vs} {τ} {d} e at-k =
+  look_field t n k {q} {ν} {τs} {b} {o} {vs} {τ} {d} e at-k =
       look_in t n (subst (λ (j : Item 𝓤). Part K 𝓛 j q τ b (o + d) (get_v vs k) (λ u. ‵ (fat q (ty_struct ν τs) b o (vstruct (set_v vs k u))))) (sym e) (sub t k at-k (whole t)))
 
-  pub store-field : K → (n k : ℕ) {ν : Sym} {τs : Tys} {b o : ℕ} {vs : Vals} {τ : Ty} {d : ℕ} {u : Val}
+  pub store_field : K → (n k : ℕ) {ν : Sym} {τs : Tys} {b o : ℕ} {vs : Vals} {τ : Ty} {d : ℕ} {u : Val}
       → nth 𝓛 n Γ ≡ ‵ (fat full_share (ty_struct ν τs) b o (vstruct vs)) → field_at zero τs k ≡ some (τ, d) → Holds (has_ty τ u) × WT u
       → Writes K 𝓛 Γ τ b (o + d) u (put 𝓛 n (‵ (fat full_share (ty_struct ν τs) b o (vstruct (set_v vs k u)))) Γ)
-  store-field t n k {ν} {τs} {b} {o} {vs} {τ} {d} e at-k wt =
+  store_field t n k {ν} {τs} {b} {o} {vs} {τ} {d} e at-k wt =
       store_in t n (subst (λ (j : Item 𝓤). Part K 𝓛 j full_share τ b (o + d) (get_v vs k) (λ u. ‵ (fat full_share (ty_struct ν τs) b o (vstruct (set_v vs k u))))) (sym e) (sub t k at-k (whole t))) wt
 
   -- freeing the first local variable: its cell is item n of the context, and the item behind it frees it

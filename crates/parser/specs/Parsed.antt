@@ -2,11 +2,11 @@
 use Rattle.std.specs.Prelude.{ℕ, Bool, cond, not, ◌&&◌, List, [], ◌∷◌, ◌++◌, eqb, ltb, length, take, replicate}
 use Rattle.kinds.specs.Tests.{all}
 use Rattle.kinds.specs.declared.Forward.{Forward}
-use Rattle.kinds.specs.Answers.{forwardAt, wire, forwardWire, forwardError}
-use Rattle.kinds.specs.Places.{eventLength, highestPair}
+use Rattle.kinds.specs.Answers.{forward_at, wire, forward_wire, forward_error}
+use Rattle.kinds.specs.Places.{event_length, highest_pair}
 use Rattle.fields.specs.Fields.{fields_of}
-use Rattle.names.specs.Names.{unknown, answerAt, noFwdErr, columns}
-use Rattle.names.specs.Columns.{pairCode, requestCode, retToSrcCode, doNotGoToSDCode, exclCode, tagCode, responseCode, tagOpCode, respErrCode, forwardCode, final_code, fwdErrCode}
+use Rattle.names.specs.Names.{unknown, answer_at, no_fwd_err, columns}
+use Rattle.names.specs.Columns.{pair_code, request_code, ret_to_src_code, do_not_go_to_sd_code, excl_code, tag_code, response_code, tag_op_code, resp_err_code, forward_code, final_code, fwd_err_code}
 use Rattle.parser.specs.declared.ParsedLine.{ParsedLine}
 
 -- the code of each field in its column; a missing field is unknown
@@ -16,48 +16,48 @@ codes_of (column ∷ others) [] = unknown ∷ codes_of others []
 codes_of (column ∷ others) (field ∷ fields) = column field ∷ codes_of others fields
 
 -- the codes of a line's fields, in the order of the header
-abbrev pub lineCodes : List ℕ → List ℕ
-lineCodes line = codes_of columns (fields_of line)
+abbrev pub line_codes : List ℕ → List ℕ
+line_codes line = codes_of columns (fields_of line)
 
 -- the column knows the field
 abbrev pub known : ℕ → Bool
 known code = not (eqb code unknown)
 
 -- - stands in both of forward and fwdErr, or in neither
-abbrev pub dashesAgree : List ℕ → Bool
-dashesAgree codes = cond (eqb (forwardCode codes) 0) (eqb (fwdErrCode codes) noFwdErr) (not (eqb (fwdErrCode codes) noFwdErr))
+abbrev pub dashes_agree : List ℕ → Bool
+dashes_agree codes = cond (eqb (forward_code codes) 0) (eqb (fwd_err_code codes) no_fwd_err) (not (eqb (fwd_err_code codes) no_fwd_err))
 
 -- twelve fields, each known in its column, and - in both of forward and fwdErr or in neither
-unfoldable pub wellFormed : List ℕ → Bool
-wellFormed line = eqb (length (fields_of line)) (length columns) && all known (lineCodes line) && dashesAgree (lineCodes line)
+unfoldable pub well_formed : List ℕ → Bool
+well_formed line = eqb (length (fields_of line)) (length columns) && all known (line_codes line) && dashes_agree (line_codes line)
 
 -- what a line says is forwarded, by its columns forward and fwdErr
-abbrev pub sentOf : List ℕ → Forward
-sentOf codes = forwardAt (forwardCode codes) (fwdErrCode codes)
+abbrev pub sent_of : List ℕ → Forward
+sent_of codes = forward_at (forward_code codes) (fwd_err_code codes)
 
 -- the event's bytes, from the codes of the fields: bytes 5 to 8 come from the response, bytes 11, 12 and 14 from what is forwarded
 -- (definition 8.4)
-unfoldable pub eventOf : List ℕ → List ℕ
-eventOf codes =
-    requestCode codes ∷
-    retToSrcCode codes ∷
-    doNotGoToSDCode codes ∷
-    exclCode codes ∷
-    tagCode codes ∷
-    (take 4 (wire (answerAt (responseCode codes)))
-    ++ (tagOpCode codes ∷ respErrCode codes ∷ (forwardWire (sentOf codes) ++ (final_code codes ∷ forwardError (sentOf codes) ∷ []))))
+unfoldable pub event_of : List ℕ → List ℕ
+event_of codes =
+    request_code codes ∷
+    ret_to_src_code codes ∷
+    do_not_go_to_sd_code codes ∷
+    excl_code codes ∷
+    tag_code codes ∷
+    (take 4 (wire (answer_at (response_code codes)))
+    ++ (tag_op_code codes ∷ resp_err_code codes ∷ (forward_wire (sent_of codes) ++ (final_code codes ∷ forward_error (sent_of codes) ∷ []))))
 
 -- an accepted line: its pair and its event
-abbrev pub parsedAs : ℕ → List ℕ → ParsedLine
-parsedAs pair event = record { refusal = record { 0 = 0 }; pair = record { 0 = pair }; event = event }
+abbrev pub parsed_as : ℕ → List ℕ → ParsedLine
+parsed_as pair event = record { refusal = record { 0 = 0 }; pair = record { 0 = pair }; event = event }
 
 -- a refused line: its number, pair 0 and an event of zeros
-abbrev pub refusedParse : ℕ → ParsedLine
-refusedParse number = record { refusal = record { 0 = number }; pair = record { 0 = 0 }; event = replicate eventLength 0 }
+abbrev pub refused_parse : ℕ → ParsedLine
+refused_parse number = record { refusal = record { 0 = number }; pair = record { 0 = 0 }; event = replicate event_length 0 }
 
 -- a line parsed: 8 if it is not well formed, then 3 for a pair above 65,535, else its pair and its event (definition 8.7, 8.8)
 unfoldable pub parsed : List ℕ → ParsedLine
 parsed line =
-    cond (wellFormed line)
-    (cond (ltb highestPair (pairCode (lineCodes line))) (refusedParse 3) (parsedAs (pairCode (lineCodes line)) (eventOf (lineCodes line))))
-    (refusedParse 8)
+    cond (well_formed line)
+    (cond (ltb highest_pair (pair_code (line_codes line))) (refused_parse 3) (parsed_as (pair_code (line_codes line)) (event_of (line_codes line))))
+    (refused_parse 8)

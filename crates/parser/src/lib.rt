@@ -1,8 +1,8 @@
 // Parses a line of the bench sheet: its pair and its event, or why it is refused (definition 8.3, 8.4, 8.7).
 ghost use Rattle.std.specs.Prelude.{◌≡◌, map};
 ghost use Rattle.kinds.specs.Tests.{all};
-ghost use Rattle.parser.specs.Parsed.{known, dashesAgree, eventOf, parsed, refusedParse};
-ghost use Rattle.parser.specs.Code.{takenAt, gatheredOf, allTaken, codesIn, asByte, line_of};
+ghost use Rattle.parser.specs.Parsed.{known, dashes_agree, event_of, parsed, refused_parse};
+ghost use Rattle.parser.specs.Code.{taken_at, gathered_of, all_taken, codes_in, as_byte, line_of};
 
 use kinds::{EVENT_BYTES, Forward, FwdState, HIGHEST_PAIR, PairNumber, Refusal, RespErr};
 use names::columns;
@@ -46,7 +46,7 @@ struct Found {
 
 // Reads the field at an offset in the column with this number; unknown past the end of the line.
 fn field_at(number: usize, line: &[u8], at: usize) -> Taken
-    ensures { result ≡ takenAt number line.now at }
+    ensures { result ≡ taken_at number line.now at }
 {
     if line.len() < at {
         return Taken {
@@ -77,7 +77,7 @@ pub fn gathered(
     after: Taken,
     last: Taken,
 ) -> Codes
-    ensures { result ≡ gatheredOf pair request ret sd excl tag response op error forward after last }
+    ensures { result ≡ gathered_of pair request ret sd excl tag response op error forward after last }
 {
     Codes {
         codes: [
@@ -100,7 +100,7 @@ pub fn gathered(
 
 // Reads the twelve fields one after another.
 fn take_all(line: &[u8]) -> Codes
-    ensures { result ≡ allTaken line.now }
+    ensures { result ≡ all_taken line.now }
 {
     let mut fields = Fields { line, at: 0 };
     let pair = field_at(columns::PAIR, fields.line, fields.at);
@@ -147,7 +147,7 @@ fn all_known(codes: &[u32]) -> bool
 
 // Whether `-` stands in both of forward and fwdErr, or in neither.
 pub fn dashes_agree(codes: [u32; COLUMNS]) -> bool
-    ensures { result ≡ dashesAgree codes }
+    ensures { result ≡ dashes_agree codes }
 {
     let no_forward = codes[columns::FORWARD] == FwdState::NONE.0 as u32;
     let no_error = codes[columns::FWD_ERR] == names::NO_FWD_ERR as u32;
@@ -156,7 +156,7 @@ pub fn dashes_agree(codes: [u32; COLUMNS]) -> bool
 
 // The codes of a line's fields, and whether it is well formed: twelve fields, each known in its column, and the dashes agree.
 fn codes_of(line: &[u8]) -> Found
-    ensures { result ≡ codesIn line.now }
+    ensures { result ≡ codes_in line.now }
 {
     let taken = take_all(line);
     let codes = taken.codes;
@@ -169,7 +169,7 @@ fn codes_of(line: &[u8]) -> Found
 
 // The codes as bytes.
 fn as_bytes(codes: [u32; COLUMNS]) -> [u8; COLUMNS]
-    ensures { result ≡ map asByte codes }
+    ensures { result ≡ map as_byte codes }
 {
     let mut bytes = [0u8; COLUMNS];
     let mut i: usize = 0;
@@ -182,7 +182,7 @@ fn as_bytes(codes: [u32; COLUMNS]) -> [u8; COLUMNS]
 
 // The event's bytes, from the codes of the fields (definition 8.4).
 fn event_of(codes: [u8; COLUMNS]) -> [u8; EVENT_BYTES]
-    ensures { result ≡ eventOf codes }
+    ensures { result ≡ event_of codes }
 {
     let answer = names::answer(codes[columns::RESPONSE]).wire();
     let state = FwdState(codes[columns::FORWARD]);
@@ -210,7 +210,7 @@ fn event_of(codes: [u8; COLUMNS]) -> [u8; EVENT_BYTES]
 
 // A refused line: pair 0 and an event of zeros.
 pub fn refused(refusal: Refusal) -> ParsedLine
-    ensures { result ≡ refusedParse refusal.0 }
+    ensures { result ≡ refused_parse refusal.0 }
 {
     ParsedLine {
         refusal,

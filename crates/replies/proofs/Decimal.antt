@@ -10,15 +10,15 @@ use borrow.Author.Tests.{lt-ltb, le-ltb}
 use lib.Dec.{ltb}
 use lib.ListN.{length, take, drop, set, length-append, length-set}
 use lib.Seq.{take-set-le, drop-cons, drop-set-lt, get_or-set_same, set_split, append_snoc}
-use Rattle.replies.specs.Replies.{digit, decimalTextIn, decimalText}
-use Rattle.replies.specs.Code.{twoDigits}
+use Rattle.replies.specs.Replies.{digit, decimal_text_in, decimal_text}
+use Rattle.replies.specs.Code.{two_digits}
 
 -- every number below this has at most twenty digits
 abbrev pub most : ℕ
 most = 100000000000000000000
 
 -- allowing one more digit than needed changes nothing
-more : (f n : ℕ) → n < 10 ^ suc f → decimalTextIn f n ≡ decimalTextIn (suc f) n
+more : (f n : ℕ) → n < 10 ^ suc f → decimal_text_in f n ≡ decimal_text_in (suc f) n
 more zero n h =
     ap (λ (d : ℕ). digit d ∷ []) (mod-eq_of_lt h)
     ∙ sym (ap (λ (b : Bool). cond b (digit n ∷ []) ((digit (n / 10 % 10) ∷ []) ++ digit (n % 10) ∷ [])) (lt-ltb n 10 h))
@@ -27,101 +27,101 @@ more (suc f) n h =
     (more f (n / 10) (omega (arith, pow-succ' 10 (suc f))))
 
 -- a number below ten
-pub decimal-small : (n : ℕ) → n < 10 → decimalText n ≡ digit (n % 10) ∷ []
-unfolding decimalText
-decimal-small n h =
-    ap (λ (b : Bool). cond b (digit n ∷ []) (decimalTextIn 18 (n / 10) ++ digit (n % 10) ∷ [])) (lt-ltb n 10 h)
+pub decimal_small : (n : ℕ) → n < 10 → decimal_text n ≡ digit (n % 10) ∷ []
+unfolding decimal_text
+decimal_small n h =
+    ap (λ (b : Bool). cond b (digit n ∷ []) (decimal_text_in 18 (n / 10) ++ digit (n % 10) ∷ [])) (lt-ltb n 10 h)
     ∙ ap (λ (d : ℕ). digit d ∷ []) (sym (mod-eq_of_lt h))
 
 -- any other number: the digits of its tens, then its last digit
-pub decimal_step : (n : ℕ) → 9 < n → n < most → decimalText n ≡ decimalText (n / 10) ++ digit (n % 10) ∷ []
-unfolding decimalText
+pub decimal_step : (n : ℕ) → 9 < n → n < most → decimal_text n ≡ decimal_text (n / 10) ++ digit (n % 10) ∷ []
+unfolding decimal_text
 decimal_step n h k =
-    ap (λ (b : Bool). cond b (digit n ∷ []) (decimalTextIn 18 (n / 10) ++ digit (n % 10) ∷ [])) (le-ltb n 10 h)
+    ap (λ (b : Bool). cond b (digit n ∷ []) (decimal_text_in 18 (n / 10) ++ digit (n % 10) ∷ [])) (le-ltb n 10 h)
     ∙ ap (λ (s : List ℕ). s ++ digit (n % 10) ∷ []) (more 18 (n / 10) (omega arith))
 
 -- a number of two digits
-pub decimal-two : (n : ℕ) → 9 < n → n < 100 → decimalText n ≡ twoDigits n
-decimal-two n h k =
+pub decimal_two : (n : ℕ) → 9 < n → n < 100 → decimal_text n ≡ two_digits n
+decimal_two n h k =
     decimal_step n h (omega arith)
-    ∙ ap (λ (s : List ℕ). s ++ digit (n % 10) ∷ []) (decimal-small (n / 10) (omega arith))
+    ∙ ap (λ (s : List ℕ). s ++ digit (n % 10) ∷ []) (decimal_small (n / 10) (omega arith))
     ∙ ap (λ (d : ℕ). digit d ∷ digit (n % 10) ∷ []) (mod-eq_of_lt (omega arith))
 
 -- a number of more digits: the digits of its hundreds, then its last two digits
-pub decimal-hundreds : (n : ℕ) → 99 < n → n < most → decimalText n ≡ decimalText (n / 100) ++ twoDigits (n % 100)
-decimal-hundreds n h k =
+pub decimal_hundreds : (n : ℕ) → 99 < n → n < most → decimal_text n ≡ decimal_text (n / 100) ++ two_digits (n % 100)
+decimal_hundreds n h k =
     let hundreds : n / 10 / 10 ≡ n / 100 = omega arith in
     let tens : n / 10 % 10 ≡ n % 100 / 10 = omega arith in
     let ones : n % 10 ≡ n % 100 % 10 = omega arith in
     decimal_step n (omega arith) k
     ∙ ap (λ (s : List ℕ). s ++ digit (n % 10) ∷ []) (decimal_step (n / 10) (omega arith) (omega arith))
-    ∙ append_assoc (decimalText (n / 10 / 10)) (digit (n / 10 % 10) ∷ []) (digit (n % 10) ∷ [])
-    ∙ ap (λ (m : ℕ). decimalText m ++ digit (n / 10 % 10) ∷ digit (n % 10) ∷ []) hundreds
-    ∙ ap₂ (λ (a b : ℕ). decimalText (n / 100) ++ digit a ∷ digit b ∷ []) tens ones
+    ∙ append_assoc (decimal_text (n / 10 / 10)) (digit (n / 10 % 10) ∷ []) (digit (n % 10) ∷ [])
+    ∙ ap (λ (m : ℕ). decimal_text m ++ digit (n / 10 % 10) ∷ digit (n % 10) ∷ []) hundreds
+    ∙ ap₂ (λ (a b : ℕ). decimal_text (n / 100) ++ digit a ∷ digit b ∷ []) tens ones
 
-one-by : (b : Bool) (f n : ℕ) → 1 ≤ length (cond b (digit n ∷ []) (decimalTextIn f (n / 10) ++ digit (n % 10) ∷ []))
-one-by true f n = omega arith
-one-by false f n = omega (arith, length-append (decimalTextIn f (n / 10)) (digit (n % 10) ∷ []))
+one_by : (b : Bool) (f n : ℕ) → 1 ≤ length (cond b (digit n ∷ []) (decimal_text_in f (n / 10) ++ digit (n % 10) ∷ []))
+one_by true f n = omega arith
+one_by false f n = omega (arith, length-append (decimal_text_in f (n / 10)) (digit (n % 10) ∷ []))
 
 -- a number has at least one digit
-pub decimal-one : (n : ℕ) → 1 ≤ length (decimalText n)
-unfolding decimalText
-decimal-one n = one-by (ltb n 10) 18 n
+pub decimal_one : (n : ℕ) → 1 ≤ length (decimal_text n)
+unfolding decimal_text
+decimal_one n = one_by (ltb n 10) 18 n
 
-short-by : (b : Bool) (k f n : ℕ) → length (decimalTextIn f (n / 10)) ≤ k
-    → length (cond b (digit n ∷ []) (decimalTextIn f (n / 10) ++ digit (n % 10) ∷ [])) ≤ suc k
-short-by true k f n h = omega arith
-short-by false k f n h = omega (arith, length-append (decimalTextIn f (n / 10)) (digit (n % 10) ∷ []))
+short_by : (b : Bool) (k f n : ℕ) → length (decimal_text_in f (n / 10)) ≤ k
+    → length (cond b (digit n ∷ []) (decimal_text_in f (n / 10) ++ digit (n % 10) ∷ [])) ≤ suc k
+short_by true k f n h = omega arith
+short_by false k f n h = omega (arith, length-append (decimal_text_in f (n / 10)) (digit (n % 10) ∷ []))
 
-short-in : (k f n : ℕ) → n < 10 ^ suc k → length (decimalTextIn f n) ≤ suc k
-short-in k zero n h = omega arith
-short-in zero (suc f) n h =
-    let e : length (decimalTextIn (suc f) n) ≡ 1 =
-    ap (λ (b : Bool). length (cond b (digit n ∷ []) (decimalTextIn f (n / 10) ++ digit (n % 10) ∷ []))) (lt-ltb n 10 h) in
+short_in : (k f n : ℕ) → n < 10 ^ suc k → length (decimal_text_in f n) ≤ suc k
+short_in k zero n h = omega arith
+short_in zero (suc f) n h =
+    let e : length (decimal_text_in (suc f) n) ≡ 1 =
+    ap (λ (b : Bool). length (cond b (digit n ∷ []) (decimal_text_in f (n / 10) ++ digit (n % 10) ∷ []))) (lt-ltb n 10 h) in
     omega arith
-short-in (suc k) (suc f) n h =
-    short-by (ltb n 10) (suc k) f n (short-in k f (n / 10) (omega (arith, pow-succ' 10 (suc k))))
+short_in (suc k) (suc f) n h =
+    short_by (ltb n 10) (suc k) f n (short_in k f (n / 10) (omega (arith, pow-succ' 10 (suc k))))
 
 -- a number below 10 to the k has at most k digits
-pub decimal-short : (k n : ℕ) → n < 10 ^ suc k → length (decimalText n) ≤ suc k
-unfolding decimalText
-decimal-short k n h = short-in k 19 n h
+pub decimal_short : (k n : ℕ) → n < 10 ^ suc k → length (decimal_text n) ≤ suc k
+unfolding decimal_text
+decimal_short k n h = short_in k 19 n h
 
 -- The loop that counts digits: those counted, and those of the rest.
 
 -- k is one more than the number of digits cut off, and `rest` is what is left
 pub record Counting (n k rest : ℕ) : Type 0 where
-  pub counted : k + length (decimalText rest) ≡ 1 + length (decimalText n)
+  pub counted : k + length (decimal_text rest) ≡ 1 + length (decimal_text n)
   pub few : rest < most
   pub room : k ≤ 20
 
-pub counting-start : (n : ℕ) → n < most → Counting n 1 n
-counting-start n h = record { counted = refl; few = h; room = omega arith }
+pub counting_start : (n : ℕ) → n < most → Counting n 1 n
+counting_start n h = record { counted = refl; few = h; room = omega arith }
 
-pub counting-next : {n k rest : ℕ} → n < most → Counting n k rest → 9 < rest → Counting n (k + 1) (rest / 10)
-counting-next {n} {k} {rest} small c h =
-    let e : length (decimalText rest) ≡ length (decimalText (rest / 10)) + 1 =
-    ap length (decimal_step rest h c.few) ∙ length-append (decimalText (rest / 10)) (digit (rest % 10) ∷ []) in
-    let counted : k + 1 + length (decimalText (rest / 10)) ≡ 1 + length (decimalText n) = omega (arith, c.counted) in
+pub counting_next : {n k rest : ℕ} → n < most → Counting n k rest → 9 < rest → Counting n (k + 1) (rest / 10)
+counting_next {n} {k} {rest} small c h =
+    let e : length (decimal_text rest) ≡ length (decimal_text (rest / 10)) + 1 =
+    ap length (decimal_step rest h c.few) ∙ length-append (decimal_text (rest / 10)) (digit (rest % 10) ∷ []) in
+    let counted : k + 1 + length (decimal_text (rest / 10)) ≡ 1 + length (decimal_text n) = omega (arith, c.counted) in
     let few : rest / 10 < most = omega (arith, c.few) in
-    record { counted = counted; few = few; room = omega (arith, decimal-one (rest / 10), decimal-short 19 n small) }
+    record { counted = counted; few = few; room = omega (arith, decimal_one (rest / 10), decimal_short 19 n small) }
 
-pub counting-end : {n k rest : ℕ} → Counting n k rest → rest ≤ 9 → k ≡ length (decimalText n)
-counting-end {n} {k} {rest} c h =
-    let e : length (decimalText rest) ≡ 1 = ap length (decimal-small rest (omega arith)) in
+pub counting_end : {n k rest : ℕ} → Counting n k rest → rest ≤ 9 → k ≡ length (decimal_text n)
+counting_end {n} {k} {rest} c h =
+    let e : length (decimal_text rest) ≡ 1 = ap length (decimal_small rest (omega arith)) in
     omega (arith, c.counted)
 
 -- The loop that writes digits: those of the rest, put before those written, are the whole number.
 
 pub record Spelling (out₀ : List ℕ) (at k n : ℕ) (out : List ℕ) (i rest : ℕ) : Type 0 where
   pub few : rest < most
-  pub left : i ≡ length (decimalText rest)
+  pub left : i ≡ length (decimal_text rest)
   pub fits : at + i ≤ length out
   pub long : length out ≡ length out₀
-  pub so : take at out ++ decimalText rest ++ drop (at + i) out ≡ take at out₀ ++ decimalText n ++ drop (at + k) out₀
+  pub so : take at out ++ decimal_text rest ++ drop (at + i) out ≡ take at out₀ ++ decimal_text n ++ drop (at + k) out₀
 
-pub spelling-start : (out : List ℕ) (at k n : ℕ) → n < most → k ≡ length (decimalText n) → at + k ≤ length out → Spelling out at k n out k n
-spelling-start out at k n small e h = record { few = small; left = e; fits = h; long = refl; so = refl }
+pub spelling_start : (out : List ℕ) (at k n : ℕ) → n < most → k ≡ length (decimal_text n) → at + k ≤ length out → Spelling out at k n out k n
+spelling_start out at k n small e h = record { few = small; left = e; fits = h; long = refl; so = refl }
 
 -- a byte stored behind a text is the text's next byte
 stored : (at j d : ℕ) (out s : List ℕ) → at + j < length out
@@ -137,35 +137,35 @@ stored at j d out s h =
     ∙ ap (λ (b : List ℕ). take at out ++ b) (sym (append_assoc s (d ∷ []) (drop (at + (j + 1)) out)))
     ∙ sym (append_assoc (take at out) (s ++ d ∷ []) (drop (at + (j + 1)) out))
 
-pub spelling-next : {out₀ out : List ℕ} {at k n i rest : ℕ} → Spelling out₀ at k n out i rest → 9 < rest
+pub spelling_next : {out₀ out : List ℕ} {at k n i rest : ℕ} → Spelling out₀ at k n out i rest → 9 < rest
     → Spelling out₀ at k n (set out (at + (i - 1)) (digit (rest % 10))) (i - 1) (rest / 10)
-spelling-next {out₀} {out} {at} {k} {n} {i} {rest} c h =
+spelling_next {out₀} {out} {at} {k} {n} {i} {rest} c h =
     let d : ℕ = digit (rest % 10) in
     let j : ℕ = i - 1 in
-    let step : decimalText rest ≡ decimalText (rest / 10) ++ d ∷ [] = decimal_step rest h c.few in
-    let e : length (decimalText rest) ≡ length (decimalText (rest / 10)) + 1 = ap length step ∙ length-append (decimalText (rest / 10)) (d ∷ []) in
-    let i-is : i ≡ length (decimalText rest) = c.left in
+    let step : decimal_text rest ≡ decimal_text (rest / 10) ++ d ∷ [] = decimal_step rest h c.few in
+    let e : length (decimal_text rest) ≡ length (decimal_text (rest / 10)) + 1 = ap length step ∙ length-append (decimal_text (rest / 10)) (d ∷ []) in
+    let i-is : i ≡ length (decimal_text rest) = c.left in
     let fits : at + i ≤ length out = c.fits in
     let few : rest < most = c.few in
-    let back : j + 1 ≡ i = omega (arith, decimal-one rest) in
+    let back : j + 1 ≡ i = omega (arith, decimal_one rest) in
     let kept : length (set out (at + j) d) ≡ length out = length-set out (at + j) d in
     record {
       few = omega arith;
       left = omega arith;
-      fits = omega (arith, decimal-one rest);
+      fits = omega (arith, decimal_one rest);
       long = kept ∙ c.long;
       so =
-          stored at j d out (decimalText (rest / 10)) (omega (arith, decimal-one rest))
+          stored at j d out (decimal_text (rest / 10)) (omega (arith, decimal_one rest))
           ∙ ap₂ (λ (s : List ℕ) (m : ℕ). take at out ++ s ++ drop (at + m) out) (sym step) back
           ∙ c.so;
     }
 
 -- the first digit is written last
-pub spelling-end : {out₀ out : List ℕ} {at k n i rest : ℕ} → Spelling out₀ at k n out i rest → rest ≤ 9
-    → set out at (digit (rest % 10)) ≡ take at out₀ ++ decimalText n ++ drop (at + k) out₀
-spelling-end {out₀} {out} {at} {k} {n} {i} {rest} c h =
+pub spelling_end : {out₀ out : List ℕ} {at k n i rest : ℕ} → Spelling out₀ at k n out i rest → rest ≤ 9
+    → set out at (digit (rest % 10)) ≡ take at out₀ ++ decimal_text n ++ drop (at + k) out₀
+spelling_end {out₀} {out} {at} {k} {n} {i} {rest} c h =
     let d : ℕ = digit (rest % 10) in
-    let one : decimalText rest ≡ d ∷ [] = decimal-small rest (omega arith) in
+    let one : decimal_text rest ≡ d ∷ [] = decimal_small rest (omega arith) in
     let i-is : i ≡ 1 = c.left ∙ ap length one in
     let fits : at + i ≤ length out = c.fits in
     let next : suc at ≡ at + i = omega arith in
@@ -175,5 +175,5 @@ spelling-end {out₀} {out} {at} {k} {n} {i} {rest} c h =
     ∙ c.so
 
 -- there is room for the first digit
-pub spelling-first : {out₀ out : List ℕ} {at k n i rest : ℕ} → Spelling out₀ at k n out i rest → at < length out
-spelling-first {rest} c = omega (arith, decimal-one rest, c.left, c.fits)
+pub spelling_first : {out₀ out : List ℕ} {at k n i rest : ℕ} → Spelling out₀ at k n out i rest → at < length out
+spelling_first {rest} c = omega (arith, decimal_one rest, c.left, c.fits)

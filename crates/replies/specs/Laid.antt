@@ -18,9 +18,9 @@ lay l s =
     l
 
 -- texts written one after another
-abbrev pub layAll : Laid → List (List ℕ) → Laid
-layAll l [] = l
-layAll l (s ∷ ss) = layAll (lay l s) ss
+abbrev pub lay_all : Laid → List (List ℕ) → Laid
+lay_all l [] = l
+lay_all l (s ∷ ss) = lay_all (lay l s) ss
 
 -- texts joined into one
 abbrev pub concat : List (List ℕ) → List ℕ

@@ -1,10 +1,10 @@
 // Writes the output of the bench sheet into a buffer, byte for byte (definition 8.6, 8.7).
 ghost use Rattle.std.specs.Prelude.{◌+◌, ◌≤◌, ◌<◌, ◌≡◌, [], ◌∷◌, ◌++◌, length, take, drop};
 ghost use Rattle.text.specs.Text.{comma};
-ghost use Rattle.replies.specs.Laid.{laid, lay, layAll};
-ghost use Rattle.replies.specs.Replies.{space, decimalText, verdictText, dutyText, stateText, statesTexts};
-ghost use Rattle.replies.specs.Replies.{headerLine, answerTexts, refusalTexts};
-ghost use Rattle.replies.specs.Code.{twoDigits, explainedTexts, lastTexts, judgedTexts};
+ghost use Rattle.replies.specs.Laid.{laid, lay, lay_all};
+ghost use Rattle.replies.specs.Replies.{space, decimal_text, verdict_text, duty_text, state_text, states_texts};
+ghost use Rattle.replies.specs.Replies.{header_line, answer_texts, refusal_texts};
+ghost use Rattle.replies.specs.Code.{two_digits, explained_texts, last_texts, judged_texts};
 
 use kinds::{Duty, EventNumber, LineState, Refusal, Verdict};
 use verdicts::Finding;
@@ -54,7 +54,7 @@ pub fn put(out: &mut [u8], at: usize, text: &[u8]) -> usize
 
 // The number of digits of a number.
 fn places(n: u64) -> usize
-    ensures { result ≡ length (decimalText n) }
+    ensures { result ≡ length (decimal_text n) }
 {
     let mut k: usize = 1;
     let mut rest = n;
@@ -67,9 +67,9 @@ fn places(n: u64) -> usize
 
 // Writes the k digits of a number at an offset, the last digit first. They must fit.
 fn spell(out: &mut [u8], at: usize, k: usize, n: u64)
-    requires k_value { k ≡ length (decimalText n) }
+    requires k_value { k ≡ length (decimal_text n) }
     requires k_in_bounds { at + k ≤ length out.old }
-    ensures { out.new ≡ take at out.old ++ decimalText n ++ drop (at + k) out.old }
+    ensures { out.new ≡ take at out.old ++ decimal_text n ++ drop (at + k) out.old }
 {
     let mut i = k;
     let mut rest = n;
@@ -83,7 +83,7 @@ fn spell(out: &mut [u8], at: usize, k: usize, n: u64)
 
 // Writes a number in decimal.
 fn put_number(out: &mut [u8], at: usize, n: u64) -> usize
-    ensures { laid result out.new ≡ lay (laid at out.old) (decimalText n) }
+    ensures { laid result out.new ≡ lay (laid at out.old) (decimal_text n) }
 {
     let k = places(n);
     if out.len() < k {
@@ -99,7 +99,7 @@ fn put_number(out: &mut [u8], at: usize, n: u64) -> usize
 // Writes a verdict's name between two commas; `unknown` for a code without a name.
 fn put_verdict(out: &mut [u8], at: usize, verdict: Verdict) -> usize
     ensures { laid result out.new ≡
-        lay (laid at out.old) (comma ∷ verdictText verdict.0 ++ comma ∷ []) }
+        lay (laid at out.old) (comma ∷ verdict_text verdict.0 ++ comma ∷ []) }
 {
     let code = verdict.0;
     if code == Verdict::EXPLAINED.0 {
@@ -116,7 +116,7 @@ fn put_verdict(out: &mut [u8], at: usize, verdict: Verdict) -> usize
 
 // Writes a duty's name and a comma; `unknown` for a code without a name.
 fn put_duty(out: &mut [u8], at: usize, duty: Duty) -> usize
-    ensures { laid result out.new ≡ lay (laid at out.old) (dutyText duty.0 ++ comma ∷ []) }
+    ensures { laid result out.new ≡ lay (laid at out.old) (duty_text duty.0 ++ comma ∷ []) }
 {
     let code = duty.0;
     if code == Duty::NONE.0 {
@@ -142,7 +142,7 @@ fn put_state(out: &mut [u8], at: usize, states: u8, state: u8, spaced: &[u8]) ->
     requires state_bound { state < 7 }
     requires spaced_value { spaced.now ≡ space ∷ drop 1 spaced.now }
     ensures { laid result out.new ≡
-        lay (laid at out.old) (stateText states state (drop 1 spaced.now)) }
+        lay (laid at out.old) (state_text states state (drop 1 spaced.now)) }
 {
     if (states >> state) % 2 != 1 {
         return at;
@@ -155,7 +155,7 @@ fn put_state(out: &mut [u8], at: usize, states: u8, state: u8, spaced: &[u8]) ->
 
 // Writes the names of the states of a set, with spaces between them.
 fn put_states(out: &mut [u8], at: usize, states: u8) -> usize
-    ensures { laid result out.new ≡ layAll (laid at out.old) (statesTexts states) }
+    ensures { laid result out.new ≡ lay_all (laid at out.old) (states_texts states) }
 {
     let i = put_state(out, at, states, LineState::I.0, b" I");
     let uc = put_state(out, i, states, LineState::UC.0, b" UC");
@@ -170,7 +170,7 @@ fn put_states(out: &mut [u8], at: usize, states: u8) -> usize
 fn lay_two(out: &mut [u8], at: usize, n: u32) -> usize
     requires n_bound { n < 100 }
     requires at_in_bounds { at + 2 ≤ length out.old }
-    ensures { laid result out.new ≡ lay (laid at out.old) (twoDigits n) }
+    ensures { laid result out.new ≡ lay (laid at out.old) (two_digits n) }
 {
     lay(out, at, &[ZERO + (n / 10) as u8, ZERO + (n % 10) as u8])
 }
@@ -179,7 +179,7 @@ fn lay_two(out: &mut [u8], at: usize, n: u32) -> usize
 fn lay_upto_two(out: &mut [u8], at: usize, n: u32) -> usize
     requires n_bound { n < 100 }
     requires at_in_bounds { at + 2 ≤ length out.old }
-    ensures { laid result out.new ≡ lay (laid at out.old) (decimalText n) }
+    ensures { laid result out.new ≡ lay (laid at out.old) (decimal_text n) }
 {
     if n < 10 {
         return lay(out, at, &[ZERO + (n % 10) as u8]);
@@ -191,7 +191,7 @@ fn lay_upto_two(out: &mut [u8], at: usize, n: u32) -> usize
 fn lay_upto_four(out: &mut [u8], at: usize, n: u32) -> usize
     requires n_bound { n < 10000 }
     requires at_in_bounds { at + 4 ≤ length out.old }
-    ensures { laid result out.new ≡ lay (laid at out.old) (decimalText n) }
+    ensures { laid result out.new ≡ lay (laid at out.old) (decimal_text n) }
 {
     if n < 100 {
         return lay_upto_two(out, at, n);
@@ -204,7 +204,7 @@ fn lay_upto_four(out: &mut [u8], at: usize, n: u32) -> usize
 fn lay_upto_six(out: &mut [u8], at: usize, n: u32) -> usize
     requires n_bound { n < 1000000 }
     requires at_in_bounds { at + 6 ≤ length out.old }
-    ensures { laid result out.new ≡ lay (laid at out.old) (decimalText n) }
+    ensures { laid result out.new ≡ lay (laid at out.old) (decimal_text n) }
 {
     if n < 10_000 {
         return lay_upto_four(out, at, n);
@@ -216,7 +216,7 @@ fn lay_upto_six(out: &mut [u8], at: usize, n: u32) -> usize
 // Writes the verdict and the duty of an explained event; `unknown` for a duty without a name.
 fn lay_explained(out: &mut [u8], at: usize, duty: Duty) -> usize
     requires { at + 21 ≤ length out.old }
-    ensures { laid result out.new ≡ layAll (laid at out.old) (explainedTexts duty.0) }
+    ensures { laid result out.new ≡ lay_all (laid at out.old) (explained_texts duty.0) }
 {
     let code = duty.0;
     if code == Duty::NONE.0 {
@@ -239,7 +239,7 @@ fn lay_explained(out: &mut [u8], at: usize, duty: Duty) -> usize
 
 // Writes the names of the states of a set and the end of the line, each part where it fits.
 fn put_last(out: &mut [u8], at: usize, states: u8) -> usize
-    ensures { laid result out.new ≡ layAll (laid at out.old) (lastTexts states) }
+    ensures { laid result out.new ≡ lay_all (laid at out.old) (last_texts states) }
 {
     let named = put_states(out, at, states);
     put(out, named, b"\r\n")
@@ -248,7 +248,7 @@ fn put_last(out: &mut [u8], at: usize, states: u8) -> usize
 // Writes the names of the states of a set and the end of the line.
 fn lay_states(out: &mut [u8], at: usize, states: u8) -> usize
     requires { at + 6 ≤ length out.old }
-    ensures { laid result out.new ≡ layAll (laid at out.old) (lastTexts states) }
+    ensures { laid result out.new ≡ lay_all (laid at out.old) (last_texts states) }
 {
     if states == 1 {
         return lay(out, at, b"I\r\n");
@@ -267,7 +267,7 @@ fn lay_states(out: &mut [u8], at: usize, states: u8) -> usize
 
 // Writes what stands behind the number in an event's output line, each part where it fits.
 fn put_judged(out: &mut [u8], at: usize, found: Finding) -> usize
-    ensures { laid result out.new ≡ layAll (laid at out.old) (judgedTexts found) }
+    ensures { laid result out.new ≡ lay_all (laid at out.old) (judged_texts found) }
 {
     let judged = put_verdict(out, at, found.verdict);
     let owed = put_duty(out, judged, found.duty);
@@ -277,7 +277,7 @@ fn put_judged(out: &mut [u8], at: usize, found: Finding) -> usize
 // Writes what stands behind the number of an event that is not explained.
 fn lay_unexplained(out: &mut [u8], at: usize, found: Finding) -> usize
     requires { at + 20 ≤ length out.old }
-    ensures { laid result out.new ≡ layAll (laid at out.old) (judgedTexts found) }
+    ensures { laid result out.new ≡ lay_all (laid at out.old) (judged_texts found) }
 {
     let verdict = found.verdict.0;
     let duty = found.duty.0;
@@ -298,7 +298,7 @@ fn lay_unexplained(out: &mut [u8], at: usize, found: Finding) -> usize
 // Writes what stands behind the number in an event's output line.
 fn lay_judged(out: &mut [u8], at: usize, found: Finding) -> usize
     requires { at + 58 ≤ length out.old }
-    ensures { laid result out.new ≡ layAll (laid at out.old) (judgedTexts found) }
+    ensures { laid result out.new ≡ lay_all (laid at out.old) (judged_texts found) }
 {
     let verdict = found.verdict.0;
     if verdict == Verdict::EXPLAINED.0 {
@@ -310,7 +310,7 @@ fn lay_judged(out: &mut [u8], at: usize, found: Finding) -> usize
 
 // Writes the output line of an event, each part where it fits.
 fn put_parts(out: &mut [u8], at: usize, event: EventNumber, found: Finding) -> usize
-    ensures { laid result out.new ≡ layAll (laid at out.old) (answerTexts event.0 found) }
+    ensures { laid result out.new ≡ lay_all (laid at out.old) (answer_texts event.0 found) }
 {
     let number = event.0;
     let numbered = put_number(out, at, number as u64);
@@ -319,7 +319,7 @@ fn put_parts(out: &mut [u8], at: usize, event: EventNumber, found: Finding) -> u
 
 // Writes the output line of an event (definition 8.6).
 pub fn put_answer(out: &mut [u8], at: usize, event: EventNumber, found: Finding) -> usize
-    ensures { laid result out.new ≡ layAll (laid at out.old) (answerTexts event.0 found) }
+    ensures { laid result out.new ≡ lay_all (laid at out.old) (answer_texts event.0 found) }
 {
     let number = event.0;
     if number < 1_000_000 {
@@ -335,7 +335,7 @@ pub fn put_answer(out: &mut [u8], at: usize, event: EventNumber, found: Finding)
 
 // Writes the line that ends a refused run: the refusal number and the bad line (definition 8.7).
 pub fn put_refusal(out: &mut [u8], at: usize, refusal: Refusal, line: u64) -> usize
-    ensures { laid result out.new ≡ layAll (laid at out.old) (refusalTexts refusal.0 line) }
+    ensures { laid result out.new ≡ lay_all (laid at out.old) (refusal_texts refusal.0 line) }
 {
     let code = refusal.0;
     let number = code as u64;
@@ -348,7 +348,7 @@ pub fn put_refusal(out: &mut [u8], at: usize, refusal: Refusal, line: u64) -> us
 
 // Writes the header of the output.
 pub fn put_header(out: &mut [u8], at: usize) -> usize
-    ensures { laid result out.new ≡ lay (laid at out.old) headerLine }
+    ensures { laid result out.new ≡ lay (laid at out.old) header_line }
 {
     put(out, at, b"event,verdict,duty,states\r\n")
 }

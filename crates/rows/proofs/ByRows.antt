@@ -6,7 +6,7 @@ use mathlib.Core.List.{List}
 use Prim.Native.Nat.{ℕ}
 use lib.Dec.{eqb}
 use Rattle.kinds.specs.Tests.{all, ◌∈?◌}
-use Rattle.kinds.proofs.Lists.{In, any_found, found-any, all-at, and_left, and_right, and_both}
+use Rattle.kinds.proofs.Lists.{In, any_found, found_any, all_at, and_left, and_right, and_both}
 use Rattle.rows.specs.Rows.{Row, rows}
 use Rattle.rows.specs.Permitted.{asked, answered, tagged, holds, permitted}
 
@@ -16,13 +16,13 @@ pub record Permits (e : List ℕ) (t s s' : ℕ) : Type 0 where
   pub inside : In row rows
   pub from : eqb s row.before ≡ true
   pub to : s' ∈? row.finals ≡ true
-  pub is-asked : asked e row.table row.ret row.marked ≡ true
-  pub is-answered : answered e row.table row.answer ≡ true
-  pub is-tagged : tagged e t row.table row.before row.answer ≡ true
+  pub is_asked : asked e row.table row.ret row.marked ≡ true
+  pub is_answered : answered e row.table row.answer ≡ true
+  pub is_tagged : tagged e t row.table row.before row.answer ≡ true
 
-pub permitted-row : (e : List ℕ) (t s s' : ℕ) → permitted e t s s' ≡ true → Permits e t s s'
+pub permitted_row : (e : List ℕ) (t s s' : ℕ) → permitted e t s s' ≡ true → Permits e t s s'
 unfolding permitted
-permitted-row e t s s' h =
+permitted_row e t s s' h =
     let f = any_found (holds e t s s') rows h in
     let r = f.one in
     let a = eqb s r.before in
@@ -38,17 +38,17 @@ permitted-row e t s s' h =
       inside = f.inside;
       from = and_left a b ab;
       to = and_right a b ab;
-      is-asked = and_right (a && b) c abc;
-      is-answered = and_right (a && b && c) d abcd;
-      is-tagged = and_right (a && b && c && d) g f.passes;
+      is_asked = and_right (a && b) c abc;
+      is_answered = and_right (a && b && c) d abcd;
+      is_tagged = and_right (a && b && c && d) g f.passes;
     }
 
-pub row-permitted : (e : List ℕ) (t s s' : ℕ) → Permits e t s s' → permitted e t s s' ≡ true
+pub row_permitted : (e : List ℕ) (t s s' : ℕ) → Permits e t s s' → permitted e t s s' ≡ true
 unfolding permitted
-row-permitted e t s s' p =
-    found-any (holds e t s s') p.inside
-    (and_both (and_both (and_both (and_both p.from p.to) p.is-asked) p.is-answered) p.is-tagged)
+row_permitted e t s s' p =
+    found_any (holds e t s s') p.inside
+    (and_both (and_both (and_both (and_both p.from p.to) p.is_asked) p.is_answered) p.is_tagged)
 
 -- a test that all rows pass is passed by the row that permits the step
 pub by_rows : (test : Row → Bool) {e : List ℕ} {t s s' : ℕ} → all test rows ≡ true → (p : Permits e t s s') → test p.row ≡ true
-by_rows test h p = all-at test h p.inside
+by_rows test h p = all_at test h p.inside

@@ -1,10 +1,10 @@
 // What the rows of the tables ask of an event (definition 5).
 ghost use Rattle.std.specs.Prelude.{◌≡◌, cond, [], ◌∷◌};
 ghost use Rattle.kinds.specs.Tests.{◌∈?◌, same};
-ghost use Rattle.kinds.specs.Codes.{tagNotSeen, NDERR};
+ghost use Rattle.kinds.specs.Codes.{tag_not_seen, NDERR};
 ghost use Rattle.kinds.specs.Answers.{wire};
 ghost use Rattle.rows.specs.Event.{byte, seen, answer_of, tag_of};
-ghost use Rattle.rows.specs.Permitted.{rulesOf, okOrDerr, onForward, byTags, tagsAllow, asked, answered, tagged, someTag, fits};
+ghost use Rattle.rows.specs.Permitted.{rules_of, ok_or_derr, on_forward, by_tags, tags_allow, asked, answered, tagged, some_tag, fits};
 
 use kinds::{Answer, EVENT_BYTES, LineState, Request, RespErr, TagOp, TagState, place};
 
@@ -40,7 +40,7 @@ fn fits(column: u8, flag: u8) -> bool
 
 // Whether the event may have this tag state: it was seen, or none was seen.
 fn sees_tag(e: &[u8; EVENT_BYTES], tag: TagState) -> bool
-    ensures { result ≡ seen tagNotSeen (tag_of e.now) tag.0 }
+    ensures { result ≡ seen tag_not_seen (tag_of e.now) tag.0 }
 {
     (e[place::TAG] == TagState::NOT_SEEN.0) | (e[place::TAG] == tag.0)
 }
@@ -48,7 +48,7 @@ fn sees_tag(e: &[u8; EVENT_BYTES], tag: TagState) -> bool
 impl Table {
     // Whether the table is for this request.
     fn asks(self, request: Request) -> bool
-        ensures { result ≡ request.0 ∈? (rulesOf self).asks }
+        ensures { result ≡ request.0 ∈? (rules_of self).asks }
     {
         let n = request.0;
         match self {
@@ -72,7 +72,7 @@ impl Table {
 
     // The excl that the table is for; X for both.
     fn excl(self) -> u8
-        ensures { result ≡ (rulesOf self).excl }
+        ensures { result ≡ (rules_of self).excl }
     {
         match self {
             Table::B46 => X,
@@ -88,7 +88,7 @@ impl Table {
 
     // Whether an answer from this table may carry this RespErr.
     fn errors(self, answer: Answer, error: RespErr) -> bool
-        ensures { result ≡ error.0 ∈? (rulesOf self).errors answer }
+        ensures { result ≡ error.0 ∈? (rules_of self).errors answer }
     {
         let usual = ok_or_derr(answer, error);
         match self {
@@ -106,7 +106,7 @@ impl Table {
     // Whether an answer with data from this table may carry this TagOp. For B4.46 and the bench copy's rows that is a house rule, until
     // their printed tag columns are at hand (definition 5.9).
     fn on_data(self, tag: TagState, before: LineState, answer: Answer, op: TagOp) -> bool
-        ensures { result ≡ op.0 ∈? (rulesOf self).onData tag.0 before.0 answer }
+        ensures { result ≡ op.0 ∈? (rules_of self).on_data tag.0 before.0 answer }
     {
         let taken = by_tags(tag, before, answer, op);
         match self {
@@ -132,7 +132,7 @@ fn nderr(error: RespErr) -> bool
 
 // RespErr of the printed tables: OK, or DERR with data (definition 5.10).
 fn ok_or_derr(answer: Answer, error: RespErr) -> bool
-    ensures { result ≡ error.0 ∈? okOrDerr answer }
+    ensures { result ≡ error.0 ∈? ok_or_derr answer }
 {
     let ok = error.0 == RespErr::OK.0;
     let derr = error.0 == RespErr::DERR.0;
@@ -141,7 +141,7 @@ fn ok_or_derr(answer: Answer, error: RespErr) -> bool
 
 // The error field of forwarded data: OK or DERR; without a forward 0 (definition 5.13).
 fn on_forward(answer: Answer, error: RespErr) -> bool
-    ensures { result ≡ error.0 ∈? onForward answer }
+    ensures { result ≡ error.0 ∈? on_forward answer }
 {
     let n = error.0;
     let of_data = (n == RespErr::OK.0) | (n == RespErr::DERR.0);
@@ -151,7 +151,7 @@ fn on_forward(answer: Answer, error: RespErr) -> bool
 
 // TagOp of the printed tables, by the tag state, the state before and PD to Home (definition 5.9).
 fn by_tags(tag: TagState, before: LineState, answer: Answer, op: TagOp) -> bool
-    ensures { result ≡ op.0 ∈? byTags tag.0 before.0 answer }
+    ensures { result ≡ op.0 ∈? by_tags tag.0 before.0 answer }
 {
     let n = op.0;
     let invalid = n == TagOp::INVALID.0;
@@ -164,7 +164,7 @@ fn by_tags(tag: TagState, before: LineState, answer: Answer, op: TagOp) -> bool
 
 // Dirty tags exist only with UD and SD, and forbid a forward with PD (definition 5.8).
 fn tags_allow(tag: TagState, before: LineState, answer: Answer) -> bool
-    ensures { result ≡ tagsAllow tag.0 before.0 answer }
+    ensures { result ≡ tags_allow tag.0 before.0 answer }
 {
     let s = before.0;
     let exist = (s == LineState::UD.0) | (s == LineState::SD.0);
@@ -224,7 +224,7 @@ fn tagged(
 
 // Whether the row permits the event with the tag state that was seen, or with any if none was seen.
 pub fn some_tag(e: &[u8; EVENT_BYTES], table: Table, before: LineState, answer: Answer) -> bool
-    ensures { result ≡ someTag e.now table before.0 answer }
+    ensures { result ≡ some_tag e.now table before.0 answer }
 {
     let invalid = sees_tag(e, TagState::INVALID)
         & tagged(e, TagState::INVALID, table, before, answer);

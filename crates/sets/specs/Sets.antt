@@ -9,16 +9,16 @@ abbrev pub one : Bool → ℕ
 one b = cond b 1 0
 
 -- the set of all states that pass the test
-unfoldable pub setOf : (ℕ → Bool) → ℕ
-setOf p = one (p I) * 1 + one (p UC) * 2 + one (p UCE) * 4 + one (p UD) * 8 + one (p UDP) * 16 + one (p SC) * 32 + one (p SD) * 64
+unfoldable pub set_of : (ℕ → Bool) → ℕ
+set_of p = one (p I) * 1 + one (p UC) * 2 + one (p UCE) * 4 + one (p UD) * 8 + one (p UDP) * 16 + one (p SC) * 32 + one (p SD) * 64
 
 -- state n is in the set m
 unfoldable pub bit : ℕ → ℕ → Bool
 bit m n = eqb (m / 2 ^ n % 2) 1
 
 -- the set holds a Dirty state
-abbrev pub holdsDirty : ℕ → Bool
-holdsDirty m = any (λ s. dirty s && bit m s) states
+abbrev pub holds_dirty : ℕ → Bool
+holds_dirty m = any (λ s. dirty s && bit m s) states
 
 -- the union of sets
 abbrev pub union : List ℕ → ℕ

@@ -1,7 +1,7 @@
 // Sets of states as bytes, one bit per state (definition 2.2).
 ghost use Rattle.std.specs.Prelude.{◌≡◌, cond, ◌&&◌};
 ghost use Rattle.kinds.specs.Codes.{dirty};
-ghost use Rattle.sets.specs.Sets.{bit, holdsDirty, apply};
+ghost use Rattle.sets.specs.Sets.{bit, holds_dirty, apply};
 
 use kinds::LineState;
 
@@ -22,7 +22,7 @@ fn held_dirty(set: u8, state: LineState) -> bool
 
 // Whether the set holds a Dirty state.
 pub fn holds_dirty(set: u8) -> bool
-    ensures { result ≡ holdsDirty «set» }
+    ensures { result ≡ holds_dirty «set» }
 {
     held_dirty(set, LineState::I)
         | held_dirty(set, LineState::UC)

@@ -10,57 +10,57 @@ use borrow.Author.Tests.{eqb-true, ltb-true}
 use lib.Dec.{eqb, leb, ltb}
 use lib.ListN.{length, take, drop, replicate, length-append}
 use lib.Seq.{take_at}
-use Rattle.kinds.specs.Codes.{allStates}
-use Rattle.kinds.specs.Places.{mostPairs}
+use Rattle.kinds.specs.Codes.{all_states}
+use Rattle.kinds.specs.Places.{most_pairs}
 use Rattle.kinds.proofs.Lists.{and_left, and_right}
 use Rattle.replies.specs.Laid.{Laid}
-use Rattle.replies.specs.Replies.{room, headerLine}
-use Rattle.replies.proofs.Laws.{header-laid}
+use Rattle.replies.specs.Replies.{room, header_line}
+use Rattle.replies.proofs.Laws.{header_laid}
 use Rattle.sheet.specs.declared.Carried.{Carried}
 use Rattle.sheet.specs.declared.Turned.{Turned}
-use Rattle.sheet.specs.Sheet.{startTable, sheetOut}
+use Rattle.sheet.specs.Sheet.{start_table, sheet_out}
 use Rattle.sheet.specs.Pieces.{Held, held, sure, ready, eaten}
-use Rattle.sheet.specs.Runs.{emptied, withPiece, Run, reads, eats, ends, refused, done, start}
-use Rattle.sheet.specs.Turns.{wanted, is_over, answerWith, Begun, begunWith, begun, TurnLeft, inFront, endedBy, carried_of, turnLeftBy, turned, Turns, last, more}
-use Rattle.sheet.proofs.Bites.{nothing, eaten-stops}
-use Rattle.sheet.proofs.Runs.{run-is-sheet}
+use Rattle.sheet.specs.Runs.{emptied, with_piece, Run, reads, eats, ends, refused, done, start}
+use Rattle.sheet.specs.Turns.{wanted, is_over, answer_with, Begun, begun_with, begun, TurnLeft, in_front, ended_by, carried_of, turn_left_by, turned, Turns, last, more}
+use Rattle.sheet.proofs.Bites.{nothing, eaten_stops}
+use Rattle.sheet.proofs.Runs.{run_is_sheet}
 
 -- bytes put at the front of a buffer stand there
-pub in-front : (s buffer : List ℕ) → take (length s) (inFront s buffer) ≡ s
-in-front s buffer = take_at s (drop (length s) buffer) (length s) refl
+pub in_front_lem : (s buffer : List ℕ) → take (length s) (in_front s buffer) ≡ s
+in_front_lem s buffer = take_at s (drop (length s) buffer) (length s) refl
 
 -- ONE TURN: the bytes that arrived are read, and everything held is eaten into the buffer.
-pub turn-eats : (ended : Bool) (h : Held) (arrived piece out : List ℕ) → take (length h.rest + length arrived) piece ≡ h.rest ++ arrived
-    → let now-ended = endedBy (carried_of ended h) (length arrived) in
-    turned (carried_of ended h) (length arrived) piece h.table out ≡ turnLeftBy now-ended piece out (eaten now-ended (length out) (emptied (withPiece h arrived)))
+pub turn_eats : (ended : Bool) (h : Held) (arrived piece out : List ℕ) → take (length h.rest + length arrived) piece ≡ h.rest ++ arrived
+    → let now_ended = ended_by (carried_of ended h) (length arrived) in
+    turned (carried_of ended h) (length arrived) piece h.table out ≡ turn_left_by now_ended piece out (eaten now_ended (length out) (emptied (with_piece h arrived)))
 unfolding turned
-turn-eats ended h arrived piece out e =
-    let now-ended = endedBy (carried_of ended h) (length arrived) in
-    ap (λ (s : List ℕ). turnLeftBy now-ended piece out (eaten now-ended (length out) (held s h.lines h.table h.going))) e
+turn_eats ended h arrived piece out e =
+    let now_ended = ended_by (carried_of ended h) (length arrived) in
+    ap (λ (s : List ℕ). turn_left_by now_ended piece out (eaten now_ended (length out) (held s h.lines h.table h.going))) e
 
 -- ONE TURN IS ONE STEP OF A RUN: a run continues from what the turn leaves.
-pub turn-runs : {h : Held} {input out : List ℕ} (ended : Bool) (space : ℕ) (arrived : List ℕ) → (ended ≡ true → input ≡ [])
-    → Run (eaten ended space (emptied (withPiece h arrived))) input out
-    → Run h (arrived ++ input) ((eaten ended space (emptied (withPiece h arrived))).text ++ out)
-turn-runs {h} {input} {out} ended space arrived f r = reads arrived (go ended f r)
+pub turn_runs : {h : Held} {input out : List ℕ} (ended : Bool) (space : ℕ) (arrived : List ℕ) → (ended ≡ true → input ≡ [])
+    → Run (eaten ended space (emptied (with_piece h arrived))) input out
+    → Run h (arrived ++ input) ((eaten ended space (emptied (with_piece h arrived))).text ++ out)
+turn_runs {h} {input} {out} ended space arrived f r = reads arrived (go ended f r)
   where
-    go : (b : Bool) → (b ≡ true → input ≡ []) → Run (eaten b space (emptied (withPiece h arrived))) input out
-        → Run (withPiece h arrived) input ((eaten b space (emptied (withPiece h arrived))).text ++ out)
+    go : (b : Bool) → (b ≡ true → input ≡ []) → Run (eaten b space (emptied (with_piece h arrived))) input out
+        → Run (with_piece h arrived) input ((eaten b space (emptied (with_piece h arrived))).text ++ out)
     go false g x = eats space x
     go true g x =
-        subst (λ (s : List ℕ). Run (withPiece h arrived) s ((eaten true space (emptied (withPiece h arrived))).text ++ out)) (sym (g refl))
-        (ends space (subst (λ (s : List ℕ). Run (eaten true space (emptied (withPiece h arrived))) s out) (g refl) x))
+        subst (λ (s : List ℕ). Run (with_piece h arrived) s ((eaten true space (emptied (with_piece h arrived))).text ++ out)) (sym (g refl))
+        (ends space (subst (λ (s : List ℕ). Run (eaten true space (emptied (with_piece h arrived))) s out) (g refl) x))
 
 -- A TURN GOES AS FAR AS IT CAN: then a refusal has ended the run, the buffer has no room for a line, or too little of the next is known.
-pub turn-stops : (c : Carried) (got : ℕ) (piece table out : List ℕ)
+pub turn_stops : (c : Carried) (got : ℕ) (piece table out : List ℕ)
     → let r = turned c got piece table out in
     let next = r.answer.carried in
     next.going && (leb (r.answer.put + room) (length out) && sure next.ended next.lines (take next.held r.piece)) ≡ false
 unfolding turned ready
-turn-stops c got piece table out =
-    let h = eaten (endedBy c got) (length out) (held (take (c.held + got) piece) c.lines table c.going) in
-    ap (λ (s : List ℕ). h.going && (leb (length h.text + room) (length out) && sure (endedBy c got) h.lines s)) (in-front h.rest piece)
-    ∙ eaten-stops (endedBy c got) (length out) (held (take (c.held + got) piece) c.lines table c.going)
+turn_stops c got piece table out =
+    let h = eaten (ended_by c got) (length out) (held (take (c.held + got) piece) c.lines table c.going) in
+    ap (λ (s : List ℕ). h.going && (leb (length h.text + room) (length out) && sure (ended_by c got) h.lines s)) (in_front_lem h.rest piece)
+    ∙ eaten_stops (ended_by c got) (length out) (held (take (c.held + got) piece) c.lines table c.going)
 
 -- if the run is over, nothing is still to come
 over_runs : (ended : Bool) (h : Held) (input : List ℕ) → (ended ≡ true → input ≡ []) → is_over (carried_of ended h) ≡ true → Run h input []
@@ -76,7 +76,7 @@ over_runs ended h input f e = go h.going refl e
 
 -- if a turn finds the end of the input, no input is left
 pub none_left : (ended : Bool) (h : Held) (arrived input : List ℕ) → (ended ≡ true → arrived ++ input ≡ [])
-    → (wanted (carried_of ended h) ≡ true → arrived ≡ [] → input ≡ []) → endedBy (carried_of ended h) (length arrived) ≡ true → input ≡ []
+    → (wanted (carried_of ended h) ≡ true → arrived ≡ [] → input ≡ []) → ended_by (carried_of ended h) (length arrived) ≡ true → input ≡ []
 none_left ended h arrived input f g e = go ended refl e
   where
     go : (b : Bool) → ended ≡ b → b || (wanted (carried_of ended h) && eqb (length arrived) 0) ≡ true → input ≡ []
@@ -93,55 +93,55 @@ record Then (put : List ℕ) (h : Held) (input written : List ℕ) : Type 0 wher
 
 -- one more turn
 one_more : {input written text : List ℕ} (put : List ℕ) (h : Held) (ended : Bool) (space : ℕ) (arrived : List ℕ) → (ended ≡ true → input ≡ [])
-    → text ≡ (eaten ended space (emptied (withPiece h arrived))).text → Then text (eaten ended space (emptied (withPiece h arrived))) input written
+    → text ≡ (eaten ended space (emptied (with_piece h arrived))).text → Then text (eaten ended space (emptied (with_piece h arrived))) input written
     → Then put h (arrived ++ input) (put ++ written)
 one_more put h ended space arrived f e x = record {
-  out = (eaten ended space (emptied (withPiece h arrived))).text ++ x.out;
+  out = (eaten ended space (emptied (with_piece h arrived))).text ++ x.out;
   so = ap (λ (s : List ℕ). put ++ s) (x.so ∙ ap (λ (s : List ℕ). s ++ x.out) e);
-  run = turn-runs ended space arrived f x.run;
+  run = turn_runs ended space arrived f x.run;
 }
 
-turns-run : {a : Turned} {piece table out input written : List ℕ} → Turns a piece table out input written → (ended : Bool) (h : Held) (put : ℕ)
-    → a ≡ answerWith (carried_of ended h) put → take (length h.rest) piece ≡ h.rest → table ≡ h.table → (ended ≡ true → input ≡ [])
+turns_run : {a : Turned} {piece table out input written : List ℕ} → Turns a piece table out input written → (ended : Bool) (h : Held) (put : ℕ)
+    → a ≡ answer_with (carried_of ended h) put → take (length h.rest) piece ≡ h.rest → table ≡ h.table → (ended ≡ true → input ≡ [])
     → Then (take a.put out) h input written
-turns-run (last {a = a} {out = out} {input = input} q) ended h put e front t f = record {
+turns_run (last {a = a} {out = out} {input = input} q) ended h put e front t f = record {
   out = [];
   so = sym (append-nil (take a.put out));
   run = over_runs ended h input f (sym (ap (λ (x : Turned). x.over) e) ∙ q);
 }
-turns-run (more {a = a} {piece = piece} {table = table} {out = out} {input = input} {written = written} arrived piece' r not-over stands unwanted at-end is-r others) ended h put e front t f =
-    let now-ended : Bool = endedBy (carried_of ended h) (length arrived) in
-    let h' : Held = eaten now-ended (length out) (emptied (withPiece h arrived)) in
+turns_run (more {a = a} {piece = piece} {table = table} {out = out} {input = input} {written = written} arrived piece' r not-over stands unwanted at-end is-r others) ended h put e front t f =
+    let now_ended : Bool = ended_by (carried_of ended h) (length arrived) in
+    let h' : Held = eaten now_ended (length out) (emptied (with_piece h arrived)) in
     let is_c : a.carried ≡ carried_of ended h = ap (λ (x : Turned). x.carried) e in
     let stands' : take (length h.rest + length arrived) piece' ≡ h.rest ++ arrived =
     ap (λ (k : Carried). take (k.held + length arrived) piece') (sym is_c) ∙ stands
     ∙ ap (λ (k : Carried). take k.held piece ++ arrived) is_c ∙ ap (λ (s : List ℕ). s ++ arrived) front in
-    let is-left : r ≡ turnLeftBy now-ended piece' out h' =
-    is-r ∙ ap₂ (λ (k : Carried) (s : List ℕ). turned k (length arrived) piece' s out) is_c t ∙ turn-eats ended h arrived piece' out stands' in
-    let no-input : now-ended ≡ true → input ≡ [] = none_left ended h arrived input f (λ w. at-end (ap (λ (x : Turned). x.wants) e ∙ w)) in
-    one_more (take a.put out) h now-ended (length out) arrived no-input
-    (ap (λ (x : TurnLeft). take x.answer.put x.out) is-left ∙ in-front h'.text out)
-    (turns-run others now-ended h' (length h'.text) (ap (λ (x : TurnLeft). x.answer) is-left)
-    (ap (λ (x : TurnLeft). take (length h'.rest) x.piece) is-left ∙ in-front h'.rest piece') (ap (λ (x : TurnLeft). x.table) is-left) no-input)
+    let is-left : r ≡ turn_left_by now_ended piece' out h' =
+    is-r ∙ ap₂ (λ (k : Carried) (s : List ℕ). turned k (length arrived) piece' s out) is_c t ∙ turn_eats ended h arrived piece' out stands' in
+    let no-input : now_ended ≡ true → input ≡ [] = none_left ended h arrived input f (λ w. at-end (ap (λ (x : Turned). x.wants) e ∙ w)) in
+    one_more (take a.put out) h now_ended (length out) arrived no-input
+    (ap (λ (x : TurnLeft). take x.answer.put x.out) is-left ∙ in_front_lem h'.text out)
+    (turns_run others now_ended h' (length h'.text) (ap (λ (x : TurnLeft). x.answer) is-left)
+    (ap (λ (x : TurnLeft). take (length h'.rest) x.piece) is-left ∙ in_front_lem h'.rest piece') (ap (λ (x : TurnLeft). x.table) is-left) no-input)
 
 -- with room for a line and 65,536 pairs in the table, the program begins with the output's header and the start of a run
-pub begun-start : (table out : List ℕ) → length table ≡ mostPairs → room ≤ length out
-    → begun table out ≡ begunWith (answerWith (carried_of false start) (length headerLine)) startTable (inFront headerLine out)
-unfolding begun startTable headerLine
-begun-start table out long roomy =
-    ap₂ (λ (n : ℕ) (l : Laid). begunWith (answerWith (carried_of false start) l.at) (replicate n allStates) l.out) long (header-laid 0 out (omega (arith, roomy)))
+pub begun_start : (table out : List ℕ) → length table ≡ most_pairs → room ≤ length out
+    → begun table out ≡ begun_with (answer_with (carried_of false start) (length header_line)) start_table (in_front header_line out)
+unfolding begun start_table header_line
+begun_start table out long roomy =
+    ap₂ (λ (n : ℕ) (l : Laid). begun_with (answer_with (carried_of false start) l.at) (replicate n all_states) l.out) long (header_laid 0 out (omega (arith, roomy)))
 
 -- THE PROGRAM WRITES THE SHEET (definition 8): after `begin`, turns to the end write the whole output, however the input arrives.
-pub turns-write : (piece table out : List ℕ) {input written : List ℕ} → length table ≡ mostPairs → room ≤ length out
-    → Turns (begun table out).answer piece (begun table out).table (begun table out).out input written → written ≡ sheetOut input
-turns-write piece table out {input} {written} long roomy t =
-    x.so ∙ ap (λ (s : List ℕ). s ++ x.out) is-header ∙ run-is-sheet x.run
+pub turns_write : (piece table out : List ℕ) {input written : List ℕ} → length table ≡ most_pairs → room ≤ length out
+    → Turns (begun table out).answer piece (begun table out).table (begun table out).out input written → written ≡ sheet_out input
+turns_write piece table out {input} {written} long roomy t =
+    x.so ∙ ap (λ (s : List ℕ). s ++ x.out) is_header ∙ run_is_sheet x.run
   where
-    b : begun table out ≡ begunWith (answerWith (carried_of false start) (length headerLine)) startTable (inFront headerLine out)
-    b = begun-start table out long roomy
+    b : begun table out ≡ begun_with (answer_with (carried_of false start) (length header_line)) start_table (in_front header_line out)
+    b = begun_start table out long roomy
 
     x : Then (take (begun table out).answer.put (begun table out).out) start input written
-    x = turns-run t false start (length headerLine) (ap (λ (y : Begun). y.answer) b) refl (ap (λ (y : Begun). y.table) b) (λ e. absurd (false≢true e))
+    x = turns_run t false start (length header_line) (ap (λ (y : Begun). y.answer) b) refl (ap (λ (y : Begun). y.table) b) (λ e. absurd (false≢true e))
 
-    is-header : take (begun table out).answer.put (begun table out).out ≡ headerLine
-    is-header = ap (λ (y : Begun). take y.answer.put y.out) b ∙ in-front headerLine out
+    is_header : take (begun table out).answer.put (begun table out).out ≡ header_line
+    is_header = ap (λ (y : Begun). take y.answer.put y.out) b ∙ in_front_lem header_line out

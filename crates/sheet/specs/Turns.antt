@@ -1,16 +1,16 @@
 -- A run turn by turn: what `begin` and `turn` leave, whatever is lent, and what the program writes with them (definition 8.9).
 use Rattle.std.specs.Prelude.{ℕ, ◌+◌, ◌≡◌, Bool, true, false, not, ◌&&◌, ◌||◌, List, [], ◌++◌, eqb, ltb, length, take, drop, replicate}
-use Rattle.kinds.specs.Codes.{allStates}
-use Rattle.lines.specs.Seen.{tooLong}
+use Rattle.kinds.specs.Codes.{all_states}
+use Rattle.lines.specs.Seen.{too_long}
 use Rattle.replies.specs.Laid.{laid, lay}
-use Rattle.replies.specs.Replies.{headerLine}
+use Rattle.replies.specs.Replies.{header_line}
 use Rattle.sheet.specs.declared.Carried.{Carried}
 use Rattle.sheet.specs.declared.Turned.{Turned}
 use Rattle.sheet.specs.Pieces.{Held, held, eaten}
 
 -- with this many bytes held, the next line can be judged, whatever follows
 abbrev pub enough : ℕ
-enough = tooLong + 1
+enough = too_long + 1
 
 -- a read is wanted: the input has not ended, and too few bytes are held
 abbrev pub wanted : Carried → Bool
@@ -21,8 +21,8 @@ abbrev pub is_over : Carried → Bool
 is_over c = not c.going || (c.ended && (eqb c.held 0 && ltb 0 c.lines))
 
 -- the result of a turn that keeps c and has put `put` bytes into the output buffer
-abbrev pub answerWith : Carried → ℕ → Turned
-answerWith c put = record { carried = c; put = put; wants = wanted c; over = is_over c }
+abbrev pub answer_with : Carried → ℕ → Turned
+answer_with c put = record { carried = c; put = put; wants = wanted c; over = is_over c }
 
 -- what `begin` leaves: its result, and the two lent buffers
 pub record Begun : Type 0 where
@@ -30,17 +30,17 @@ pub record Begun : Type 0 where
   pub table : List ℕ
   pub out : List ℕ
 
-abbrev pub begunWith : Turned → List ℕ → List ℕ → Begun
-begunWith answer table out = record { answer = answer; table = table; out = out }
+abbrev pub begun_with : Turned → List ℕ → List ℕ → Begun
+begun_with answer table out = record { answer = answer; table = table; out = out }
 
 -- nothing is read yet
-abbrev pub nothingYet : Carried
-nothingYet = record { held = 0; lines = 0; going = true; ended = false }
+abbrev pub nothing_yet : Carried
+nothing_yet = record { held = 0; lines = 0; going = true; ended = false }
 
 -- THE WHOLE ANSWER OF `begin`: every pair has the set of all seven states, and the output's header is written
 unfoldable pub begun : List ℕ → List ℕ → Begun
 begun table out =
-    begunWith (answerWith nothingYet (lay (laid 0 out) headerLine).at) (replicate (length table) allStates) (lay (laid 0 out) headerLine).out
+    begun_with (answer_with nothing_yet (lay (laid 0 out) header_line).at) (replicate (length table) all_states) (lay (laid 0 out) header_line).out
 
 -- what `turn` leaves: its result, and the three lent buffers
 pub record TurnLeft : Type 0 where
@@ -49,29 +49,29 @@ pub record TurnLeft : Type 0 where
   pub table : List ℕ
   pub out : List ℕ
 
-abbrev pub turnLeft : Turned → List ℕ → List ℕ → List ℕ → TurnLeft
-turnLeft answer piece table out = record { answer = answer; piece = piece; table = table; out = out }
+abbrev pub turn_left : Turned → List ℕ → List ℕ → List ℕ → TurnLeft
+turn_left answer piece table out = record { answer = answer; piece = piece; table = table; out = out }
 
 -- some bytes at the front of a buffer, with the rest of the buffer unchanged
-abbrev pub inFront : List ℕ → List ℕ → List ℕ
-inFront s buffer = s ++ drop (length s) buffer
+abbrev pub in_front : List ℕ → List ℕ → List ℕ
+in_front s buffer = s ++ drop (length s) buffer
 
 -- the input has ended: it had ended before, or a read was wanted and brought nothing
-abbrev pub endedBy : Carried → ℕ → Bool
-endedBy c got = c.ended || (wanted c && eqb got 0)
+abbrev pub ended_by : Carried → ℕ → Bool
+ended_by c got = c.ended || (wanted c && eqb got 0)
 
 -- what is kept of a run between two turns
 abbrev pub carried_of : Bool → Held → Carried
 carried_of ended h = record { held = length h.rest; lines = h.lines; going = h.going; ended = ended }
 
 -- what a turn leaves if it ends with this run
-abbrev pub turnLeftBy : Bool → List ℕ → List ℕ → Held → TurnLeft
-turnLeftBy ended piece out h = turnLeft (answerWith (carried_of ended h) (length h.text)) (inFront h.rest piece) h.table (inFront h.text out)
+abbrev pub turn_left_by : Bool → List ℕ → List ℕ → Held → TurnLeft
+turn_left_by ended piece out h = turn_left (answer_with (carried_of ended h) (length h.text)) (in_front h.rest piece) h.table (in_front h.text out)
 
 -- THE WHOLE ANSWER OF `turn`, after `got` bytes arrived behind those held: all held lines are judged, as far as they are known and fit
 unfoldable pub turned : Carried → ℕ → List ℕ → List ℕ → List ℕ → TurnLeft
 turned c got piece table out =
-    turnLeftBy (endedBy c got) piece out (eaten (endedBy c got) (length out) (held (take (c.held + got) piece) c.lines table c.going))
+    turn_left_by (ended_by c got) piece out (eaten (ended_by c got) (length out) (held (take (c.held + got) piece) c.lines table c.going))
 
 -- `Turns a piece table out input written`: after a call with result a that left these buffers, the program writes `written` for this input
 pub data Turns : Turned → List ℕ → List ℕ → List ℕ → List ℕ → List ℕ → Type 0 where

@@ -1,9 +1,9 @@
 // The bench sheet judged as it arrives, piece by piece (definition 8).
 ghost use Rattle.std.specs.Prelude.{◌+◌, ◌≤◌, ◌<◌, ◌^◌, min, ◌≡◌, cond, true, [], length, replicate};
-ghost use Rattle.kinds.specs.Codes.{allStates};
-ghost use Rattle.sheet.specs.Sheet.{refuse, onHeader, onParsed, onLine, mostLines};
-ghost use Rattle.sheet.specs.Turns.{wanted, answerWith, begunWith, begun, turnLeft, turned};
-ghost use Rattle.sheet.specs.Code.{NoFault, SaidBy, Answers, AnswersOn, Roomy, nextIn, eatLeft, ate, movedDown};
+ghost use Rattle.kinds.specs.Codes.{all_states};
+ghost use Rattle.sheet.specs.Sheet.{refuse, on_header, on_parsed, on_line, most_lines};
+ghost use Rattle.sheet.specs.Turns.{wanted, answer_with, begun_with, begun, turn_left, turned};
+ghost use Rattle.sheet.specs.Code.{NoFault, SaidBy, Answers, AnswersOn, Roomy, next_in, eat_left, ate, moved_down};
 
 use kinds::{ALL_STATES, EventNumber, Refusal};
 use lines::{LONGEST, TOO_LONG};
@@ -78,7 +78,7 @@ fn refuse_line(refusal: Refusal, lines: u32, out: &mut [u8], at: usize) -> Answe
 // Judges line 1: the header, or refusal 6.
 fn judge_header(line: &[u8], out: &mut [u8], at: usize) -> Answered
     requires { Roomy out.old at }
-    ensures { Answers (onHeader [] line.now) out.old at result out.new }
+    ensures { Answers (on_header [] line.now) out.old at result out.new }
 {
     if names::is(
         line,
@@ -99,9 +99,9 @@ fn judge_parsed(
 ) -> Answered
     requires roomy { Roomy out.old at }
     requires lines_nonzero { 0 < lines }
-    requires lines_lt_most_lines { lines < mostLines }
+    requires lines_lt_most_lines { lines < most_lines }
     requires no_fault { NoFault parsed }
-    ensures { AnswersOn (onParsed lines table.old parsed)
+    ensures { AnswersOn (on_parsed lines table.old parsed)
         out.old at result out.new table.new }
 {
     let number = parsed.refusal.0;
@@ -133,7 +133,7 @@ fn judge_line(
 ) -> Answered
     requires roomy { Roomy out.old at }
     requires said_by { SaidBy lines line.now parsed }
-    ensures { AnswersOn (onLine lines table.old line.now)
+    ensures { AnswersOn (on_line lines table.old line.now)
         out.old at result out.new table.new }
 {
     if lines == 0 {
@@ -159,7 +159,7 @@ fn behind(whole: bool, end: usize) -> usize
 // The line that starts at an offset of a piece, as far as it is known. Line 1 is not parsed.
 fn next_line(piece: &[u8], start: usize, ended: bool, lines: u32) -> Next
     requires { start ≤ length piece.now }
-    ensures { result ≡ nextIn ended lines piece.now start }
+    ensures { result ≡ next_in ended lines piece.now start }
 {
     let left = piece.len() - start;
     let first = first_line::parse(&piece[start..], ended, 0 < lines);
@@ -176,7 +176,7 @@ fn next_line(piece: &[u8], start: usize, ended: bool, lines: u32) -> Next
 
 // The number of lines taken: one more if the run goes on.
 fn counted(lines: u32, goes: bool) -> u32
-    requires { goes ≡ true → lines < mostLines }
+    requires { goes ≡ true → lines < most_lines }
     ensures { result ≡ cond goes (lines + 1) lines }
 {
     if goes { lines + 1 } else { lines }
@@ -192,7 +192,7 @@ fn eat(
     table: &mut [u8],
     out: &mut [u8],
 ) -> Eaten
-    ensures { eatLeft result table.new out.new
+    ensures { eat_left result table.new out.new
         ≡ ate ended piece.now lines going table.old out.old }
 {
     let mut taken: usize = 0;
@@ -230,7 +230,7 @@ fn eat(
 // Moves `count` bytes from an offset to the front of the piece.
 fn move_down(piece: &mut [u8], from: usize, count: usize)
     requires { from + count ≤ length piece.old }
-    ensures { piece.new ≡ movedDown piece.old from count }
+    ensures { piece.new ≡ moved_down piece.old from count }
 {
     let mut at: usize = 0;
     while at < count {
@@ -241,7 +241,7 @@ fn move_down(piece: &mut [u8], from: usize, count: usize)
 
 // Gives every pair the set of all states (definition 8.5).
 fn fill(table: &mut [u8])
-    ensures { table.new ≡ replicate (length table.old) allStates }
+    ensures { table.new ≡ replicate (length table.old) all_states }
 {
     let mut pair: usize = 0;
     while pair < table.len() {
@@ -272,7 +272,7 @@ fn held_with(held: usize, got: usize, len: usize) -> usize
 
 // The result of a turn that keeps `carried` and has put `put` bytes into the output buffer.
 fn answer(carried: Carried, put: usize) -> Turned
-    ensures { result ≡ answerWith carried put }
+    ensures { result ≡ answer_with carried put }
 {
     let over = !carried.going | (carried.ended & ((carried.held == 0) & (0 < carried.lines)));
     Turned {
@@ -285,7 +285,7 @@ fn answer(carried: Carried, put: usize) -> Turned
 
 // Begins a run: every pair has the set of all states, the output's header is written, and nothing is read yet.
 pub fn begin(table: &mut [u8], out: &mut [u8]) -> Turned
-    ensures { begunWith result table.new out.new ≡ begun table.old out.old }
+    ensures { begun_with result table.new out.new ≡ begun table.old out.old }
 {
     fill(table);
     let put = replies::put_header(out, 0);
@@ -307,7 +307,7 @@ pub fn turn(
     table: &mut [u8],
     out: &mut [u8],
 ) -> Turned
-    ensures { turnLeft result piece.new table.new out.new
+    ensures { turn_left result piece.new table.new out.new
         ≡ turned carried got piece.old table.old out.old }
 {
     let wanted = wants_more(carried);

@@ -1,11 +1,11 @@
 // What one event can do to a line: the states after, found in one loop over the rows, and the duty (definition 6).
 ghost use Rattle.std.specs.Prelude.{◌≡◌, ◌<◌};
-ghost use Rattle.kinds.specs.Codes.{stateNotSeen};
-ghost use Rattle.sets.specs.Sets.{setOf};
+ghost use Rattle.kinds.specs.Codes.{state_not_seen};
+ghost use Rattle.sets.specs.Sets.{set_of};
 ghost use Rattle.rows.specs.Event.{seen};
-ghost use Rattle.steps.specs.Steps.{setsAfter, duty};
-ghost use Rattle.steps.specs.Code.{columnAt, table_at, answerAt, row_at, eventBytes, rowFits, rowAdds};
-ghost use Rattle.steps.specs.Code.{tables_of, messageOf, rowKey, eventKey};
+ghost use Rattle.steps.specs.Steps.{sets_after, duty};
+ghost use Rattle.steps.specs.Code.{column_at, table_at, answer_at, row_at, event_bytes, row_fits, row_adds};
+ghost use Rattle.steps.specs.Code.{tables_of, message_of, row_key, event_key};
 
 use kinds::{
     Answer, Channel, Duty, EVENT_BYTES, Forward, FwdState, LineState, Opcode, Request, Resp,
@@ -29,7 +29,7 @@ pub struct Row {
 // The column of a word that starts at bit `place`.
 fn column(word: u32, place: u32) -> u8
     requires { place < 32 }
-    ensures { result ≡ columnAt word place }
+    ensures { result ≡ column_at word place }
 {
     ((word >> place) % printed::COLUMN) as u8
 }
@@ -52,7 +52,7 @@ fn table_of(number: u8) -> Table
 
 // The answer, from its three columns; the rows name no error field of forwarded data, and OK stands for it.
 fn answer_of(message: u8, resp: u8, state: u8) -> Answer
-    ensures { result ≡ answerAt message resp state }
+    ensures { result ≡ answer_at message resp state }
 {
     let forward = Forward::from_state(FwdState(state), RespErr::OK);
     match message {
@@ -84,7 +84,7 @@ fn row_of(word: u32) -> Row
 
 // Whether the row permits the event, from the row's own state before.
 fn row_fits(e: &[u8; EVENT_BYTES], row: Row) -> bool
-    ensures { result ≡ rowFits e.now row }
+    ensures { result ≡ row_fits e.now row }
 {
     let table = row.table;
     if !rows::asked(e, table, row.ret, row.marked) {
@@ -97,7 +97,7 @@ fn row_fits(e: &[u8; EVENT_BYTES], row: Row) -> bool
 
 // The states that the row adds to the set of its state before.
 fn row_adds(e: &[u8; EVENT_BYTES], among: u8, row: Row) -> u8
-    ensures { result ≡ rowAdds e.now among row }
+    ensures { result ≡ row_adds e.now among row }
 {
     kinds::choose_byte(row_fits(e, row), row.finals & among, 0)
 }
@@ -107,7 +107,7 @@ const SEEN_STATES: u64 = 0x7F_40_20_10_08_04_02_01;
 
 // The states after that the event may have, as a set: the one that was seen, or all if none was seen.
 pub fn seen_states(shown: LineState) -> u8
-    ensures { result ≡ setOf (seen stateNotSeen shown.0) }
+    ensures { result ≡ set_of (seen state_not_seen shown.0) }
 {
     let at = shown.0;
     if at < 8 {
@@ -119,7 +119,7 @@ pub fn seen_states(shown: LineState) -> u8
 
 // A copy of the event's 15 bytes, so that the loop over the rows does not check the slice's length again.
 fn event_bytes(event: &[u8]) -> [u8; EVENT_BYTES]
-    ensures { result ≡ eventBytes event.now }
+    ensures { result ≡ event_bytes event.now }
 {
     let mut bytes = [0u8; EVENT_BYTES];
     let mut i: usize = 0;
@@ -144,7 +144,7 @@ fn tables_of(request: u8, error: u8) -> u8
 
 // The key's message part.
 fn message_of(channel: u8, opcode: u8) -> u8
-    ensures { result ≡ messageOf channel opcode }
+    ensures { result ≡ message_of channel opcode }
 {
     let data = kinds::choose_byte(opcode == Opcode::SNP_RESP_DATA_PTL.0, 2, 1);
     kinds::choose_byte(channel == Channel::RSP.0, 0, data)
@@ -152,7 +152,7 @@ fn message_of(channel: u8, opcode: u8) -> u8
 
 // The key of a row: the upper bits of its word, from KEY_AT on.
 fn row_key(tables: u8, message: u8, resp: u8, forward: u8) -> u32
-    ensures { result ≡ rowKey tables message resp forward }
+    ensures { result ≡ row_key tables message resp forward }
 {
     tables as u32
         + printed::RESP_WEIGHT * resp as u32
@@ -162,7 +162,7 @@ fn row_key(tables: u8, message: u8, resp: u8, forward: u8) -> u32
 
 // The key of the event. Rows with another key are skipped.
 fn event_key(e: &[u8; EVENT_BYTES]) -> u32
-    ensures { result ≡ eventKey e.now }
+    ensures { result ≡ event_key e.now }
 {
     let tables = tables_of(e[place::REQUEST], e[place::RESP_ERR]);
     let message = message_of(e[place::CHANNEL], e[place::OPCODE]);
@@ -171,7 +171,7 @@ fn event_key(e: &[u8; EVENT_BYTES]) -> u32
 
 // For each of the seven states before, the set of states after (definition 6.2).
 pub fn sets_after(event: &[u8]) -> [u8; 7]
-    ensures { result ≡ setsAfter event.now }
+    ensures { result ≡ sets_after event.now }
 {
     let e = event_bytes(event);
     let among = seen_states(LineState(e[place::STATE_AFTER]));

@@ -23,6 +23,6 @@ abbrev pub eol : List ℕ
 eol = CR ∷ LF ∷ []
 
 -- a byte put in front of the first of some texts; alone where there is none
-abbrev pub onFirst : ℕ → List (List ℕ) → List (List ℕ)
-onFirst x [] = (x ∷ []) ∷ []
-onFirst x (t ∷ ts) = (x ∷ t) ∷ ts
+abbrev pub on_first : ℕ → List (List ℕ) → List (List ℕ)
+on_first x [] = (x ∷ []) ∷ []
+on_first x (t ∷ ts) = (x ∷ t) ∷ ts

@@ -9,67 +9,67 @@ use borrow.Author.Tests.{eqb-true}
 -- the definitions that the theorems name
 use Rattle.kinds.specs.Tests.{any, ◌∈?◌}
 use Rattle.kinds.specs.Codes.{dirty, SnpMakeInvalid}
-use Rattle.sets.specs.Sets.{one, holdsDirty}
-use Rattle.rows.specs.Event.{requestOf}
+use Rattle.sets.specs.Sets.{one, holds_dirty}
+use Rattle.rows.specs.Event.{request_of}
 use Rattle.rows.specs.Permitted.{holds, permitted}
-use Rattle.steps.specs.Steps.{Step, duty, discards, noDuty, lost, discarded}
-use Rattle.event.specs.Refusals.{issueE, fault}
+use Rattle.steps.specs.Steps.{Step, duty, discards, no_duty, lost, discarded}
+use Rattle.event.specs.Refusals.{issue_e, fault}
 use Rattle.verdicts.specs.Verdicts.{finding}
-use Rattle.theorems.specs.Alone.{AcceptedEvent, dutyFrom}
-use Rattle.theorems.specs.Duties.{tellsHome, tellsRequester, nonDataError, makesInvalid}
-use Rattle.theorems.specs.Invalidating.{NothingCarried, requestsBefore, requestsNew, rowsNew, permittedBefore, dutyBefore, issueBefore, findingBefore}
+use Rattle.theorems.specs.Alone.{AcceptedEvent, duty_from}
+use Rattle.theorems.specs.Duties.{tells_home, tells_requester, non_data_error, makes_invalid}
+use Rattle.theorems.specs.Invalidating.{NothingCarried, requests_before, requests_new, rows_new, permitted_before, duty_before, issue_before, finding_before}
 -- their proofs
-use Rattle.steps.proofs.Stepping.{permitted-before}
-use Rattle.theorems.proofs.RowLaw.{row-law, requester-told, make-answer, make-error}
-use Rattle.theorems.proofs.Told.{law, make-byte, make-alone}
-use Rattle.theorems.proofs.Theorems.{duties-exact}
-use Rattle.theorems.proofs.Invalidating.{nothing-carried, discarded-only, new-request, permitted-before-too, duty-before, fault-before, finding-before}
+use Rattle.steps.proofs.Stepping.{permitted_before_lem}
+use Rattle.theorems.proofs.RowLaw.{row_law, requester_told, make_answer, make_error}
+use Rattle.theorems.proofs.Told.{law, make_byte, make_alone}
+use Rattle.theorems.proofs.Theorems.{duties_exact}
+use Rattle.theorems.proofs.Invalidating.{nothing_carried, discarded_only, new_request, permitted_before_too, duty_before_lem, fault_before, finding_before_lem}
 
 -- SNPMAKEINVALID (definition 5.12): no permitted answer to it carries data or PD.
-pub make-invalid-carries-nothing : (e : List ℕ) (t s s' : ℕ) → permitted e t s s' ≡ true → makesInvalid e ≡ true → NothingCarried e
-make-invalid-carries-nothing e t s s' h i = nothing-carried e (make-answer e t s s' h (eqb-true (requestOf e) SnpMakeInvalid i))
+pub make_invalid_carries_nothing : (e : List ℕ) (t s s' : ℕ) → permitted e t s s' ≡ true → makes_invalid e ≡ true → NothingCarried e
+make_invalid_carries_nothing e t s s' h i = nothing_carried e (make_answer e t s s' h (eqb-true (request_of e) SnpMakeInvalid i))
 
 -- Its duty byte is 4, or 3 for a non-data error, exactly when the set before holds a Dirty state, and else 0 (definition 6.3).
-pub make-invalid-duty : (e : List ℕ) (t s s' : ℕ) → permitted e t s s' ≡ true → makesInvalid e ≡ true
-    → (before : ℕ) → duty e before ≡ cond (holdsDirty before) (cond (nonDataError e) lost discarded) noDuty
-make-invalid-duty e t s s' h i before =
-    make-byte e before (dirty s) (dirty s') (law e t s s' h) (make-error e t s s' h (eqb-true (requestOf e) SnpMakeInvalid i))
+pub make_invalid_duty : (e : List ℕ) (t s s' : ℕ) → permitted e t s s' ≡ true → makes_invalid e ≡ true
+    → (before : ℕ) → duty e before ≡ cond (holds_dirty before) (cond (non_data_error e) lost discarded) no_duty
+make_invalid_duty e t s s' h i before =
+    make_byte e before (dirty s) (dirty s') (law e t s s' h) (make_error e t s s' h (eqb-true (request_of e) SnpMakeInvalid i))
 
 -- So the judge says of each state before.
-pub make-invalid-alone : (e : List ℕ) → AcceptedEvent e → (s s' : ℕ) → Step e s s' → makesInvalid e ≡ true
-    → dutyFrom e s ≡ cond (dirty s) (cond (nonDataError e) lost discarded) noDuty
-make-invalid-alone e h s s' p i =
-    duties-exact e h s s' p
-    ∙ make-alone e s (dirty s') (law e p.tag s s' p.by_rows) (permitted-before e p.tag s s' p.by_rows)
-    (make-error e p.tag s s' p.by_rows (eqb-true (requestOf e) SnpMakeInvalid i))
+pub make_invalid_alone : (e : List ℕ) → AcceptedEvent e → (s s' : ℕ) → Step e s s' → makes_invalid e ≡ true
+    → duty_from e s ≡ cond (dirty s) (cond (non_data_error e) lost discarded) no_duty
+make_invalid_alone e h s s' p i =
+    duties_exact e h s s' p
+    ∙ make_alone e s (dirty s') (law e p.tag s s' p.by_rows) (permitted_before_lem e p.tag s s' p.by_rows)
+    (make_error e p.tag s s' p.by_rows (eqb-true (request_of e) SnpMakeInvalid i))
 
 -- 4 is the byte of no other event: the request is SnpMakeInvalid, its answer is OK, and the set before holds a Dirty state.
-pub discarded-by-no-other : (e : List ℕ) (before : ℕ) → duty e before ≡ discarded → discards e && holdsDirty before ≡ true
-discarded-by-no-other = discarded-only
+pub discarded_by_no_other : (e : List ℕ) (before : ℕ) → duty e before ≡ discarded → discards e && holds_dirty before ≡ true
+discarded_by_no_other = discarded_only
 
 -- THE ROW LAW: in every permitted step of the ten requests, Dirty before is Dirty after, or exactly one duty leaves: to Home, to the Requester,
 -- lost, or discarded.
-pub dirty-stays-or-leaves : (e : List ℕ) (t s s' : ℕ) → permitted e t s s' ≡ true
+pub dirty_stays_or_leaves : (e : List ℕ) (t s s' : ℕ) → permitted e t s s' ≡ true
     → one (dirty s)
-    ≡ one (dirty s') + (one (tellsHome e) + one (tellsRequester e) + one (nonDataError e && dirty s) + one (discards e && dirty s))
-dirty-stays-or-leaves e t s s' h =
-    row-law e t s s' h
-    ∙ ap (λ b. one (dirty s') + (one (tellsHome e) + one b + one (nonDataError e && dirty s) + one (discards e && dirty s))) (requester-told e t s s' h)
+    ≡ one (dirty s') + (one (tells_home e) + one (tells_requester e) + one (non_data_error e && dirty s) + one (discards e && dirty s))
+dirty_stays_or_leaves e t s s' h =
+    row_law e t s s' h
+    ∙ ap (λ b. one (dirty s') + (one (tells_home e) + one b + one (non_data_error e && dirty s) + one (discards e && dirty s))) (requester_told e t s s' h)
 
 -- WHOSE ROWS: a row of the bench copy permits an event only if its request is one of the three.
-pub new-rows-new-requests : (e : List ℕ) (t s s' : ℕ) → any (holds e t s s') rowsNew ≡ true → requestOf e ∈? requestsNew ≡ true
-new-rows-new-requests = new-request
+pub new_rows_new_requests : (e : List ℕ) (t s s' : ℕ) → any (holds e t s s') rows_new ≡ true → request_of e ∈? requests_new ≡ true
+new_rows_new_requests = new_request
 
 -- OLD EVENTS KEEP THEIR ANSWERS: an event whose request is one of the seven is accepted or refused as before, the same steps of it are permitted,
 -- its duty is the same, and so are the set after, the verdict and the duty byte that are found for any set before.
-pub old-refusal : (e : List ℕ) → requestOf e ∈? requestsBefore ≡ true → fault issueE e ≡ fault issueBefore e
-old-refusal = fault-before
+pub old_refusal : (e : List ℕ) → request_of e ∈? requests_before ≡ true → fault issue_e e ≡ fault issue_before e
+old_refusal = fault_before
 
-pub old-steps : (e : List ℕ) (t s s' : ℕ) → requestOf e ∈? requestsBefore ≡ true → permitted e t s s' ≡ permittedBefore e t s s'
-old-steps = permitted-before-too
+pub old_steps : (e : List ℕ) (t s s' : ℕ) → request_of e ∈? requests_before ≡ true → permitted e t s s' ≡ permitted_before e t s s'
+old_steps = permitted_before_too
 
-pub old-duty : (e : List ℕ) (before : ℕ) → requestOf e ∈? requestsBefore ≡ true → duty e before ≡ dutyBefore e before
-old-duty = duty-before
+pub old_duty : (e : List ℕ) (before : ℕ) → request_of e ∈? requests_before ≡ true → duty e before ≡ duty_before e before
+old_duty = duty_before_lem
 
-pub old-finding : (e : List ℕ) (before : ℕ) → requestOf e ∈? requestsBefore ≡ true → finding e before ≡ findingBefore e before
-old-finding = finding-before
+pub old_finding : (e : List ℕ) (before : ℕ) → request_of e ∈? requests_before ≡ true → finding e before ≡ finding_before e before
+old_finding = finding_before_lem

@@ -1,6 +1,6 @@
 -- What is lent to the judge of a whole trace, and what it leaves (definition 3.3, 3.4).
 use Rattle.std.specs.Prelude.{ℕ, ◌/◌, List, length}
-use Rattle.kinds.specs.Places.{eventLength}
+use Rattle.kinds.specs.Places.{event_length}
 use Rattle.trace.specs.declared.Outcome.{Outcome}
 
 -- the six buffers as they are lent (definition 3.3)
@@ -31,4 +31,4 @@ left outcome table verdicts duties afters = record { outcome = outcome; table = 
 
 -- n, the number of events
 abbrev pub count : Lent → ℕ
-count l = length l.events / eventLength
+count l = length l.events / event_length

@@ -1,9 +1,9 @@
 // A whole trace judged, whatever is lent (definition 3.3 to 3.5).
 ghost use Rattle.std.specs.Prelude.{◌<◌, ◌≤◌, ◌≡◌, length, set};
-ghost use Rattle.kinds.specs.Places.{mostPairs, setIn, eventIn};
-ghost use Rattle.event.specs.Refusals.{issueE};
+ghost use Rattle.kinds.specs.Places.{most_pairs, set_in, event_in};
+ghost use Rattle.event.specs.Refusals.{issue_e};
 ghost use Rattle.trace.specs.Lent.{lent, left};
-ghost use Rattle.trace.specs.Refusals.{lengthsFit, badSet, lowestBadSet, faultAt, firstBadEvent, byEvents, outcomeOf};
+ghost use Rattle.trace.specs.Refusals.{lengths_fit, is_bad_set, lowest_bad_set, fault_at, first_bad_event, by_events, outcome_of};
 ghost use Rattle.trace.specs.Judged.{judged};
 ghost use Rattle.trace.specs.Code.{GoodBefore, Whole, WholeEvents, Good, OneReady, Ready, OnTable, OneJudged, AllJudged};
 
@@ -26,7 +26,7 @@ fn lengths_fit(
     duties: &[u8],
     afters: &[u8],
 ) -> bool
-    ensures { result ≡ lengthsFit (lent
+    ensures { result ≡ lengths_fit (lent
         events.now pairs.now table.now
         verdicts.now duties.now afters.now) }
 {
@@ -42,7 +42,7 @@ fn lengths_fit(
 
 // Whether a set is above 127 (refusal 2). The empty set is allowed (definition 4.4).
 fn bad_set(states: u8) -> bool
-    ensures { result ≡ badSet states }
+    ensures { result ≡ is_bad_set states }
 {
     states > ALL_STATES
 }
@@ -66,8 +66,8 @@ fn good_sets(table: &[u8]) -> usize
 
 // The lowest pair with a bad set; the number of pairs if there is none.
 fn lowest_bad_set(table: &[u8]) -> usize
-    requires { length table.now ≤ mostPairs }
-    ensures { result ≡ lowestBadSet table.now }
+    requires { length table.now ≤ most_pairs }
+    ensures { result ≡ lowest_bad_set table.now }
 {
     let mut p = good_sets(table);
     while p < table.len() {
@@ -83,7 +83,7 @@ fn lowest_bad_set(table: &[u8]) -> usize
 // The bytes of event k, which are all in the buffer: a part that starts at 15 times k (definition 3.3).
 fn whole_event(k: EventNumber, events: &[u8]) -> &[u8]
     requires { Whole events.now k.0 }
-    ensures { result.now ≡ eventIn events.now k.0 }
+    ensures { result.now ≡ event_in events.now k.0 }
 {
     let number = k.0;
     let start = (number as usize) * EVENT_BYTES;
@@ -93,7 +93,7 @@ fn whole_event(k: EventNumber, events: &[u8]) -> &[u8]
 // The refusal number of event k in a trace: 3, then 4, then 5 (definition 4.2).
 fn fault_at(k: EventNumber, events: &[u8], pairs: &[u16], table: &[u8]) -> Refusal
     requires { Whole events.now k.0 }
-    ensures { result.0 ≡ faultAt issueE events.now pairs.now table.now k.0 }
+    ensures { result.0 ≡ fault_at issue_e events.now pairs.now table.now k.0 }
 {
     let pair = k.pair_in(pairs);
     let inside = pair.within(table);
@@ -105,7 +105,7 @@ fn fault_at(k: EventNumber, events: &[u8], pairs: &[u16], table: &[u8]) -> Refus
 // The first event that is refused; the number of events if there is none.
 fn first_bad_event(events: &[u8], pairs: &[u16], table: &[u8]) -> EventNumber
     requires { WholeEvents events.now pairs.now }
-    ensures { result.0 ≡ firstBadEvent issueE events.now pairs.now table.now }
+    ensures { result.0 ≡ first_bad_event issue_e events.now pairs.now table.now }
 {
     let mut k: u32 = 0;
     while (k as usize) < pairs.len() {
@@ -122,7 +122,7 @@ fn first_bad_event(events: &[u8], pairs: &[u16], table: &[u8]) -> EventNumber
 // The outcome of the events, if the lengths fit and no set is bad.
 fn by_events(events: &[u8], pairs: &[u16], table: &[u8]) -> Outcome
     requires { WholeEvents events.now pairs.now }
-    ensures { result ≡ byEvents issueE events.now pairs.now table.now }
+    ensures { result ≡ by_events issue_e events.now pairs.now table.now }
 {
     let first = first_bad_event(events, pairs, table);
     let k = first.0;
@@ -146,7 +146,7 @@ fn outcome_of(
     duties: &[u8],
     afters: &[u8],
 ) -> Outcome
-    ensures { result ≡ outcomeOf issueE (lent
+    ensures { result ≡ outcome_of issue_e (lent
         events.now pairs.now table.now
         verdicts.now duties.now afters.now) }
 {
@@ -169,7 +169,7 @@ fn outcome_of(
 // The set of a pair that the table has.
 fn set_of(pair: PairNumber, table: &[u8]) -> u8
     requires { pair.0 < length table.now }
-    ensures { result ≡ setIn table.now pair.0 }
+    ensures { result ≡ set_in table.now pair.0 }
 {
     let number = pair.0;
     table[number as usize]
@@ -266,7 +266,7 @@ pub fn judge_trace(
     afters: &mut [u8],
 ) -> Outcome
     ensures { left result table.new verdicts.new duties.new afters.new
-        ≡ judged issueE (lent
+        ≡ judged issue_e (lent
         events.now pairs.now table.old
         verdicts.old duties.old afters.old) }
 {

@@ -1,7 +1,7 @@
 // One event judged on the set of its pair (definition 7.3, 6.3).
 ghost use Rattle.std.specs.Prelude.{◌≡◌};
 ghost use Rattle.verdicts.specs.Verdicts.{finding};
-ghost use Rattle.verdicts.specs.Looked.{noStep, dutyKept, foundBy};
+ghost use Rattle.verdicts.specs.Looked.{no_step, duty_kept, found_by};
 
 use kinds::{Duty, Refusal, Verdict};
 
@@ -15,7 +15,7 @@ pub struct Finding {
 
 // What is found where no state of the set before makes a step.
 fn no_step(before: u8) -> Finding
-    ensures { result ≡ noStep before }
+    ensures { result ≡ no_step before }
 {
     let verdict = kinds::choose_byte(before == 0, Verdict::NOT_JUDGED.0, Verdict::UNEXPLAINED.0);
     Finding {
@@ -27,7 +27,7 @@ fn no_step(before: u8) -> Finding
 
 // The duty byte of a step: nothing is lost or discarded where the set before holds no Dirty state.
 fn duty_kept(told: u8, before: u8) -> u8
-    ensures { result ≡ dutyKept told before }
+    ensures { result ≡ duty_kept told before }
 {
     if (told == Duty::LOST.0) | (told == Duty::DISCARDED.0) {
         return kinds::choose_byte(sets::holds_dirty(before), told, Duty::NONE.0);
@@ -37,7 +37,7 @@ fn duty_kept(told: u8, before: u8) -> u8
 
 // Judges an event by one lookup, for all states of the set before at once. It is the finding for every event that is not refused.
 pub fn found(event: &[u8], before: u8) -> Finding
-    ensures { result ≡ foundBy event.now before }
+    ensures { result ≡ found_by event.now before }
 {
     let effect = lookup::effect_of(event);
     let after = effect.to() & lookup::seen_after(event);

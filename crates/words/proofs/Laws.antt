@@ -15,12 +15,12 @@ use lib.Pow.{pow_pos, pow-lt, mod-pow-add}
 use Rattle.words.specs.Words.{half, word, word_of}
 
 -- n bytes from an offset on
-abbrev pub bytesFrom : List ℕ → ℕ → ℕ → List ℕ
-bytesFrom b at zero = []
-bytesFrom b at (suc n) = get_or b at 0 ∷ bytesFrom b (suc at) n
+abbrev pub bytes_from : List ℕ → ℕ → ℕ → List ℕ
+bytes_from b at zero = []
+bytes_from b at (suc n) = get_or b at 0 ∷ bytes_from b (suc at) n
 
 -- four and eight bytes are the number of their list
-half_of : (b : List ℕ) (at : ℕ) → half b at ≡ word_of (bytesFrom b at 4)
+half_of : (b : List ℕ) (at : ℕ) → half b at ≡ word_of (bytes_from b at 4)
 unfolding half
 half_of b at =
     let i₁ : at + 1 ≡ suc at = omega arith in
@@ -32,12 +32,12 @@ half_of b at =
     sum_of : (x₀ x₁ x₂ x₃ : ℕ) → x₀ + x₁ * 256 + x₂ * 65536 + x₃ * 16777216 ≡ word_of (x₀ ∷ x₁ ∷ x₂ ∷ x₃ ∷ [])
     sum_of x₀ x₁ x₂ x₃ = omega arith
 
-pub word-of : (b : List ℕ) (at : ℕ) → word b at ≡ word_of (bytesFrom b at 8)
+pub word_of_lem : (b : List ℕ) (at : ℕ) → word b at ≡ word_of (bytes_from b at 8)
 unfolding word
-word-of b at =
-    ap₂ (λ (x y : ℕ). x + y * 4294967296) (half_of b at) (half_of b (at + 4) ∙ ap (λ (n : ℕ). word_of (bytesFrom b n 4)) next)
+word_of_lem b at =
+    ap₂ (λ (x y : ℕ). x + y * 4294967296) (half_of b at) (half_of b (at + 4) ∙ ap (λ (n : ℕ). word_of (bytes_from b n 4)) next)
     ∙ sum_of (get_or b at 0) (get_or b (suc at) 0) (get_or b (suc (suc at)) 0) (get_or b (suc (suc (suc at))) 0)
-    (word_of (bytesFrom b (suc (suc (suc (suc at)))) 4))
+    (word_of (bytes_from b (suc (suc (suc (suc at)))) 4))
   where
     next : at + 4 ≡ suc (suc (suc (suc at)))
     next = omega arith
@@ -46,27 +46,27 @@ word-of b at =
     sum_of x₀ x₁ x₂ x₃ y = omega arith
 
 -- the bytes of a part are bytes of the whole
-bytes_drop : (b : List ℕ) (at i n : ℕ) → bytesFrom (drop at b) i n ≡ bytesFrom b (at + i) n
+bytes_drop : (b : List ℕ) (at i n : ℕ) → bytes_from (drop at b) i n ≡ bytes_from b (at + i) n
 bytes_drop b at i zero = refl
 bytes_drop b at i (suc n) =
     let next : at + suc i ≡ suc (at + i) = omega arith in
-    ap₂ ◌∷◌ (get_or-drop at b i 0) (bytes_drop b at (suc i) n ∙ ap (λ (j : ℕ). bytesFrom b j n) next)
+    ap₂ ◌∷◌ (get_or-drop at b i 0) (bytes_drop b at (suc i) n ∙ ap (λ (j : ℕ). bytes_from b j n) next)
 
 -- the first eight bytes of the part from an offset on
-pub word-part : (b : List ℕ) (at : ℕ) → word (take (length b - at) (drop at b)) 0 ≡ word b at
-word-part b at =
+pub word_part : (b : List ℕ) (at : ℕ) → word (take (length b - at) (drop at b)) 0 ≡ word b at
+word_part b at =
     ap (λ (l : List ℕ). word l 0) (take_all (length b - at) (drop at b) (simp length-drop (omega arith)))
-    ∙ word-of (drop at b) 0
-    ∙ ap word_of (bytes_drop b at 0 8 ∙ ap (λ (i : ℕ). bytesFrom b i 8) (add-zero at))
-    ∙ sym (word-of b at)
+    ∙ word_of_lem (drop at b) 0
+    ∙ ap word_of (bytes_drop b at 0 8 ∙ ap (λ (i : ℕ). bytes_from b i 8) (add-zero at))
+    ∙ sym (word_of_lem b at)
 
 -- the bytes to the end are as many as one likes, for those past it are 0
-from-drop : (b : List ℕ) (n at : ℕ) → length b ≤ at + n → word_of (drop at b) ≡ word_of (bytesFrom b at n)
-from-drop b zero at h = let k : length b ≤ at = omega arith in ap word_of (drop_of_length-le b k)
-from-drop b (suc n) at h = go (ltb at (length b)) refl (from-drop b n (suc at) (omega arith))
+from_drop : (b : List ℕ) (n at : ℕ) → length b ≤ at + n → word_of (drop at b) ≡ word_of (bytes_from b at n)
+from_drop b zero at h = let k : length b ≤ at = omega arith in ap word_of (drop_of_length-le b k)
+from_drop b (suc n) at h = go (ltb at (length b)) refl (from_drop b n (suc at) (omega arith))
   where
-    go : (t : Bool) → ltb at (length b) ≡ t → word_of (drop (suc at) b) ≡ word_of (bytesFrom b (suc at) n)
-        → word_of (drop at b) ≡ word_of (bytesFrom b at (suc n))
+    go : (t : Bool) → ltb at (length b) ≡ t → word_of (drop (suc at) b) ≡ word_of (bytes_from b (suc at) n)
+        → word_of (drop at b) ≡ word_of (bytes_from b at (suc n))
     go true e k = ap word_of (drop-cons b at 0 (ltb-true at (length b) e)) ∙ ap (λ (x : ℕ). x * 256 + get_or b at 0) k
     go false e k =
         let l = ltb-false at (length b) e in
@@ -75,11 +75,11 @@ from-drop b (suc n) at h = go (ltb at (length b)) refl (from-drop b n (suc at) (
         ∙ ap₂ (λ (x y : ℕ). x * 256 + y) (sym (ap word_of (drop_of_length-le b m)) ∙ k) (sym (get_or-eq_default b 0 l))
 
 -- where no more than four or eight bytes are left, they are the bytes to the end
-pub half-last : (b : List ℕ) (at : ℕ) → length b ≤ at + 4 → word_of (drop at b) ≡ half b at
-half-last b at h = from-drop b 4 at h ∙ sym (half_of b at)
+pub half_last : (b : List ℕ) (at : ℕ) → length b ≤ at + 4 → word_of (drop at b) ≡ half b at
+half_last b at h = from_drop b 4 at h ∙ sym (half_of b at)
 
-pub word-last : (b : List ℕ) (at : ℕ) → length b ≤ at + 8 → word_of (drop at b) ≡ word b at
-word-last b at h = from-drop b 8 at h ∙ sym (word-of b at)
+pub word_last : (b : List ℕ) (at : ℕ) → length b ≤ at + 8 → word_of (drop at b) ≡ word b at
+word_last b at h = from_drop b 8 at h ∙ sym (word_of_lem b at)
 
 -- one iteration of `last`
 pub last_turn : (b : List ℕ) (i n : ℕ) → 0 < i → i ≤ length b → n ≡ word_of (drop i b) → n * 256 + get_or b (i - 1) 0 ≡ word_of (drop (i - 1) b)
@@ -114,23 +114,23 @@ apart (b ∷ bs) [] = true
 apart (b ∷ bs) (m ∷ ms) = eqb (bit_and b m) 0 && apart bs ms
 
 -- a number is 0 exactly when its last byte and the rest are
-sum-zero : (x y : ℕ) → eqb (x * 256 + y) 0 ≡ eqb y 0 && eqb x 0
-sum-zero zero zero = refl
-sum-zero (suc x) zero = ne_eqb (suc x * 256 + zero) 0 (λ h. omega arith) ∙ sym (ne_eqb (suc x) 0 (λ h. omega arith))
-sum-zero x (suc y) = ne_eqb (x * 256 + suc y) 0 (λ h. omega arith) ∙ ap (λ (t : Bool). t && eqb x 0) (sym (ne_eqb (suc y) 0 (λ h. omega arith)))
+sum_zero : (x y : ℕ) → eqb (x * 256 + y) 0 ≡ eqb y 0 && eqb x 0
+sum_zero zero zero = refl
+sum_zero (suc x) zero = ne_eqb (suc x * 256 + zero) 0 (λ h. omega arith) ∙ sym (ne_eqb (suc x) 0 (λ h. omega arith))
+sum_zero x (suc y) = ne_eqb (x * 256 + suc y) 0 (λ h. omega arith) ∙ ap (λ (t : Bool). t && eqb x 0) (sym (ne_eqb (suc y) 0 (λ h. omega arith)))
 
 -- the AND of two numbers is 0 exactly when that of each two bytes is
-pub and-apart : {bs ms : List ℕ} → Bytes bs → Bytes ms → eqb (bit_and (word_of bs) (word_of ms)) 0 ≡ apart bs ms
-and-apart none k = refl
-and-apart (more {b} {bs} h hs) none = ap (λ (n : ℕ). eqb n 0) (and_zero_r (word_of (b ∷ bs)))
-and-apart (more {b} {bs} h hs) (more {b = m} {bs = ms} k ks) =
+pub and_apart : {bs ms : List ℕ} → Bytes bs → Bytes ms → eqb (bit_and (word_of bs) (word_of ms)) 0 ≡ apart bs ms
+and_apart none k = refl
+and_apart (more {b} {bs} h hs) none = ap (λ (n : ℕ). eqb n 0) (and_zero_r (word_of (b ∷ bs)))
+and_apart (more {b} {bs} h hs) (more {b = m} {bs = ms} k ks) =
     ap (λ (n : ℕ). eqb n 0) (and_block 8 (word_of bs) (word_of ms) b m h k)
-    ∙ sum-zero (bit_and (word_of bs) (word_of ms)) (bit_and b m)
-    ∙ ap (λ (t : Bool). eqb (bit_and b m) 0 && t) (and-apart hs ks)
+    ∙ sum_zero (bit_and (word_of bs) (word_of ms)) (bit_and b m)
+    ∙ ap (λ (t : Bool). eqb (bit_and b m) 0 && t) (and_apart hs ks)
 
 -- the bits of a byte from the k-th on, and those before it
-high-low : (b k : ℕ) → b < 256 → bit_and b (256 - 2 ^ k) + b % 2 ^ k ≡ b
-high-low b k h = go (leb k 8) refl
+high_low : (b k : ℕ) → b < 256 → bit_and b (256 - 2 ^ k) + b % 2 ^ k ≡ b
+high_low b k h = go (leb k 8) refl
   where
     go : (t : Bool) → leb k 8 ≡ t → bit_and b (256 - 2 ^ k) + b % 2 ^ k ≡ b
     go true e =
@@ -147,8 +147,8 @@ high-low b k h = go (leb k 8) refl
         ∙ zero-add b
 
 -- a byte has none of the bits from the k-th on exactly when it is below 2 ^ k
-pub under-power : (b k : ℕ) → b < 256 → eqb (bit_and b (256 - 2 ^ k)) 0 ≡ ltb b (2 ^ k)
-under-power b k h = go (bit_and b (256 - 2 ^ k)) (b % 2 ^ k) (2 ^ k) (high-low b k h) (mod-lt b (pow_pos k)) (λ l. mod-eq_of_lt l) (ltb b (2 ^ k)) refl
+pub under_power : (b k : ℕ) → b < 256 → eqb (bit_and b (256 - 2 ^ k)) 0 ≡ ltb b (2 ^ k)
+under_power b k h = go (bit_and b (256 - 2 ^ k)) (b % 2 ^ k) (2 ^ k) (high_low b k h) (mod-lt b (pow_pos k)) (λ l. mod-eq_of_lt l) (ltb b (2 ^ k)) refl
   where
     go : (x r p : ℕ) → x + r ≡ b → r < p → (b < p → r ≡ b) → (t : Bool) → ltb b p ≡ t → eqb x 0 ≡ t
     go x r p s l w true e = let q = w (ltb-true b p e) in eq-eqb x 0 (omega arith)
@@ -168,14 +168,14 @@ abbrev pub masks : List ℕ → List ℕ
 masks = map (λ l. 256 - l)
 
 -- every mask is a byte
-mask-bytes : (ks : List ℕ) → Bytes (masks (powers ks))
-mask-bytes [] = none
-mask-bytes (k ∷ ks) = let h : 256 - 2 ^ k < 256 = omega (arith, pow_pos k) in more h (mask-bytes ks)
+mask_bytes : (ks : List ℕ) → Bytes (masks (powers ks))
+mask_bytes [] = none
+mask_bytes (k ∷ ks) = let h : 256 - 2 ^ k < 256 = omega (arith, pow_pos k) in more h (mask_bytes ks)
 
 -- below its limit each, so any one of them
-under-each : (b : List ℕ) (at : ℕ) (ls : List ℕ) → under b at ls ≡ true → (i : ℕ) → i < length ls → get_or b (at + i) 0 < get_or ls i 0
-under-each b at [] h i k = absurd (omega arith)
-under-each b at (l ∷ ls) h i k = go (ltb (get_or b at 0) l) refl h (under-each b (suc at) ls) i k
+under_each : (b : List ℕ) (at : ℕ) (ls : List ℕ) → under b at ls ≡ true → (i : ℕ) → i < length ls → get_or b (at + i) 0 < get_or ls i 0
+under_each b at [] h i k = absurd (omega arith)
+under_each b at (l ∷ ls) h i k = go (ltb (get_or b at 0) l) refl h (under_each b (suc at) ls) i k
   where
     go : (t : Bool) → ltb (get_or b at 0) l ≡ t → t && under b (suc at) ls ≡ true
         → (under b (suc at) ls ≡ true → (j : ℕ) → j < length ls → get_or b (suc at + j) 0 < get_or ls j 0)
@@ -188,39 +188,39 @@ under-each b at (l ∷ ls) h i k = go (ltb (get_or b at 0) l) refl h (under-each
 
 module _ (b : List ℕ) (bytes : (i : ℕ) → get_or b i 0 < 256) where
   -- n bytes are below 256 ^ n
-  below_power : (n at : ℕ) → word_of (bytesFrom b at n) < 256 ^ n
+  below_power : (n at : ℕ) → word_of (bytes_from b at n) < 256 ^ n
   below_power zero at = omega arith
   below_power (suc n) at =
-      subst (λ (p : ℕ). word_of (bytesFrom b at (suc n)) < p) (sym (pow-suc 256 n))
-      (go (word_of (bytesFrom b (suc at) n)) (256 ^ n) (below_power n (suc at)))
+      subst (λ (p : ℕ). word_of (bytes_from b at (suc n)) < p) (sym (pow-suc 256 n))
+      (go (word_of (bytes_from b (suc at) n)) (256 ^ n) (below_power n (suc at)))
     where
       go : (x p : ℕ) → x < p → x * 256 + get_or b at 0 < p * 256
       go x p h = omega (arith, bytes at)
 
   -- seven bytes are below 2 ^ 56
-  pub last-small : (i : ℕ) → length b ≤ i + 7 → word_of (drop i b) < 72057594037927936
-  last-small i h = subst (λ (x : ℕ). x < 72057594037927936) (sym (from-drop b 7 i h)) (below_power 7 i)
+  pub last_small : (i : ℕ) → length b ≤ i + 7 → word_of (drop i b) < 72057594037927936
+  last_small i h = subst (λ (x : ℕ). x < 72057594037927936) (sym (from_drop b 7 i h)) (below_power 7 i)
 
   -- every byte is one
-  all-bytes : (at n : ℕ) → Bytes (bytesFrom b at n)
-  all-bytes at zero = none
-  all-bytes at (suc n) = more (bytes at) (all-bytes (suc at) n)
+  all_bytes : (at n : ℕ) → Bytes (bytes_from b at n)
+  all_bytes at zero = none
+  all_bytes at (suc n) = more (bytes at) (all_bytes (suc at) n)
 
   -- the bytes that have no bit of their mask are below their limits
-  apart-under : (at : ℕ) (ks : List ℕ) → apart (bytesFrom b at (length ks)) (masks (powers ks)) ≡ under b at (powers ks)
-  apart-under at [] = refl
-  apart-under at (k ∷ ks) = ap₂ ◌&&◌ (under-power (get_or b at 0) k (bytes at)) (apart-under (suc at) ks)
+  apart_under : (at : ℕ) (ks : List ℕ) → apart (bytes_from b at (length ks)) (masks (powers ks)) ≡ under b at (powers ks)
+  apart_under at [] = refl
+  apart_under at (k ∷ ks) = ap₂ ◌&&◌ (under_power (get_or b at 0) k (bytes at)) (apart_under (suc at) ks)
 
   -- one AND tells whether each of eight bytes is below its limit
-  pub word-under : (at : ℕ) (ks : List ℕ) → length ks ≡ 8 → eqb (bit_and (word b at) (word_of (masks (powers ks)))) 0 ≡ under b at (powers ks)
-  word-under at ks h =
-      ap (λ (n : ℕ). eqb (bit_and n (word_of (masks (powers ks)))) 0) (word-of b at ∙ ap (λ (n : ℕ). word_of (bytesFrom b at n)) (sym h))
-      ∙ and-apart (all-bytes at (length ks)) (mask-bytes ks)
-      ∙ apart-under at ks
+  pub word_under : (at : ℕ) (ks : List ℕ) → length ks ≡ 8 → eqb (bit_and (word b at) (word_of (masks (powers ks)))) 0 ≡ under b at (powers ks)
+  word_under at ks h =
+      ap (λ (n : ℕ). eqb (bit_and n (word_of (masks (powers ks)))) 0) (word_of_lem b at ∙ ap (λ (n : ℕ). word_of (bytes_from b at n)) (sym h))
+      ∙ and_apart (all_bytes at (length ks)) (mask_bytes ks)
+      ∙ apart_under at ks
 
   -- where one AND with the same limit for all is 0, any of the eight bytes is below it
-  pub each-under : (at k : ℕ) → bit_and (word b at) (word_of (masks (powers (replicate 8 k)))) ≡ 0 → (i : ℕ) → i < 8 → get_or b (at + i) 0 < 2 ^ k
-  each-under at k h i l =
+  pub each_under : (at k : ℕ) → bit_and (word b at) (word_of (masks (powers (replicate 8 k)))) ≡ 0 → (i : ℕ) → i < 8 → get_or b (at + i) 0 < 2 ^ k
+  each_under at k h i l =
       subst (λ (n : ℕ). get_or b (at + i) 0 < n) (get_or-replicate 8 i (2 ^ k) 0 l)
-      (under-each b at (powers (replicate 8 k))
-      (sym (word-under at (replicate 8 k) refl) ∙ eq-eqb (bit_and (word b at) (word_of (masks (powers (replicate 8 k))))) 0 h) i l)
+      (under_each b at (powers (replicate 8 k))
+      (sym (word_under at (replicate 8 k) refl) ∙ eq-eqb (bit_and (word b at) (word_of (masks (powers (replicate 8 k))))) 0 h) i l)

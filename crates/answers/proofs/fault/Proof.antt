@@ -1,11 +1,11 @@
--- `answers::fault` meets its contract: the choices of the code are those of `faultOf`.
+-- `answers::fault` meets its contract: the choices of the code are those of `fault_of`.
 -- Assumes nothing.
 use mathlib.Core.Path.{refl}
-use Rattle.event.specs.Refusals.{issueE}
-use Rattle.event.proofs.Laws.{fault-by}
-use Rattle.answers.specs.Answers.{questionBytes}
+use Rattle.event.specs.Refusals.{issue_e}
+use Rattle.event.proofs.Laws.{fault_by}
+use Rattle.answers.specs.Answers.{question_bytes}
 use Rattle.answers.specs.Listed.{asking}
-use Rattle.answers.proofs.Laws.{range-by}
+use Rattle.answers.proofs.Laws.{range_by}
 use borrow.Author.Rules.{rules}
 use Rattle.answers.proofs.fault.Statement.{statement}
 use Rattle.answers.proofs.fault.Tie as tie
@@ -24,8 +24,8 @@ returns c =
     let choose-byte = c.before.choose-byte in
     let known = c.before.before.before.before.before.before.before.known in
     let q = c.before.before.before.before.before.before.before.before.before.args.q in
-    fault-by (asking issueE) (questionBytes q) q.request.0 _ known.result choose-byte.result c.choose-byte2.result
-    (range-by q _ refl) refl known.ensures choose-byte.ensures c.choose-byte2.ensures
+    fault_by (asking issue_e) (question_bytes q) q.request.0 _ known.result choose-byte.result c.choose-byte2.result
+    (range_by q _ refl) refl known.ensures choose-byte.ensures c.choose-byte2.ensures
 
 pub fault-spec : {M : Type 1} → statement M
 fault-spec =

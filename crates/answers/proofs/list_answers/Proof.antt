@@ -1,7 +1,7 @@
 -- `answers::list_answers` meets its contract: refused with 4 or 5 at the first `return`, with 9 at the second, accepted at the end.
 -- Assumes nothing.
 use native.Mathlib.Omega.{arith}
-use Rattle.answers.proofs.Whole.{refused-question, short-room, fitting, accepted-question}
+use Rattle.answers.proofs.Whole.{refused_question, short_room, fitting, accepted_question}
 use borrow.Author.Rules.{rules}
 use Rattle.answers.proofs.list_answers.Statement.{statement}
 use Rattle.answers.proofs.list_answers.Tie as tie
@@ -13,7 +13,7 @@ returns : tie.Need-returns
 returns c =
     let fault = c.before.before.fault in
     let args = c.before.before.before.before.args in
-    refused-question args.question args.room.now fault.result fault.ensures c.if1.true
+    refused_question args.question args.room.now fault.result fault.ensures c.if1.true
 
 span-requires : tie.Need-span-requires
 span-requires c κs = search rules
@@ -29,7 +29,7 @@ returns-2 c =
     let span = c.before.span in
     let fault = c.before.before.before.before.fault in
     let args = c.before.before.before.before.before.before.args in
-    short-room args.question args.room.now fault.result span.result fault.ensures c.before.before.if1.false span.ensures c.if2.true
+    short_room args.question args.room.now fault.result span.result fault.ensures c.before.before.if1.false span.ensures c.if2.true
 
 put-answers-requires : tie.Need-put-answers-requires
 put-answers-requires c κs =
@@ -46,8 +46,8 @@ returns-3 c =
     let span = c.before.before.before.before.before.span in
     let fault = c.before.before.before.before.before.before.before.before.fault in
     let args = c.before.before.before.before.before.before.before.before.before.before.args in
-    accepted-question args.question args.room.now fault.result span.result fault.ensures c.before.before.before.before.before.before.if1.false span.ensures _
-    c.before.before.before.before.if2.false c.before.before.put-answers.ensures
+    accepted_question args.question args.room.now fault.result span.result fault.ensures c.before.before.before.before.before.before.if1.false span.ensures _
+    c.before.before.before.before.if2.false c.before.before.put_answers.ensures
 
 pub list-answers-spec : {M : Type 1} → statement M
 list-answers-spec =

@@ -2,7 +2,7 @@
 -- Assumes nothing.
 use native.Mathlib.Omega.{arith}
 use lib.ListN.{length-set}
-use Rattle.answers.proofs.Laws.{ten-stores}
+use Rattle.answers.proofs.Laws.{ten_stores}
 use borrow.Author.Rules.{rules}
 use Rattle.answers.proofs.put_answer.Statement.{statement}
 use Rattle.answers.proofs.put_answer.Tie as tie
@@ -92,7 +92,7 @@ same_length : tie.Need-same-length
 same_length c = simp length-set
 
 returns : tie.Need-returns
-returns c = ten-stores c.args.room.now c.args.at _ _ _ _ _ _ _ _ _ _ c.requires
+returns c = ten_stores c.args.room.now c.args.at _ _ _ _ _ _ _ _ _ _ c.requires
 
 pub put-answer-spec : {M : Type 1} → statement M
 put-answer-spec =

@@ -1,6 +1,6 @@
 -- `answers::span` meets its contract: one lookup after another.
 -- Assumes nothing.
-use Rattle.answers.proofs.Laws.{span-by}
+use Rattle.answers.proofs.Laws.{span_by}
 use borrow.Author.Rules.{rules}
 use Rattle.answers.proofs.span.Statement.{statement}
 use Rattle.answers.proofs.span.Tie as tie
@@ -18,7 +18,7 @@ returns : tie.Need-returns
 returns c =
     let list_of = c.before.list_of in
     let context = c.before.before.context in
-    span-by c.before.before.before.args.q context.result list_of.result c.Span-of.result context.ensures list_of.ensures c.Span-of.ensures
+    span_by c.before.before.before.args.q context.result list_of.result c.Span-of.result context.ensures list_of.ensures c.Span-of.ensures
 
 pub span-spec : {M : Type 1} → statement M
 span-spec = tie.close (tie.spec context-requires list-of-requires span-of-requires returns)

@@ -1,6 +1,6 @@
 -- `answers::tables` meets its contract: the choices of the code are those of `tables_of`.
 -- Assumes nothing.
-use Rattle.answers.proofs.Laws.{tables-by}
+use Rattle.answers.proofs.Laws.{tables_by}
 use borrow.Author.Rules.{rules}
 use Rattle.answers.proofs.tables.Statement.{statement}
 use Rattle.answers.proofs.tables.Tie as tie
@@ -31,7 +31,7 @@ returns c =
     let choose-byte2 = c.before.before.before.before.before.before.before.before.choose-byte2 in
     let choose-byte = c.before.before.before.before.before.before.before.before.before.choose-byte in
     let args = c.before.before.before.before.before.before.before.before.before.before.before.before.args in
-    tables-by args.request.0 args.excl choose-byte.result choose-byte2.result choose-byte3.result
+    tables_by args.request.0 args.excl choose-byte.result choose-byte2.result choose-byte3.result
     choose-byte4.result choose-byte5.result c.choose-byte6.result choose-byte.ensures choose-byte2.ensures
     choose-byte3.ensures choose-byte4.ensures choose-byte5.ensures c.choose-byte6.ensures
 

@@ -1,7 +1,7 @@
 -- `event::fault` meets its contract: the choices of the code are those of `fault`.
 -- Assumes nothing.
-use Rattle.event.specs.Refusals.{issueE}
-use Rattle.event.proofs.Laws.{fault-by}
+use Rattle.event.specs.Refusals.{issue_e}
+use Rattle.event.proofs.Laws.{fault_by}
 use borrow.Author.Rules.{rules}
 use Rattle.event.proofs.fault.Statement.{statement}
 use Rattle.event.proofs.fault.Tie as tie
@@ -26,10 +26,10 @@ returns c =
     let choose-byte = c.before.choose-byte in
     let known = c.before.before.known in
     let byte_at = c.before.before.before.byte_at in
-    let in-range = c.before.before.before.before.in-range in
+    let in_range_lem = c.before.before.before.before.in_range in
     let args = c.before.before.before.before.before.before.args in
-    fault-by issueE args.event.now byte_at.result in-range.result known.result choose-byte.result c.choose-byte2.result
-    in-range.ensures byte_at.ensures known.ensures choose-byte.ensures c.choose-byte2.ensures
+    fault_by issue_e args.event.now byte_at.result in_range_lem.result known.result choose-byte.result c.choose-byte2.result
+    in_range_lem.ensures byte_at.ensures known.ensures choose-byte.ensures c.choose-byte2.ensures
 
 pub fault-spec : {M : Type 1} → statement M
 fault-spec =

@@ -1,8 +1,8 @@
 -- `event::judge_event` meets its contract: a refused event at the first `return`, an accepted one at the second.
 -- Assumes nothing.
 use Rattle.event.proofs.Laws.{refused, accepted}
-use Rattle.event.proofs.Ranges.{looked-alone}
-use Rattle.event.specs.Refusals.{issueE}
+use Rattle.event.proofs.Ranges.{looked_alone}
+use Rattle.event.specs.Refusals.{issue_e}
 use borrow.Author.Rules.{rules}
 use Rattle.event.proofs.judge_event.Statement.{statement}
 use Rattle.event.proofs.judge_event.Tie as tie
@@ -14,14 +14,14 @@ returns : tie.Need-returns
 returns c =
     let refusal-alone = c.before.before.refusal-alone in
     let args = c.before.before.before.before.args in
-    refused issueE args.event.now refusal-alone.result refusal-alone.ensures c.if1.true
+    refused issue_e args.event.now refusal-alone.result refusal-alone.ensures c.if1.true
 
 sets-after-requires : tie.Need-sets-after-requires
 sets-after-requires c κs = search rules
 
 duties-alone-requires : tie.Need-duties-alone-requires
 duties-alone-requires c κs =
-    looked-alone c.before.before.before.before.before.args.event.now c.before.before.before.refusal-alone.result.0 c.sets-after.result c.before.before.before.refusal-alone.ensures c.before.if1.false c.sets-after.ensures
+    looked_alone c.before.before.before.before.before.args.event.now c.before.before.before.refusal-alone.result.0 c.sets-after.result c.before.before.before.refusal-alone.ensures c.before.if1.false c.sets-after.ensures
 
 returns-2 : tie.Need-returns-2
 returns-2 c =
@@ -29,9 +29,9 @@ returns-2 c =
     let if1 = c.before.before.if1 in
     let refusal-alone = c.before.before.before.before.refusal-alone in
     let args = c.before.before.before.before.before.before.args in
-    accepted issueE args.event.now refusal-alone.result sets-after.result c.duties-alone.result refusal-alone.ensures
+    accepted issue_e args.event.now refusal-alone.result sets-after.result c.duties-alone.result refusal-alone.ensures
     if1.false
-    (looked-alone args.event.now refusal-alone.result.0 sets-after.result refusal-alone.ensures if1.false sets-after.ensures)
+    (looked_alone args.event.now refusal-alone.result.0 sets-after.result refusal-alone.ensures if1.false sets-after.ensures)
     c.duties-alone.ensures
 
 pub judge-event-spec : {M : Type 1} → statement M

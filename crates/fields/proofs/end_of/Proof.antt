@@ -4,13 +4,13 @@ use mathlib.Core.Path.{◌≡◌, refl, sym, ◌∙◌}
 use Prim.Native.Nat.{◌-◌}
 use native.Mathlib.Omega.{arith}
 use lib.ListN.{length}
-use Rattle.fields.specs.Fields.{fieldEnd}
-use Rattle.fields.proofs.Laws.{end-at-end, end-at-comma, end-further}
+use Rattle.fields.specs.Fields.{field_end}
+use Rattle.fields.proofs.Laws.{end_at_end, end_at_comma, end_further}
 use Rattle.fields.proofs.end_of.Statement.{statement}
 use Rattle.fields.proofs.end_of.Tie as tie
 
 abbrev invariant-loop : tie.invariant-loop
-invariant-loop line at end₀ end = fieldEnd line end ≡ fieldEnd line at
+invariant-loop line at end₀ end = field_end line end ≡ field_end line at
 
 abbrev decreases-loop : tie.decreases-loop
 decreases-loop line at end₀ end = length line - end
@@ -22,7 +22,7 @@ shared-slice-read-if1 : tie.Need-shared-slice-read-if1 invariant-loop decreases-
 shared-slice-read-if1 c = omega arith
 
 returns : tie.Need-returns invariant-loop decreases-loop
-returns c = sym (end-at-comma c.before.before.before.before.args.line.now c.before.before.before.loop.end c.before.before.loop-test.true c.if1.true) ∙ c.before.before.before.loop.invariant
+returns c = sym (end_at_comma c.before.before.before.before.args.line.now c.before.before.before.loop.end c.before.before.loop-test.true c.if1.true) ∙ c.before.before.before.loop.invariant
 
 add-end : tie.Need-overflow-add-end invariant-loop decreases-loop
 add-end c = omega arith
@@ -31,10 +31,10 @@ loop-less : tie.Need-loop-smaller invariant-loop decreases-loop
 loop-less c = omega arith
 
 loop-again : tie.Need-loop-preserved invariant-loop decreases-loop
-loop-again c = end-further c.before.before.before.before.args.line.now c.before.before.before.loop.end c.before.before.loop-test.true c.if1.false ∙ c.before.before.before.loop.invariant
+loop-again c = end_further c.before.before.before.before.args.line.now c.before.before.before.loop.end c.before.before.loop-test.true c.if1.false ∙ c.before.before.before.loop.invariant
 
 returns-2 : tie.Need-returns-2 invariant-loop decreases-loop
-returns-2 c = sym (end-at-end c.before.before.args.line.now c.before.loop.end c.loop-test.false) ∙ c.before.loop.invariant
+returns-2 c = sym (end_at_end c.before.before.args.line.now c.before.loop.end c.loop-test.false) ∙ c.before.loop.invariant
 
 pub end-of-spec : {M : Type 1} → statement M
 end-of-spec =

@@ -3,7 +3,7 @@
 use mathlib.Core.Path.{sym, ◌∙◌}
 use mathlib.Core.Bool.{◌&&◌, ◌||◌}
 use lib.Seq.{length-take-le}
-use Rattle.first_line.proofs.Good.{any-first, line-told, line-untold, end-inside}
+use Rattle.first_line.proofs.Good.{any_first, line_told, line_untold, end_inside}
 use borrow.Author.Rules.{rules}
 use Rattle.first_line.proofs.any_line.Statement.{statement}
 use Rattle.first_line.proofs.any_line.Tie as tie
@@ -22,14 +22,14 @@ returns c =
     let ends-line = c.before.before.ends-line in
     let line-end = c.before.before.before.line-end in
     let args = c.before.before.before.before.before.args in
-    any-first args.asked args.ended args.text.now line-end.ensures ends-line.ensures
-    (c.refused.ensures ∙ line-untold (args.asked && (ends-line.result || args.ended)) line-end.result args.text.now c.before.if1.true)
+    any_first args.asked args.ended args.text.now line-end.ensures ends-line.ensures
+    (c.refused.ensures ∙ line_untold (args.asked && (ends-line.result || args.ended)) line-end.result args.text.now c.before.if1.true)
 
 slice-aggregate-parse-line : tie.Need-slice-aggregate-parse-line
 slice-aggregate-parse-line c =
     let line-end = c.before.before.before.line-end in
     let args = c.before.before.before.before.before.args in
-    sym (length-take-le line-end.result args.text.now (end-inside args.text.now line-end.ensures))
+    sym (length-take-le line-end.result args.text.now (end_inside args.text.now line-end.ensures))
 
 parse-line-requires : tie.Need-parse-line-requires
 parse-line-requires c κs = search rules
@@ -40,8 +40,8 @@ returns-2 c =
     let ends-line = c.before.before.before.ends-line in
     let line-end = c.before.before.before.before.line-end in
     let args = c.before.before.before.before.before.before.args in
-    any-first args.asked args.ended args.text.now line-end.ensures ends-line.ensures
-    (c.parse-line.ensures ∙ line-told (args.asked && (ends-line.result || args.ended)) line-end.result args.text.now if1.false)
+    any_first args.asked args.ended args.text.now line-end.ensures ends-line.ensures
+    (c.parse-line.ensures ∙ line_told (args.asked && (ends-line.result || args.ended)) line-end.result args.text.now if1.false)
 
 pub any-line-spec : {M : Type 1} → statement M
 any-line-spec =

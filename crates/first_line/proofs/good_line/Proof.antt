@@ -2,7 +2,7 @@
 -- Assumes nothing.
 use mathlib.Core.Path.{sym, ◌∙◌}
 use mathlib.Core.Bool.{false≢true}
-use Rattle.first_line.proofs.Good.{last-known, good-leads, met-end}
+use Rattle.first_line.proofs.Good.{last_known, good_leads, met_end}
 use borrow.Author.Rules.{rules}
 use Rattle.first_line.proofs.good_line.Statement.{statement}
 use Rattle.first_line.proofs.good_line.Tie as tie
@@ -35,15 +35,15 @@ sub-t11 : tie.Need-overflow-sub-t11
 sub-t11 c =
     let if1 = c.before.before.before.before.if1 in
     let meet_all = c.before.before.before.before.before.before.meet_all in
-    met-end meet_all.result (meet_all.ensures (last-known if1.false))
+    met_end meet_all.result (meet_all.ensures (last_known if1.false))
 
 returns-3 : tie.Need-returns-3
 returns-3 c = λ h.
     let if2 = c.before.before.if2 in
-    let dashes-agree = c.before.before.before.dashes-agree in
+    let dashes_agree_lem = c.before.before.before.dashes_agree in
     let if1 = c.before.before.before.before.if1 in
     let meet_all = c.before.before.before.before.before.before.meet_all in
-    good-leads meet_all.result (meet_all.ensures (last-known if1.false)) dashes-agree.ensures if2.false c.before.Line-of.ensures
+    good_leads meet_all.result (meet_all.ensures (last_known if1.false)) dashes_agree_lem.ensures if2.false c.before.Line-of.ensures
 
 pub good-line-spec : {M : Type 1} → statement M
 good-line-spec =

@@ -39,16 +39,16 @@ use denote.Triple.Walked.{says, Stays, stay_none_slice, walk_of, Goes-none_slice
 use denote.Exit.{yes}
 use denote.Triple.Clauses.{Clauses, ensured, lasts}
 use Rattle.text.specs.Text.{comma, eol}
-use Rattle.names.specs.Names.{code_of, pair_of, requestNames, flagNames, tagNames, responseNames, tagOpNames, respErrNames, forwardNames, finalNames, fwdErrNames, columns}
-use Rattle.names.specs.Columns.{fwdErrCode}
+use Rattle.names.specs.Names.{code_of, pair_of, request_names, flag_names, tag_names, response_names, tag_op_names, resp_err_names, forward_names, final_names, fwd_err_names, columns}
+use Rattle.names.specs.Columns.{fwd_err_code}
 use Rattle.parser.specs.Parsed.{known}
 use Rattle.first_line.specs.InPlace.{Takes, MetAll}
 use Rattle.parser.specs.declared.Taken.{Taken}
 use Rattle.parser.specs.declared.Codes.{Codes}
-use Rattle.first_line.proofs.Good.{all-met}
+use Rattle.first_line.proofs.Good.{all_met}
 use Rattle.parser.proofs.Steps.{held, leaves}
 use Rattle.parser.proofs.Reading as reading
-use Rattle.parser.proofs.Reading.{cell, slot, past, Found, next_fits, Gathered, moves, calls-gathered}
+use Rattle.parser.proofs.Reading.{cell, slot, past, Found, next_fits, Gathered, moves, calls_gathered}
 use Rattle.parser.specs.contracts.Codes as CodesT
 use Rattle.first_line.proofs.in_place.pair.Symbol as pair-def
 use Rattle.first_line.proofs.in_place.pair.Met as pair-thm
@@ -74,7 +74,7 @@ use Rattle.first_line.specs.contracts.in_place.flag as in_place
 use Rattle.parser.proofs.gathered.Symbol as gathered-def
 use Rattle.parser.proofs.gathered.Symbol.{name as #parser·gathered}
 use Rattle.parser.proofs.gathered.Met as gathered-thm
-use Rattle.first_line.specs.contracts.meet_all.Key.{name as #first-line·meet-all}
+use Rattle.first_line.specs.contracts.meet_all.Key.{name as #first_line_lem·meet-all}
 use Rattle.first_line.specs.contracts.meet_all as meet_all
 use Rattle.first_line.proofs.meet_all.Statement as stated
 use Rattle.first_line.proofs.meet_all.Code as code
@@ -104,15 +104,15 @@ module _ {M : Type 1} {𝓤 : Ura M} (𝓛 : Logic 𝓤) (mem : Memory → SProp
   -- what is known of all ten
   record AllKnown (C : Calls 𝓤 H) : Type 2 where
     pair : Triple 𝓤 (C pair-def.name) (FieldBy (Takes pair_of (comma ∷ [])))
-    request : Triple 𝓤 (C request-def.name) (FieldBy (Takes (code_of requestNames) (comma ∷ [])))
-    flag : Triple 𝓤 (C flag-def.name) (FieldBy (Takes (code_of flagNames) (comma ∷ [])))
-    tag : Triple 𝓤 (C tag-def.name) (FieldBy (Takes (code_of tagNames) (comma ∷ [])))
-    response : Triple 𝓤 (C response-def.name) (FieldBy (Takes (code_of responseNames) (comma ∷ [])))
-    tag-op : Triple 𝓤 (C tag-op-def.name) (FieldBy (Takes (code_of tagOpNames) (comma ∷ [])))
-    resp-err : Triple 𝓤 (C resp-err-def.name) (FieldBy (Takes (code_of respErrNames) (comma ∷ [])))
-    forward : Triple 𝓤 (C forward-def.name) (FieldBy (Takes (code_of forwardNames) (comma ∷ [])))
-    state-after : Triple 𝓤 (C state-after-def.name) (FieldBy (Takes (code_of finalNames) (comma ∷ [])))
-    fwd-err : Triple 𝓤 (C fwd-err-def.name) (FieldBy (Takes (code_of fwdErrNames) eol))
+    request : Triple 𝓤 (C request-def.name) (FieldBy (Takes (code_of request_names) (comma ∷ [])))
+    flag : Triple 𝓤 (C flag-def.name) (FieldBy (Takes (code_of flag_names) (comma ∷ [])))
+    tag : Triple 𝓤 (C tag-def.name) (FieldBy (Takes (code_of tag_names) (comma ∷ [])))
+    response : Triple 𝓤 (C response-def.name) (FieldBy (Takes (code_of response_names) (comma ∷ [])))
+    tag_op : Triple 𝓤 (C tag-op-def.name) (FieldBy (Takes (code_of tag_op_names) (comma ∷ [])))
+    resp-err : Triple 𝓤 (C resp-err-def.name) (FieldBy (Takes (code_of resp_err_names) (comma ∷ [])))
+    forward : Triple 𝓤 (C forward-def.name) (FieldBy (Takes (code_of forward_names) (comma ∷ [])))
+    state_after : Triple 𝓤 (C state-after-def.name) (FieldBy (Takes (code_of final_names) (comma ∷ [])))
+    fwd-err : Triple 𝓤 (C fwd-err-def.name) (FieldBy (Takes (code_of fwd_err_names) eol))
 
 module _ {M : Type 1} {𝓤 : Ura M} (𝓛 : Logic 𝓤) (mem : Memory → SProp 𝓤) (run : Routine → Fun 𝓤) (κ : Lft) (q : Share) (s : Bor (List ℕ)) where
   -- the line as the machine has it, what it owns, and the token of its lifetime
@@ -153,7 +153,7 @@ module _ {M : Type 1} {𝓤 : Ura M} (𝓛 : Logic 𝓤) (mem : Memory → SProp
     field-said f = ex_e 𝓤 _ (λ ws. snd∗ 𝓤 (sem 𝓛 (lasts in_place.ended (κ, tt) (s, (n, tt)) ws)) (fact 𝓤 (Says s.now n f)))
 
   -- the end: the result, the token and what the line owns are what is to be had
-  exits : (r : Codes) (u : Val) → (known (fwdErrCode r.codes) ≡ true → MetAll columns s.now 0 r.codes r.end) → ent 𝓤 (⋆ 𝓛 (‵ ((CodesT.the_row).own_val r (u ∷ [])) ∷ Token ∷ ‵ Own ∷ [])) (Post u)
+  exits : (r : Codes) (u : Val) → (known (fwd_err_code r.codes) ≡ true → MetAll columns s.now 0 r.codes r.end) → ent 𝓤 (⋆ 𝓛 (‵ ((CodesT.the_row).own_val r (u ∷ [])) ∷ Token ∷ ‵ Own ∷ [])) (Post u)
   exits r u e =
       qed 𝓛 (‵ ((CodesT.the_row).own_val r (u ∷ [])) ∷ Token ∷ ‵ Own ∷ []) ∵
       suffices ! _ (ends_at 𝓛 meet_all.ended stayed (meet_all.clauses 𝓛 mem run) (((κ, tt), (q, tt), tt, (s, tt), (v ∷ [], tt)), tt) u r (tt, tt) (tt, tt)) $ says ! e $
@@ -195,19 +195,19 @@ module _ {M : Type 1} {𝓤 : Ura M} (𝓛 : Logic 𝓤) (mem : Memory → SProp
         assigns ! (agg ! (and_then ! (load ! (from ! (stop !)) (look ! (slot 1) refl)) (and_then ! (lit ! tt) (no_more !))))
         (from ! (stop !)) (init ! (slot 2) refl (tt, (wt, (record { fits = lit< tt }, tt)))) $
         takes ! (Takes pair_of (comma ∷ [])) all_Known.pair 0 refl tt (lit< tt) (λ f₀ e₀. moves 𝓛 κ q s C Λ fm wt ! f₀ refl refl refl refl $
-        takes ! (Takes (code_of requestNames) (comma ∷ [])) all_Known.request f₀.it.next refl tt (next_fits f₀) (λ f₁ e₁. moves 𝓛 κ q s C Λ fm wt ! f₁ refl refl refl refl $
-        takes ! (Takes (code_of flagNames) (comma ∷ [])) all_Known.flag f₁.it.next refl tt (next_fits f₁) (λ f₂ e₂. moves 𝓛 κ q s C Λ fm wt ! f₂ refl refl refl refl $
-        takes ! (Takes (code_of flagNames) (comma ∷ [])) all_Known.flag f₂.it.next refl tt (next_fits f₂) (λ f₃ e₃. moves 𝓛 κ q s C Λ fm wt ! f₃ refl refl refl refl $
-        takes ! (Takes (code_of flagNames) (comma ∷ [])) all_Known.flag f₃.it.next refl tt (next_fits f₃) (λ f₄ e₄. moves 𝓛 κ q s C Λ fm wt ! f₄ refl refl refl refl $
-        takes ! (Takes (code_of tagNames) (comma ∷ [])) all_Known.tag f₄.it.next refl tt (next_fits f₄) (λ f₅ e₅. moves 𝓛 κ q s C Λ fm wt ! f₅ refl refl refl refl $
-        takes ! (Takes (code_of responseNames) (comma ∷ [])) all_Known.response f₅.it.next refl tt (next_fits f₅) (λ f₆ e₆. moves 𝓛 κ q s C Λ fm wt ! f₆ refl refl refl refl $
-        takes ! (Takes (code_of tagOpNames) (comma ∷ [])) all_Known.tag-op f₆.it.next refl tt (next_fits f₆) (λ f₇ e₇. moves 𝓛 κ q s C Λ fm wt ! f₇ refl refl refl refl $
-        takes ! (Takes (code_of respErrNames) (comma ∷ [])) all_Known.resp-err f₇.it.next refl tt (next_fits f₇) (λ f₈ e₈. moves 𝓛 κ q s C Λ fm wt ! f₈ refl refl refl refl $
-        takes ! (Takes (code_of forwardNames) (comma ∷ [])) all_Known.forward f₈.it.next refl tt (next_fits f₈) (λ f₉ e₉. moves 𝓛 κ q s C Λ fm wt ! f₉ refl refl refl refl $
-        takes ! (Takes (code_of finalNames) (comma ∷ [])) all_Known.state-after f₉.it.next refl tt (next_fits f₉) (λ f₁₀ e₁₀. moves 𝓛 κ q s C Λ fm wt ! f₁₀ refl refl refl refl $
-        takes ! (Takes (code_of fwdErrNames) eol) all_Known.fwd-err f₁₀.it.next refl tt (next_fits f₁₀) (λ f₁₁ e₁₁.
+        takes ! (Takes (code_of request_names) (comma ∷ [])) all_Known.request f₀.it.next refl tt (next_fits f₀) (λ f₁ e₁. moves 𝓛 κ q s C Λ fm wt ! f₁ refl refl refl refl $
+        takes ! (Takes (code_of flag_names) (comma ∷ [])) all_Known.flag f₁.it.next refl tt (next_fits f₁) (λ f₂ e₂. moves 𝓛 κ q s C Λ fm wt ! f₂ refl refl refl refl $
+        takes ! (Takes (code_of flag_names) (comma ∷ [])) all_Known.flag f₂.it.next refl tt (next_fits f₂) (λ f₃ e₃. moves 𝓛 κ q s C Λ fm wt ! f₃ refl refl refl refl $
+        takes ! (Takes (code_of flag_names) (comma ∷ [])) all_Known.flag f₃.it.next refl tt (next_fits f₃) (λ f₄ e₄. moves 𝓛 κ q s C Λ fm wt ! f₄ refl refl refl refl $
+        takes ! (Takes (code_of tag_names) (comma ∷ [])) all_Known.tag f₄.it.next refl tt (next_fits f₄) (λ f₅ e₅. moves 𝓛 κ q s C Λ fm wt ! f₅ refl refl refl refl $
+        takes ! (Takes (code_of response_names) (comma ∷ [])) all_Known.response f₅.it.next refl tt (next_fits f₅) (λ f₆ e₆. moves 𝓛 κ q s C Λ fm wt ! f₆ refl refl refl refl $
+        takes ! (Takes (code_of tag_op_names) (comma ∷ [])) all_Known.tag_op f₆.it.next refl tt (next_fits f₆) (λ f₇ e₇. moves 𝓛 κ q s C Λ fm wt ! f₇ refl refl refl refl $
+        takes ! (Takes (code_of resp_err_names) (comma ∷ [])) all_Known.resp-err f₇.it.next refl tt (next_fits f₇) (λ f₈ e₈. moves 𝓛 κ q s C Λ fm wt ! f₈ refl refl refl refl $
+        takes ! (Takes (code_of forward_names) (comma ∷ [])) all_Known.forward f₈.it.next refl tt (next_fits f₈) (λ f₉ e₉. moves 𝓛 κ q s C Λ fm wt ! f₉ refl refl refl refl $
+        takes ! (Takes (code_of final_names) (comma ∷ [])) all_Known.state_after f₉.it.next refl tt (next_fits f₉) (λ f₁₀ e₁₀. moves 𝓛 κ q s C Λ fm wt ! f₁₀ refl refl refl refl $
+        takes ! (Takes (code_of fwd_err_names) eol) all_Known.fwd-err f₁₀.it.next refl tt (next_fits f₁₀) (λ f₁₁ e₁₁.
         -- [the token; what the line owns; the locals]: each field is in its local
-        calls-gathered 𝓛 κ q s C Λ fm wt mem run known-gathered f₀ f₁ f₂ f₃ f₄ f₅ f₆ f₇ f₈ f₉ f₁₀ f₁₁ !
+        calls_gathered 𝓛 κ q s C Λ fm wt mem run known-gathered f₀ f₁ f₂ f₃ f₄ f₅ f₆ f₇ f₈ f₉ f₁₀ f₁₁ !
         (and_then ! (held ! (past 3) refl refl) (and_then ! (held ! (past 4) refl refl) (and_then ! (held ! (past 5) refl refl)
         (and_then ! (held ! (past 6) refl refl) (and_then ! (held ! (past 7) refl refl)
         (and_then ! (held ! (past 8) refl refl) (and_then ! (held ! (past 9) refl refl) (and_then ! (held ! (past 10) refl refl)
@@ -223,7 +223,7 @@ module _ {M : Type 1} {𝓤 : Ura M} (𝓛 : Logic 𝓤) (mem : Memory → SProp
         leaves ! (past 30) refl refl $ leaves ! (past 31) refl refl $ leaves ! (past 32) refl refl $ leaves ! (past 33) refl refl $ leaves ! (past 34) refl refl $ leaves ! (past 35) refl refl $
         leaves ! (past 36) refl refl $ leaves ! (past 37) refl refl $ leaves ! (past 38) refl refl $
         free0 ! $
-        by ! (exits r u (all-met s.now e₀ e₁ e₂ e₃ e₄ e₅ e₆ e₇ e₈ e₉ e₁₀ e₁₁ e))))))))))))))))))))))))))))))))))))))))))))))))))))))
+        by ! (exits r u (all_met s.now e₀ e₁ e₂ e₃ e₄ e₅ e₆ e₇ e₈ e₉ e₁₀ e₁₁ e))))))))))))))))))))))))))))))))))))))))))))))))))))))
 
 module _ {M : Type 1} {𝓤 : Ura M} (𝓛 : Logic 𝓤) (mem : Memory → SProp 𝓤) (run : Routine → Fun 𝓤) where
   open 𝓛 use {H}
@@ -250,18 +250,18 @@ pub meet-all-spec : {M : Type 1} → stated.statement M
 unfolding code.routine tables_of
 meet-all-spec 𝓤 𝓛 𝓜 𝓡 =
     entered 𝓤 𝓛.H (triple_of 𝓛 meet_all.signature (meet_all.spec 𝓛 𝓜.mem 𝓡.run))
-    (tables 𝓤 𝓛.H 𝓜 𝓡 code.env).C (tables 𝓤 𝓛.H 𝓜 𝓡 code.env).Λ #first-line·meet-all code.function (code.unfolded 𝓤 𝓛.H 𝓜 𝓡)
+    (tables 𝓤 𝓛.H 𝓜 𝓡 code.env).C (tables 𝓤 𝓛.H 𝓜 𝓡 code.env).Λ #first_line_lem·meet-all code.function (code.unfolded 𝓤 𝓛.H 𝓜 𝓡)
     (meet-all-meets 𝓛 𝓜.mem 𝓡.run (tables_of 𝓤 𝓛.H 𝓜 (tables 𝓤 𝓛.H 𝓜 𝓡 code.env))
     (record {
       pair = cited 𝓤 𝓛.H (FieldBy 𝓛 𝓜.mem 𝓡.run (Takes pair_of (comma ∷ []))) 𝓜 𝓡 code.env pair-def.name pair-def.routine code.calls-first-line·in-place·pair (pair-thm.met 𝓤 𝓛 𝓜 𝓡);
-      request = cited 𝓤 𝓛.H (FieldBy 𝓛 𝓜.mem 𝓡.run (Takes (code_of requestNames) (comma ∷ []))) 𝓜 𝓡 code.env request-def.name request-def.routine code.calls-first-line·in-place·request (request-thm.met 𝓤 𝓛 𝓜 𝓡);
-      flag = cited 𝓤 𝓛.H (FieldBy 𝓛 𝓜.mem 𝓡.run (Takes (code_of flagNames) (comma ∷ []))) 𝓜 𝓡 code.env flag-def.name flag-def.routine code.calls-first-line·in-place·flag (flag-thm.met 𝓤 𝓛 𝓜 𝓡);
-      tag = cited 𝓤 𝓛.H (FieldBy 𝓛 𝓜.mem 𝓡.run (Takes (code_of tagNames) (comma ∷ []))) 𝓜 𝓡 code.env tag-def.name tag-def.routine code.calls-first-line·in-place·tag (tag-thm.met 𝓤 𝓛 𝓜 𝓡);
-      response = cited 𝓤 𝓛.H (FieldBy 𝓛 𝓜.mem 𝓡.run (Takes (code_of responseNames) (comma ∷ []))) 𝓜 𝓡 code.env response-def.name response-def.routine code.calls-first-line·in-place·response (response-thm.met 𝓤 𝓛 𝓜 𝓡);
-      tag-op = cited 𝓤 𝓛.H (FieldBy 𝓛 𝓜.mem 𝓡.run (Takes (code_of tagOpNames) (comma ∷ []))) 𝓜 𝓡 code.env tag-op-def.name tag-op-def.routine code.calls-first-line·in-place·tag-op (tag-op-thm.met 𝓤 𝓛 𝓜 𝓡);
-      resp-err = cited 𝓤 𝓛.H (FieldBy 𝓛 𝓜.mem 𝓡.run (Takes (code_of respErrNames) (comma ∷ []))) 𝓜 𝓡 code.env resp-err-def.name resp-err-def.routine code.calls-first-line·in-place·resp-err (resp-err-thm.met 𝓤 𝓛 𝓜 𝓡);
-      forward = cited 𝓤 𝓛.H (FieldBy 𝓛 𝓜.mem 𝓡.run (Takes (code_of forwardNames) (comma ∷ []))) 𝓜 𝓡 code.env forward-def.name forward-def.routine code.calls-first-line·in-place·forward (forward-thm.met 𝓤 𝓛 𝓜 𝓡);
-      state-after = cited 𝓤 𝓛.H (FieldBy 𝓛 𝓜.mem 𝓡.run (Takes (code_of finalNames) (comma ∷ []))) 𝓜 𝓡 code.env state-after-def.name state-after-def.routine code.calls-first-line·in-place·state-after (state-after-thm.met 𝓤 𝓛 𝓜 𝓡);
-      fwd-err = cited 𝓤 𝓛.H (FieldBy 𝓛 𝓜.mem 𝓡.run (Takes (code_of fwdErrNames) eol)) 𝓜 𝓡 code.env fwd-err-def.name fwd-err-def.routine code.calls-first-line·in-place·fwd-err (fwd-err-thm.met 𝓤 𝓛 𝓜 𝓡);
+      request = cited 𝓤 𝓛.H (FieldBy 𝓛 𝓜.mem 𝓡.run (Takes (code_of request_names) (comma ∷ []))) 𝓜 𝓡 code.env request-def.name request-def.routine code.calls-first-line·in-place·request (request-thm.met 𝓤 𝓛 𝓜 𝓡);
+      flag = cited 𝓤 𝓛.H (FieldBy 𝓛 𝓜.mem 𝓡.run (Takes (code_of flag_names) (comma ∷ []))) 𝓜 𝓡 code.env flag-def.name flag-def.routine code.calls-first-line·in-place·flag (flag-thm.met 𝓤 𝓛 𝓜 𝓡);
+      tag = cited 𝓤 𝓛.H (FieldBy 𝓛 𝓜.mem 𝓡.run (Takes (code_of tag_names) (comma ∷ []))) 𝓜 𝓡 code.env tag-def.name tag-def.routine code.calls-first-line·in-place·tag (tag-thm.met 𝓤 𝓛 𝓜 𝓡);
+      response = cited 𝓤 𝓛.H (FieldBy 𝓛 𝓜.mem 𝓡.run (Takes (code_of response_names) (comma ∷ []))) 𝓜 𝓡 code.env response-def.name response-def.routine code.calls-first-line·in-place·response (response-thm.met 𝓤 𝓛 𝓜 𝓡);
+      tag_op = cited 𝓤 𝓛.H (FieldBy 𝓛 𝓜.mem 𝓡.run (Takes (code_of tag_op_names) (comma ∷ []))) 𝓜 𝓡 code.env tag-op-def.name tag-op-def.routine code.calls-first-line·in-place·tag_op (tag-op-thm.met 𝓤 𝓛 𝓜 𝓡);
+      resp-err = cited 𝓤 𝓛.H (FieldBy 𝓛 𝓜.mem 𝓡.run (Takes (code_of resp_err_names) (comma ∷ []))) 𝓜 𝓡 code.env resp-err-def.name resp-err-def.routine code.calls-first-line·in-place·resp-err (resp-err-thm.met 𝓤 𝓛 𝓜 𝓡);
+      forward = cited 𝓤 𝓛.H (FieldBy 𝓛 𝓜.mem 𝓡.run (Takes (code_of forward_names) (comma ∷ []))) 𝓜 𝓡 code.env forward-def.name forward-def.routine code.calls-first-line·in-place·forward (forward-thm.met 𝓤 𝓛 𝓜 𝓡);
+      state_after = cited 𝓤 𝓛.H (FieldBy 𝓛 𝓜.mem 𝓡.run (Takes (code_of final_names) (comma ∷ []))) 𝓜 𝓡 code.env state-after-def.name state-after-def.routine code.calls-first-line·in-place·state_after (state-after-thm.met 𝓤 𝓛 𝓜 𝓡);
+      fwd-err = cited 𝓤 𝓛.H (FieldBy 𝓛 𝓜.mem 𝓡.run (Takes (code_of fwd_err_names) eol)) 𝓜 𝓡 code.env fwd-err-def.name fwd-err-def.routine code.calls-first-line·in-place·fwd-err (fwd-err-thm.met 𝓤 𝓛 𝓜 𝓡);
     })
     (cited 𝓤 𝓛.H (Gathered 𝓛 𝓜.mem 𝓡.run) 𝓜 𝓡 code.env #parser·gathered gathered-def.routine code.calls-parser::gathered (gathered-thm.met 𝓤 𝓛 𝓜 𝓡)))

@@ -8,7 +8,7 @@ use lib.Dec.{leb}
 use lib.ListN.{length}
 use lib.Seq.{length-take-le}
 use Rattle.kinds.proofs.Lists.{and_left, and_right}
-use Rattle.first_line.specs.First.{firstLine}
+use Rattle.first_line.specs.First.{first_line}
 use Rattle.first_line.proofs.Good.{first_good}
 use borrow.Author.Rules.{rules}
 use Rattle.first_line.proofs.parse.Statement.{statement}
@@ -28,7 +28,7 @@ returns c =
     let args = c.before.before.before.before.before.args in
     let if1 = c.before.before.before.if1 in
     first_good args.text.now 162 c.before.good-line.result args.ended (omega arith) (c.before.good-line.ensures c.if2.true)
-    ∙ ap (λ (b : Bool). firstLine b args.ended args.text.now)
+    ∙ ap (λ (b : Bool). first_line b args.ended args.text.now)
     (sym (and_left args.asked (leb 162 (length args.text.now)) if1.true))
 
 any-line-requires : tie.Need-any-line-requires

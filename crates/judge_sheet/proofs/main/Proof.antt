@@ -5,8 +5,8 @@ use mathlib.Core.Path.{◌≡◌}
 use Prim.Native.Nat.{ℕ, ◌≤◌}
 use native.Mathlib.Omega.{arith}
 use lib.ListN.{length, length-replicate}
-use Rattle.kinds.specs.Places.{mostPairs}
-use Rattle.sheet.proofs.Laws.{begun-within, turned-within}
+use Rattle.kinds.specs.Places.{most_pairs}
+use Rattle.sheet.proofs.Laws.{begun_within, turned_within}
 use borrow.Author.Rules.{rules}
 use Rattle.judge_sheet.proofs.main.Statement.{statement}
 use Rattle.judge_sheet.proofs.main.Tie as tie
@@ -16,13 +16,13 @@ abbrev size : ℕ
 size = 65536
 
 abbrev invariant-loop : tie.invariant-loop
-invariant-loop piece₀ table₀ out₀ run₀ turns₀ piece table out run turns = (length piece ≡ size) × (length table ≡ mostPairs) × (length out ≡ size) × (run.carried.held ≤ size)
+invariant-loop piece₀ table₀ out₀ run₀ turns₀ piece table out run turns = (length piece ≡ size) × (length table ≡ most_pairs) × (length out ≡ size) × (run.carried.held ≤ size)
 
 abbrev decreases-loop : tie.decreases-loop
 decreases-loop piece₀ table₀ out₀ run₀ turns₀ piece table out run turns = turns
 
 slice-aggregate-begin : tie.Need-slice-aggregate-begin invariant-loop decreases-loop
-slice-aggregate-begin c = length-replicate {A = ℕ} mostPairs 0
+slice-aggregate-begin c = length-replicate {A = ℕ} most_pairs 0
 
 slice-aggregate-begin-2 : tie.Need-slice-aggregate-begin-2 invariant-loop decreases-loop
 slice-aggregate-begin-2 c = length-replicate {A = ℕ} size 0
@@ -34,7 +34,7 @@ slice-aggregate-write-out : tie.Need-slice-aggregate-write-out invariant-loop de
 slice-aggregate-write-out c = search rules
 
 write-out-requires : tie.Need-write-out-requires invariant-loop decreases-loop
-write-out-requires c κs = (begun-within _ _ (omega (arith, length-replicate {A = ℕ} size 0)) c.before.before.before.begin.ensures).1
+write-out-requires c κs = (begun_within _ _ (omega (arith, length-replicate {A = ℕ} size 0)) c.before.before.before.begin.ensures).1
 
 returns : tie.Need-returns invariant-loop decreases-loop
 returns c = tt
@@ -45,7 +45,7 @@ loop-holds c =
       length-replicate {A = ℕ} size 0,
       search rules,
       search rules,
-      omega (arith, (begun-within _ _ (omega (arith, length-replicate {A = ℕ} size 0)) begin.ensures).0),
+      omega (arith, (begun_within _ _ (omega (arith, length-replicate {A = ℕ} size 0)) begin.ensures).0),
     )
 
 slice-aggregate-read-wanted : tie.Need-slice-aggregate-read-wanted invariant-loop decreases-loop
@@ -73,7 +73,7 @@ slice-aggregate-write-out-2 : tie.Need-slice-aggregate-write-out-2 invariant-loo
 slice-aggregate-write-out-2 c = search rules
 
 write-out-requires-2 : tie.Need-write-out-requires-2 invariant-loop decreases-loop
-write-out-requires-2 c κs = (turned-within _ _ _ _ _ c.before.before.before.before.turn.ensures).1
+write-out-requires-2 c κs = (turned_within _ _ _ _ _ c.before.before.before.before.turn.ensures).1
 
 returns-3 : tie.Need-returns-3 invariant-loop decreases-loop
 returns-3 c = tt
@@ -90,7 +90,7 @@ loop-less c = omega arith
 loop-again : tie.Need-loop-preserved invariant-loop decreases-loop
 loop-again c =
     let turn = c.before.before.before.before.before.before.before.turn in
-    (search rules, search rules, search rules, omega (arith, (turned-within _ _ _ _ _ turn.ensures).0))
+    (search rules, search rules, search rules, omega (arith, (turned_within _ _ _ _ _ turn.ensures).0))
 
 returns-5 : tie.Need-returns-5 invariant-loop decreases-loop
 returns-5 c = tt

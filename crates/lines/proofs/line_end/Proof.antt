@@ -3,7 +3,7 @@
 use mathlib.Core.Path.{sym, ◌∙◌}
 use Prim.Native.Nat.{◌-◌}
 use native.Mathlib.Omega.{arith}
-use Rattle.lines.proofs.Laws.{Looked, looked-start, looked-next, looked-on, looked-here, looked-end, past_end}
+use Rattle.lines.proofs.Laws.{Looked, looked_start, looked_next, looked_on, looked_here, looked_end, past_end}
 use borrow.Author.Rules.{rules}
 use Rattle.lines.proofs.line_end.Statement.{statement}
 use Rattle.lines.proofs.line_end.Tie as tie
@@ -22,18 +22,18 @@ last-seen-requires c κs = omega (arith, c.if1.false)
 
 next-cr-requires : tie.Need-next-cr-requires invariant-loop decreases-loop
 next-cr-requires c κs =
-    let looked = looked-start c.before.before.before.args.text.now c.before.before.before.args.start c.last-seen.result c.before.if1.false c.last-seen.ensures in
+    let looked = looked_start c.before.before.before.args.text.now c.before.before.before.args.start c.last_seen.result c.before.if1.false c.last_seen.ensures in
     (looked.below, looked.inside)
 
 loop-holds : tie.Need-loop-init invariant-loop decreases-loop
 loop-holds c =
-    looked-on (looked-start c.before.before.before.before.args.text.now c.before.before.before.before.args.start c.before.last-seen.result c.before.before.if1.false c.before.last-seen.ensures) c.next-cr.ensures
+    looked_on (looked_start c.before.before.before.before.args.text.now c.before.before.before.before.args.start c.before.last_seen.result c.before.before.if1.false c.before.last_seen.ensures) c.next-cr.ensures
 
 ends-line-requires : tie.Need-ends-line-requires invariant-loop decreases-loop
 ends-line-requires c κs = search rules
 
 returns-2 : tie.Need-returns-2 invariant-loop decreases-loop
-returns-2 c = looked-here c.before.before.before.loop.invariant c.before.before.loop-test.true (sym c.before.ends-line.ensures ∙ c.if2.true)
+returns-2 c = looked_here c.before.before.before.loop.invariant c.before.before.loop-test.true (sym c.before.ends-line.ensures ∙ c.if2.true)
 
 add-next-cr : tie.Need-overflow-add-next-cr invariant-loop decreases-loop
 add-next-cr c = omega (arith, c.before.before.loop-test.true, c.before.before.before.loop.invariant.inside)
@@ -46,10 +46,10 @@ loop-less c = omega (arith, c.before.before.before.loop-test.true, c.next-cr2.en
 
 loop-again : tie.Need-loop-preserved invariant-loop decreases-loop
 loop-again c =
-    looked-on (looked-next c.before.before.before.before.loop.invariant c.before.before.before.loop-test.true (sym c.before.before.ends-line.ensures ∙ c.before.if2.false)) c.next-cr2.ensures
+    looked_on (looked_next c.before.before.before.before.loop.invariant c.before.before.before.loop-test.true (sym c.before.before.ends-line.ensures ∙ c.before.if2.false)) c.next-cr2.ensures
 
 returns-3 : tie.Need-returns-3 invariant-loop decreases-loop
-returns-3 c = looked-end c.before.loop.invariant c.loop-test.false
+returns-3 c = looked_end c.before.loop.invariant c.loop-test.false
 
 pub line-end-spec : {M : Type 1} → statement M
 line-end-spec =

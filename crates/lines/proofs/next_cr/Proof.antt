@@ -2,7 +2,7 @@
 -- Assumes nothing.
 use Prim.Native.Nat.{◌-◌}
 use native.Mathlib.Omega.{arith}
-use Rattle.lines.proofs.Laws.{Sought, sought-start, sought-next, sought-here, sought-end}
+use Rattle.lines.proofs.Laws.{Sought, sought_start, sought_next, sought_here, sought_end}
 use Rattle.lines.proofs.next_cr.Statement.{statement}
 use Rattle.lines.proofs.next_cr.Tie as tie
 
@@ -13,7 +13,7 @@ abbrev decreases-loop : tie.decreases-loop
 decreases-loop text start last at₀ at = last - at
 
 loop-holds : tie.Need-loop-init invariant-loop decreases-loop
-loop-holds c = sought-start c.args.text.now c.args.start c.args.last c.requires.0 c.requires.1
+loop-holds c = sought_start c.args.text.now c.args.start c.args.last c.requires.0 c.requires.1
 
 shared-slice-read-if1 : tie.Need-shared-slice-read-if1 invariant-loop decreases-loop
 shared-slice-read-if1 c = omega (arith, c.before.loop-test.true, c.before.before.loop.invariant.inside)
@@ -25,13 +25,13 @@ loop-less : tie.Need-loop-smaller invariant-loop decreases-loop
 loop-less c = omega (arith, c.before.before.loop-test.true)
 
 loop-again : tie.Need-loop-preserved invariant-loop decreases-loop
-loop-again c = sought-next c.before.before.before.loop.invariant c.before.before.loop-test.true c.if1.false
+loop-again c = sought_next c.before.before.before.loop.invariant c.before.before.loop-test.true c.if1.false
 
 returns : tie.Need-returns invariant-loop decreases-loop
-returns c = sought-end c.before.loop.invariant c.loop-test.false
+returns c = sought_end c.before.loop.invariant c.loop-test.false
 
 returns-2 : tie.Need-returns-2 invariant-loop decreases-loop
-returns-2 c = sought-here c.before.before.before.loop.invariant c.before.before.loop-test.true c.if1.true
+returns-2 c = sought_here c.before.before.before.loop.invariant c.before.before.loop-test.true c.if1.true
 
 pub next-cr-spec : {M : Type 1} → statement M
 next-cr-spec =

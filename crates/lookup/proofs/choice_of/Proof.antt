@@ -1,7 +1,7 @@
 -- `lookup::choice_of` meets its contract: two bits of the kind's choices.
 -- Assumes nothing.
 use borrow.Author.Rules.{rules}
-use Rattle.lookup.proofs.Laws.{choice-by}
+use Rattle.lookup.proofs.Laws.{choice_by}
 use Rattle.lookup.proofs.choice_of.Statement.{statement}
 use Rattle.lookup.proofs.choice_of.Tie as tie
 
@@ -21,7 +21,7 @@ returns : tie.Need-returns
 returns c =
     let context-of = c.before.context-of in
     let args = c.before.before.args in
-    choice-by args.kind args.flags context-of.result c.choice.result context-of.ensures c.choice.ensures
+    choice_by args.kind args.flags context-of.result c.choice.result context-of.ensures c.choice.ensures
 
 pub choice-of-spec : {M : Type 1} → statement M
 choice-of-spec =

@@ -1,7 +1,7 @@
 -- `lookup::effect_of` meets its contract: it looks up the event's request, flags and packed answer.
 -- Assumes nothing.
 use borrow.Author.Rules.{rules}
-use Rattle.lookup.proofs.Laws.{effect-parts}
+use Rattle.lookup.proofs.Laws.{effect_parts}
 use Rattle.lookup.proofs.effect_of.Statement.{statement}
 use Rattle.lookup.proofs.effect_of.Tie as tie
 
@@ -23,7 +23,7 @@ returns c =
     let half_at = c.before.before.half_at in
     let byte_at = c.before.before.before.byte_at in
     let args = c.before.before.before.before.before.args in
-    effect-parts args.event.now byte_at.result half_at.result packed.result c.look_up.result byte_at.ensures half_at.ensures
+    effect_parts args.event.now byte_at.result half_at.result packed.result c.look_up.result byte_at.ensures half_at.ensures
     packed.ensures c.look_up.ensures
 
 pub effect-of-spec : {M : Type 1} → statement M

@@ -1,7 +1,7 @@
 -- `lookup::look_up` meets its contract: the entry, and of its three sets of states before the one that holds.
 -- Assumes nothing.
 use borrow.Author.Rules.{rules}
-use Rattle.lookup.proofs.Laws.{effect-by}
+use Rattle.lookup.proofs.Laws.{effect_by_lem}
 use Rattle.lookup.proofs.look_up.Statement.{statement}
 use Rattle.lookup.proofs.look_up.Tie as tie
 
@@ -31,7 +31,7 @@ returns c =
     let entry_of = c.before.entry_of in
     let kind-of = c.before.before.kind-of in
     let args = c.before.before.before.args in
-    effect-by args.request args.flags args.answer kind-of.result entry_of.result c.choice-of.result kind-of.ensures
+    effect_by_lem args.request args.flags args.answer kind-of.result entry_of.result c.choice-of.result kind-of.ensures
     entry_of.ensures c.choice-of.ensures
 
 pub look-up-spec : {M : Type 1} → statement M

@@ -1,6 +1,6 @@
 -- `lookup::sets_after` meets its contract: the effect that is looked up, spread over the seven states.
 -- Assumes nothing.
-use Rattle.lookup.proofs.Laws.{sets-parts}
+use Rattle.lookup.proofs.Laws.{sets_parts}
 use borrow.Author.Rules.{rules}
 use Rattle.lookup.proofs.sets_after.Statement.{statement}
 use Rattle.lookup.proofs.sets_after.Tie as tie
@@ -25,7 +25,7 @@ spread-requires c κs = search rules
 
 returns : tie.Need-returns
 returns c =
-    sets-parts c.before.before.before.before.before.before.before.args.event.now c.before.before.before.before.before.byte_at.result c.before.before.before.before.half_at.result c.before.before.before.packed.result c.before.before.look_up.result c.before.seen-after.result c.spread.result
+    sets_parts c.before.before.before.before.before.before.before.args.event.now c.before.before.before.before.before.byte_at.result c.before.before.before.before.half_at.result c.before.before.before.packed.result c.before.before.look_up.result c.before.seen-after.result c.spread.result
     c.before.before.before.before.before.byte_at.ensures c.before.before.before.before.half_at.ensures c.before.before.before.packed.ensures c.before.before.look_up.ensures c.before.seen-after.ensures c.spread.ensures
 
 pub sets-after-spec : {M : Type 1} → statement M

@@ -1,6 +1,6 @@
 -- `lookup::spread` meets its contract: seven sets, each from its own state.
 -- Assumes nothing.
-use Rattle.lookup.proofs.Laws.{spread-by}
+use Rattle.lookup.proofs.Laws.{spread_by}
 use borrow.Author.Rules.{rules}
 use Rattle.lookup.proofs.spread.Statement.{statement}
 use Rattle.lookup.proofs.spread.Tie as tie
@@ -34,7 +34,7 @@ from-state-requires-7 c κs = search rules
 
 returns : tie.Need-returns
 returns c =
-    spread-by c.before.before.before.before.before.before.before.before.before.args.effect.0 c.before.before.before.before.before.before.before.before.before.args.seen c.before.before.before.before.before.before.before.before.from.result c.before.before.before.before.before.before.before.to.result c.before.before.before.before.before.before.from-state.result c.before.before.before.before.before.from-state2.result c.before.before.before.before.from-state3.result
+    spread_by c.before.before.before.before.before.before.before.before.before.args.effect.0 c.before.before.before.before.before.before.before.before.before.args.seen c.before.before.before.before.before.before.before.before.from.result c.before.before.before.before.before.before.before.to.result c.before.before.before.before.before.before.from-state.result c.before.before.before.before.before.from-state2.result c.before.before.before.before.from-state3.result
     c.before.before.before.from-state4.result c.before.before.from-state5.result c.before.from-state6.result c.from-state7.result c.before.before.before.before.before.before.before.before.from.ensures c.before.before.before.before.before.before.before.to.ensures
     c.before.before.before.before.before.before.from-state.ensures c.before.before.before.before.before.from-state2.ensures c.before.before.before.before.from-state3.ensures c.before.before.before.from-state4.ensures c.before.before.from-state5.ensures
     c.before.from-state6.ensures c.from-state7.ensures

@@ -1,7 +1,7 @@
 -- `names::answer` meets its contract: each arm is the answer at its place.
 -- Assumes nothing.
 use Rattle.names.specs.Names.{responses, answers}
-use Rattle.names.proofs.Laws.{past-answers}
+use Rattle.names.proofs.Laws.{past_answers}
 use Rattle.names.proofs.answer.Statement.{statement}
 use Rattle.names.proofs.answer.Tie as tie
 
@@ -95,7 +95,7 @@ returns-22 c = rw c.match.keys22
 
 returns-23 : tie.Need-returns-23
 unfolding answers responses
-returns-23 c = past-answers c.before.args.place c.match.rest
+returns-23 c = past_answers c.before.args.place c.match.rest
 
 pub answer-spec : {M : Type 1} → statement M
 answer-spec =

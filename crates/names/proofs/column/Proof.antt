@@ -1,8 +1,8 @@
 -- `names::column` meets its contract: each column has its own function; three are flags.
 -- Assumes nothing.
 use borrow.Author.Rules.{rules}
-use Rattle.names.specs.Names.{columns, inColumn}
-use Rattle.names.proofs.Laws.{in-column, past-columns}
+use Rattle.names.specs.Names.{columns, in_column}
+use Rattle.names.proofs.Laws.{in_column_lem, past_columns}
 use Rattle.names.proofs.column.Statement.{statement}
 use Rattle.names.proofs.column.Tie as tie
 
@@ -43,70 +43,70 @@ fwd-err-requires : tie.Need-fwd-err-requires
 fwd-err-requires c κs = search rules
 
 returns : tie.Need-returns
-unfolding inColumn columns
-returns c = in-column c.before.before.before.args.number c.before.before.before.args.field.now 0 c.before.match.keys1 c.pair.ensures
+unfolding in_column columns
+returns c = in_column_lem c.before.before.before.args.number c.before.before.before.args.field.now 0 c.before.match.keys1 c.pair.ensures
 
 returns-2 : tie.Need-returns-2
-unfolding inColumn columns
+unfolding in_column columns
 returns-2 c =
     let args = c.before.before.before.args in
-    in-column args.number args.field.now 1 c.before.match.keys2 c.request.ensures
+    in_column_lem args.number args.field.now 1 c.before.match.keys2 c.request.ensures
 
 returns-3 : tie.Need-returns-3
-unfolding inColumn columns
-returns-3 c = in-column c.before.before.before.args.number c.before.before.before.args.field.now 2 c.before.match.keys3 c.flag.ensures
+unfolding in_column columns
+returns-3 c = in_column_lem c.before.before.before.args.number c.before.before.before.args.field.now 2 c.before.match.keys3 c.flag.ensures
 
 returns-4 : tie.Need-returns-4
-unfolding inColumn columns
-returns-4 c = in-column c.before.before.before.args.number c.before.before.before.args.field.now 3 c.before.match.keys4 c.flag2.ensures
+unfolding in_column columns
+returns-4 c = in_column_lem c.before.before.before.args.number c.before.before.before.args.field.now 3 c.before.match.keys4 c.flag2.ensures
 
 returns-5 : tie.Need-returns-5
-unfolding inColumn columns
-returns-5 c = in-column c.before.before.before.args.number c.before.before.before.args.field.now 4 c.before.match.keys5 c.flag3.ensures
+unfolding in_column columns
+returns-5 c = in_column_lem c.before.before.before.args.number c.before.before.before.args.field.now 4 c.before.match.keys5 c.flag3.ensures
 
 returns-6 : tie.Need-returns-6
-unfolding inColumn columns
-returns-6 c = in-column c.before.before.before.args.number c.before.before.before.args.field.now 5 c.before.match.keys6 c.tag.ensures
+unfolding in_column columns
+returns-6 c = in_column_lem c.before.before.before.args.number c.before.before.before.args.field.now 5 c.before.match.keys6 c.tag.ensures
 
 returns-7 : tie.Need-returns-7
-unfolding inColumn columns
+unfolding in_column columns
 returns-7 c =
     let args = c.before.before.before.args in
-    in-column args.number args.field.now 6 c.before.match.keys7 c.response.ensures
+    in_column_lem args.number args.field.now 6 c.before.match.keys7 c.response.ensures
 
 returns-8 : tie.Need-returns-8
-unfolding inColumn columns
+unfolding in_column columns
 returns-8 c =
     let args = c.before.before.before.args in
-    in-column args.number args.field.now 7 c.before.match.keys8 c.tag-op.ensures
+    in_column_lem args.number args.field.now 7 c.before.match.keys8 c.tag_op.ensures
 
 returns-9 : tie.Need-returns-9
-unfolding inColumn columns
+unfolding in_column columns
 returns-9 c =
     let args = c.before.before.before.args in
-    in-column args.number args.field.now 8 c.before.match.keys9 c.resp-err.ensures
+    in_column_lem args.number args.field.now 8 c.before.match.keys9 c.resp-err.ensures
 
 returns-10 : tie.Need-returns-10
-unfolding inColumn columns
+unfolding in_column columns
 returns-10 c =
     let args = c.before.before.before.args in
-    in-column args.number args.field.now 9 c.before.match.keys10 c.forward.ensures
+    in_column_lem args.number args.field.now 9 c.before.match.keys10 c.forward.ensures
 
 returns-11 : tie.Need-returns-11
-unfolding inColumn columns
+unfolding in_column columns
 returns-11 c =
     let args = c.before.before.before.args in
-    in-column args.number args.field.now 10 c.before.match.keys11 c.state-after.ensures
+    in_column_lem args.number args.field.now 10 c.before.match.keys11 c.state_after.ensures
 
 returns-12 : tie.Need-returns-12
-unfolding inColumn columns
+unfolding in_column columns
 returns-12 c =
     let args = c.before.before.before.args in
-    in-column args.number args.field.now 11 c.before.match.keys12 c.fwd-err.ensures
+    in_column_lem args.number args.field.now 11 c.before.match.keys12 c.fwd-err.ensures
 
 returns-13 : tie.Need-returns-13
 unfolding columns
-returns-13 c = past-columns c.before.before.args.number c.before.before.args.field.now c.match.rest
+returns-13 c = past_columns c.before.before.args.number c.before.before.args.field.now c.match.rest
 
 pub column-spec : {M : Type 1} → statement M
 column-spec =

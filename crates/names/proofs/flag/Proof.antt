@@ -3,7 +3,7 @@
 use mathlib.Core.Path.{refl}
 use borrow.Author.Rules.{rules}
 use lib.ListN.{drop}
-use Rattle.names.specs.Names.{code_of, flagNames}
+use Rattle.names.specs.Names.{code_of, flag_names}
 use Rattle.names.proofs.Laws.{by_name}
 use Rattle.names.proofs.flag.Statement.{statement}
 use Rattle.names.proofs.flag.Tie as tie
@@ -21,12 +21,12 @@ known-requires-2 : tie.Need-known-requires-2
 known-requires-2 c κs = search rules
 
 returns : tie.Need-returns
-unfolding code_of flagNames
+unfolding code_of flag_names
 returns c =
     let at₁ = c.before.before in
     let f = at₁.before.before.before.args.field.now in
-    by_name _ (drop 1 flagNames) f c.known2.ensures
-    (by_name _ (drop 2 flagNames) f at₁.known.ensures
+    by_name _ (drop 1 flag_names) f c.known2.ensures
+    (by_name _ (drop 2 flag_names) f at₁.known.ensures
     refl)
 
 pub flag-spec : {M : Type 1} → statement M

@@ -3,7 +3,7 @@
 use mathlib.Core.Path.{refl}
 use borrow.Author.Rules.{rules}
 use lib.ListN.{drop}
-use Rattle.names.specs.Names.{code_of, forwardNames}
+use Rattle.names.specs.Names.{code_of, forward_names}
 use Rattle.names.proofs.Laws.{by_name}
 use Rattle.names.proofs.forward.Statement.{statement}
 use Rattle.names.proofs.forward.Tie as tie
@@ -39,18 +39,18 @@ known-requires-5 : tie.Need-known-requires-5
 known-requires-5 c κs = search rules
 
 returns : tie.Need-returns
-unfolding code_of forwardNames
+unfolding code_of forward_names
 returns c =
     let at₄ = c.before.before in
     let at₃ = at₄.before.before in
     let at₂ = at₃.before.before in
     let at₁ = at₂.before.before in
     let f = at₁.before.before.before.args.field.now in
-    by_name _ (drop 1 forwardNames) f c.known5.ensures
-    (by_name _ (drop 2 forwardNames) f at₄.known4.ensures
-    (by_name _ (drop 3 forwardNames) f at₃.known3.ensures
-    (by_name _ (drop 4 forwardNames) f at₂.known2.ensures
-    (by_name _ (drop 5 forwardNames) f at₁.known.ensures
+    by_name _ (drop 1 forward_names) f c.known5.ensures
+    (by_name _ (drop 2 forward_names) f at₄.known4.ensures
+    (by_name _ (drop 3 forward_names) f at₃.known3.ensures
+    (by_name _ (drop 4 forward_names) f at₂.known2.ensures
+    (by_name _ (drop 5 forward_names) f at₁.known.ensures
     refl))))
 
 pub forward-spec : {M : Type 1} → statement M

@@ -3,7 +3,7 @@
 use mathlib.Core.Path.{refl}
 use borrow.Author.Rules.{rules}
 use lib.ListN.{drop}
-use Rattle.names.specs.Names.{code_of, requestNames}
+use Rattle.names.specs.Names.{code_of, request_names}
 use Rattle.names.proofs.Laws.{by_name}
 use Rattle.names.proofs.request.Statement.{statement}
 use Rattle.names.proofs.request.Tie as tie
@@ -69,7 +69,7 @@ known-requires-10 : tie.Need-known-requires-10
 known-requires-10 c κs = search rules
 
 returns : tie.Need-returns
-unfolding code_of requestNames
+unfolding code_of request_names
 returns c =
     let at₉ = c.before.before in
     let at₈ = at₉.before.before in
@@ -81,16 +81,16 @@ returns c =
     let at₂ = at₃.before.before in
     let at₁ = at₂.before.before in
     let f = at₁.before.before.before.args.field.now in
-    by_name _ (drop 1 requestNames) f c.known10.ensures
-    (by_name _ (drop 2 requestNames) f at₉.known9.ensures
-    (by_name _ (drop 3 requestNames) f at₈.known8.ensures
-    (by_name _ (drop 4 requestNames) f at₇.known7.ensures
-    (by_name _ (drop 5 requestNames) f at₆.known6.ensures
-    (by_name _ (drop 6 requestNames) f at₅.known5.ensures
-    (by_name _ (drop 7 requestNames) f at₄.known4.ensures
-    (by_name _ (drop 8 requestNames) f at₃.known3.ensures
-    (by_name _ (drop 9 requestNames) f at₂.known2.ensures
-    (by_name _ (drop 10 requestNames) f at₁.known.ensures
+    by_name _ (drop 1 request_names) f c.known10.ensures
+    (by_name _ (drop 2 request_names) f at₉.known9.ensures
+    (by_name _ (drop 3 request_names) f at₈.known8.ensures
+    (by_name _ (drop 4 request_names) f at₇.known7.ensures
+    (by_name _ (drop 5 request_names) f at₆.known6.ensures
+    (by_name _ (drop 6 request_names) f at₅.known5.ensures
+    (by_name _ (drop 7 request_names) f at₄.known4.ensures
+    (by_name _ (drop 8 request_names) f at₃.known3.ensures
+    (by_name _ (drop 9 request_names) f at₂.known2.ensures
+    (by_name _ (drop 10 request_names) f at₁.known.ensures
     refl)))))))))
 
 pub request-spec : {M : Type 1} → statement M

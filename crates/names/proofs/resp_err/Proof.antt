@@ -3,7 +3,7 @@
 use mathlib.Core.Path.{refl}
 use borrow.Author.Rules.{rules}
 use lib.ListN.{drop}
-use Rattle.names.specs.Names.{code_of, respErrNames}
+use Rattle.names.specs.Names.{code_of, resp_err_names}
 use Rattle.names.proofs.Laws.{by_name}
 use Rattle.names.proofs.resp_err.Statement.{statement}
 use Rattle.names.proofs.resp_err.Tie as tie
@@ -33,16 +33,16 @@ known-requires-4 : tie.Need-known-requires-4
 known-requires-4 c κs = search rules
 
 returns : tie.Need-returns
-unfolding code_of respErrNames
+unfolding code_of resp_err_names
 returns c =
     let at₃ = c.before.before in
     let at₂ = at₃.before.before in
     let at₁ = at₂.before.before in
     let f = at₁.before.before.before.args.field.now in
-    by_name _ (drop 1 respErrNames) f c.known4.ensures
-    (by_name _ (drop 2 respErrNames) f at₃.known3.ensures
-    (by_name _ (drop 3 respErrNames) f at₂.known2.ensures
-    (by_name _ (drop 4 respErrNames) f at₁.known.ensures
+    by_name _ (drop 1 resp_err_names) f c.known4.ensures
+    (by_name _ (drop 2 resp_err_names) f at₃.known3.ensures
+    (by_name _ (drop 3 resp_err_names) f at₂.known2.ensures
+    (by_name _ (drop 4 resp_err_names) f at₁.known.ensures
     refl)))
 
 pub resp-err-spec : {M : Type 1} → statement M

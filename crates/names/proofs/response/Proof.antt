@@ -3,7 +3,7 @@
 use mathlib.Core.Path.{refl}
 use borrow.Author.Rules.{rules}
 use lib.ListN.{drop}
-use Rattle.names.specs.Names.{code_of, responses, responseNames}
+use Rattle.names.specs.Names.{code_of, responses, response_names}
 use Rattle.names.proofs.Laws.{by_name}
 use Rattle.names.proofs.response.Statement.{statement}
 use Rattle.names.proofs.response.Tie as tie
@@ -141,7 +141,7 @@ known-requires-22 : tie.Need-known-requires-22
 known-requires-22 c κs = search rules
 
 returns : tie.Need-returns
-unfolding code_of responses responseNames
+unfolding code_of responses response_names
 returns c =
     let at₂₁ = c.before.before in
     let at₂₀ = at₂₁.before.before in
@@ -165,28 +165,28 @@ returns c =
     let at₂ = at₃.before.before in
     let at₁ = at₂.before.before in
     let f = at₁.before.before.before.args.field.now in
-    by_name _ (drop 1 responseNames) f c.known22.ensures
-    (by_name _ (drop 2 responseNames) f at₂₁.known21.ensures
-    (by_name _ (drop 3 responseNames) f at₂₀.known20.ensures
-    (by_name _ (drop 4 responseNames) f at₁₉.known19.ensures
-    (by_name _ (drop 5 responseNames) f at₁₈.known18.ensures
-    (by_name _ (drop 6 responseNames) f at₁₇.known17.ensures
-    (by_name _ (drop 7 responseNames) f at₁₆.known16.ensures
-    (by_name _ (drop 8 responseNames) f at₁₅.known15.ensures
-    (by_name _ (drop 9 responseNames) f at₁₄.known14.ensures
-    (by_name _ (drop 10 responseNames) f at₁₃.known13.ensures
-    (by_name _ (drop 11 responseNames) f at₁₂.known12.ensures
-    (by_name _ (drop 12 responseNames) f at₁₁.known11.ensures
-    (by_name _ (drop 13 responseNames) f at₁₀.known10.ensures
-    (by_name _ (drop 14 responseNames) f at₉.known9.ensures
-    (by_name _ (drop 15 responseNames) f at₈.known8.ensures
-    (by_name _ (drop 16 responseNames) f at₇.known7.ensures
-    (by_name _ (drop 17 responseNames) f at₆.known6.ensures
-    (by_name _ (drop 18 responseNames) f at₅.known5.ensures
-    (by_name _ (drop 19 responseNames) f at₄.known4.ensures
-    (by_name _ (drop 20 responseNames) f at₃.known3.ensures
-    (by_name _ (drop 21 responseNames) f at₂.known2.ensures
-    (by_name _ (drop 22 responseNames) f at₁.known.ensures
+    by_name _ (drop 1 response_names) f c.known22.ensures
+    (by_name _ (drop 2 response_names) f at₂₁.known21.ensures
+    (by_name _ (drop 3 response_names) f at₂₀.known20.ensures
+    (by_name _ (drop 4 response_names) f at₁₉.known19.ensures
+    (by_name _ (drop 5 response_names) f at₁₈.known18.ensures
+    (by_name _ (drop 6 response_names) f at₁₇.known17.ensures
+    (by_name _ (drop 7 response_names) f at₁₆.known16.ensures
+    (by_name _ (drop 8 response_names) f at₁₅.known15.ensures
+    (by_name _ (drop 9 response_names) f at₁₄.known14.ensures
+    (by_name _ (drop 10 response_names) f at₁₃.known13.ensures
+    (by_name _ (drop 11 response_names) f at₁₂.known12.ensures
+    (by_name _ (drop 12 response_names) f at₁₁.known11.ensures
+    (by_name _ (drop 13 response_names) f at₁₀.known10.ensures
+    (by_name _ (drop 14 response_names) f at₉.known9.ensures
+    (by_name _ (drop 15 response_names) f at₈.known8.ensures
+    (by_name _ (drop 16 response_names) f at₇.known7.ensures
+    (by_name _ (drop 17 response_names) f at₆.known6.ensures
+    (by_name _ (drop 18 response_names) f at₅.known5.ensures
+    (by_name _ (drop 19 response_names) f at₄.known4.ensures
+    (by_name _ (drop 20 response_names) f at₃.known3.ensures
+    (by_name _ (drop 21 response_names) f at₂.known2.ensures
+    (by_name _ (drop 22 response_names) f at₁.known.ensures
     refl)))))))))))))))))))))
 
 pub response-spec : {M : Type 1} → statement M

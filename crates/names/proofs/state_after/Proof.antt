@@ -3,7 +3,7 @@
 use mathlib.Core.Path.{refl}
 use borrow.Author.Rules.{rules}
 use lib.ListN.{drop}
-use Rattle.names.specs.Names.{code_of, finalNames}
+use Rattle.names.specs.Names.{code_of, final_names}
 use Rattle.names.proofs.Laws.{by_name}
 use Rattle.names.proofs.state_after.Statement.{statement}
 use Rattle.names.proofs.state_after.Tie as tie
@@ -57,7 +57,7 @@ known-requires-8 : tie.Need-known-requires-8
 known-requires-8 c κs = search rules
 
 returns : tie.Need-returns
-unfolding code_of finalNames
+unfolding code_of final_names
 returns c =
     let at₇ = c.before.before in
     let at₆ = at₇.before.before in
@@ -67,14 +67,14 @@ returns c =
     let at₂ = at₃.before.before in
     let at₁ = at₂.before.before in
     let f = at₁.before.before.before.args.field.now in
-    by_name _ (drop 1 finalNames) f c.known8.ensures
-    (by_name _ (drop 2 finalNames) f at₇.known7.ensures
-    (by_name _ (drop 3 finalNames) f at₆.known6.ensures
-    (by_name _ (drop 4 finalNames) f at₅.known5.ensures
-    (by_name _ (drop 5 finalNames) f at₄.known4.ensures
-    (by_name _ (drop 6 finalNames) f at₃.known3.ensures
-    (by_name _ (drop 7 finalNames) f at₂.known2.ensures
-    (by_name _ (drop 8 finalNames) f at₁.known.ensures
+    by_name _ (drop 1 final_names) f c.known8.ensures
+    (by_name _ (drop 2 final_names) f at₇.known7.ensures
+    (by_name _ (drop 3 final_names) f at₆.known6.ensures
+    (by_name _ (drop 4 final_names) f at₅.known5.ensures
+    (by_name _ (drop 5 final_names) f at₄.known4.ensures
+    (by_name _ (drop 6 final_names) f at₃.known3.ensures
+    (by_name _ (drop 7 final_names) f at₂.known2.ensures
+    (by_name _ (drop 8 final_names) f at₁.known.ensures
     refl)))))))
 
 pub state-after-spec : {M : Type 1} → statement M

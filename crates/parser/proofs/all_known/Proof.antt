@@ -4,7 +4,7 @@ use Prim.Native.Nat.{◌-◌}
 use mathlib.Core.Path.{refl}
 use native.Mathlib.Omega.{arith}
 use lib.ListN.{length}
-use Rattle.parser.proofs.Laws.{KnownSoFar, known_start, known_next, known-end}
+use Rattle.parser.proofs.Laws.{KnownSoFar, known_start, known_next, known_end}
 use Rattle.parser.proofs.all_known.Statement.{statement}
 use Rattle.parser.proofs.all_known.Tie as tie
 
@@ -33,7 +33,7 @@ loop-again : tie.Need-loop-preserved invariant-loop decreases-loop
 loop-again c = known_next c.before.before.loop.invariant c.before.loop-test.true
 
 returns : tie.Need-returns invariant-loop decreases-loop
-returns c = known-end c.before.loop.invariant c.loop-test.false
+returns c = known_end c.before.loop.invariant c.loop-test.false
 
 pub all-known-spec : {M : Type 1} → statement M
 all-known-spec =

@@ -5,7 +5,7 @@ use mathlib.Core.Path.{refl}
 use native.Mathlib.Omega.{arith}
 use borrow.Author.Rules.{rules}
 use lib.ListN.{length}
-use Rattle.parser.proofs.Laws.{CutSoFar, cut-next, cut-end}
+use Rattle.parser.proofs.Laws.{CutSoFar, cut_next, cut_end}
 use Rattle.parser.proofs.as_bytes.Statement.{statement}
 use Rattle.parser.proofs.as_bytes.Tie as tie
 
@@ -37,10 +37,10 @@ loop-less : tie.Need-loop-smaller invariant-loop decreases-loop
 loop-less c = omega arith
 
 loop-again : tie.Need-loop-preserved invariant-loop decreases-loop
-loop-again c = cut-next c.before.loop.invariant c.loop-test.true
+loop-again c = cut_next c.before.loop.invariant c.loop-test.true
 
 returns : tie.Need-returns invariant-loop decreases-loop
-returns c = cut-end c.before.loop.invariant c.loop-test.false
+returns c = cut_end c.before.loop.invariant c.loop-test.false
 
 pub as-bytes-spec : {M : Type 1} → statement M
 as-bytes-spec =

@@ -1,6 +1,6 @@
 -- `parser::codes_of` meets its contract: every code is known, nothing is left of the line, and the dashes agree.
 -- Assumes nothing.
-use Rattle.parser.proofs.Laws.{codes-found}
+use Rattle.parser.proofs.Laws.{codes_found}
 use borrow.Author.Rules.{rules}
 use Rattle.parser.proofs.codes_of.Statement.{statement}
 use Rattle.parser.proofs.codes_of.Tie as tie
@@ -20,11 +20,11 @@ all-known-requires c κs = search rules
 returns : tie.Need-returns
 returns c =
     let all_known = c.before.all_known in
-    let dashes-agree = c.before.before.before.dashes-agree in
+    let dashes_agree_lem = c.before.before.before.dashes_agree in
     let at-take-all = c.before.before.before.before.before in
     let take_all = at-take-all.take_all in
-    codes-found at-take-all.before.before.args.line.now take_all.result all_known.result dashes-agree.result
-    take_all.ensures all_known.ensures dashes-agree.ensures
+    codes_found at-take-all.before.before.args.line.now take_all.result all_known.result dashes_agree_lem.result
+    take_all.ensures all_known.ensures dashes_agree_lem.ensures
 
 pub codes-of-spec : {M : Type 1} → statement M
 codes-of-spec =

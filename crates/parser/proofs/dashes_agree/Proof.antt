@@ -1,4 +1,4 @@
--- `parser::dashes_agree` meets its contract: the choice is that of `dashesAgree`.
+-- `parser::dashes_agree` meets its contract: the choice is that of `dashes_agree`.
 -- Assumes nothing.
 use borrow.Author.Rules.{rules}
 use Rattle.parser.proofs.dashes_agree.Statement.{statement}

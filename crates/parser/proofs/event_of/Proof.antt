@@ -1,6 +1,6 @@
 -- `parser::event_of` meets its contract: each byte is its column's, or of what the bus shows of the answer and the forward.
 -- Assumes nothing.
-use Rattle.parser.proofs.Laws.{event-parts}
+use Rattle.parser.proofs.Laws.{event_parts}
 use borrow.Author.Rules.{rules}
 use Rattle.parser.proofs.event_of.Statement.{statement}
 use Rattle.parser.proofs.event_of.Tie as tie
@@ -78,7 +78,7 @@ returns c =
     let wire = c.before.before.before.wire in
     let answer = c.before.before.before.before.answer in
     let args = c.before.before.before.before.before.args in
-    event-parts args.t1 wire.result wire2.result c.error.result.0 answer.ensures wire.ensures from-state.ensures
+    event_parts args.t1 wire.result wire2.result c.error.result.0 answer.ensures wire.ensures from-state.ensures
     wire2.ensures c.error.ensures
 
 pub event-of-spec : {M : Type 1} → statement M

@@ -2,7 +2,7 @@
 -- Assumes nothing.
 use mathlib.Core.Path.{◌∙◌}
 use borrow.Author.Tests.{not-true, not-false}
-use Rattle.parser.proofs.Events.{found-ill, found-well}
+use Rattle.parser.proofs.Events.{found_ill, found_well}
 use borrow.Author.Rules.{rules}
 use Rattle.parser.proofs.parse_line.Statement.{statement}
 use Rattle.parser.proofs.parse_line.Tie as tie
@@ -16,7 +16,7 @@ refused-requires c κs = search rules
 returns : tie.Need-returns
 returns c =
     let codes-of = c.before.before.before.codes-of in
-    c.refused.ensures ∙ found-ill c.before.before.before.before.before.args.line.now codes-of.result codes-of.ensures (not-true _ c.before.if1.true)
+    c.refused.ensures ∙ found_ill c.before.before.before.before.before.args.line.now codes-of.result codes-of.ensures (not-true _ c.before.if1.true)
 
 line-of-requires : tie.Need-line-of-requires
 line-of-requires c κs = search rules
@@ -24,7 +24,7 @@ line-of-requires c κs = search rules
 returns-2 : tie.Need-returns-2
 returns-2 c =
     let codes-of = c.before.before.before.codes-of in
-    c.Line-of.ensures ∙ found-well c.before.before.before.before.before.args.line.now codes-of.result codes-of.ensures (not-false _ c.before.if1.false)
+    c.Line-of.ensures ∙ found_well c.before.before.before.before.before.args.line.now codes-of.result codes-of.ensures (not-false _ c.before.if1.false)
 
 pub parse-line-spec : {M : Type 1} → statement M
 parse-line-spec =

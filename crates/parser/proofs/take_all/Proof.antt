@@ -36,13 +36,13 @@ use denote.Triple.Table.{entered, cited}
 use denote.Triple.Walked.{says, Stays, stay_none_slice, walk_of, Goes-none_slice, Walks, ends_at, walked, walk_Meets}
 use denote.Exit.{yes}
 use denote.Triple.Clauses.{ensured, lasts}
-use Rattle.parser.specs.Code.{takenAt, allTaken}
+use Rattle.parser.specs.Code.{taken_at, all_taken}
 use Rattle.parser.specs.declared.Taken.{Taken}
 use Rattle.parser.specs.declared.Codes.{Codes}
-use Rattle.parser.proofs.Laws.{all-taken}
+use Rattle.parser.proofs.Laws.{all_taken_lem}
 use Rattle.parser.proofs.Steps.{held, leaves}
 use Rattle.parser.proofs.Reading as reading
-use Rattle.parser.proofs.Reading.{cell, slot, past, Found, next_fits, Gathered, moves, calls-gathered}
+use Rattle.parser.proofs.Reading.{cell, slot, past, Found, next_fits, Gathered, moves, calls_gathered}
 use Rattle.parser.specs.contracts.Codes as CodesT
 use Rattle.parser.specs.contracts.field_at as field_at
 use Rattle.parser.proofs.field_at.Symbol as field-at-def
@@ -99,11 +99,11 @@ module _ {M : Type 1} {𝓤 : Ura M} (𝓛 : Logic 𝓤) (mem : Memory → SProp
       use2 𝓛 (raw ((FieldAt 𝓛 mem run).pre (to-field number n)))
       (qed 𝓛 (Token ∷ ‵ (owns (usize ∷ ShrSlice (named 0) κ u8 ∷ usize ∷ []) (number, (s, (n, tt))) (passed number n)) ∷ []) ∵ join ! $ frame ! $ done !) $ frame ! $ done !
 
-  field-said : (number n : ℕ) (f : Taken) → ent 𝓤 (ensured 𝓛 field_at.ended (field_at.clauses 𝓛 mem run) (κ, tt) (number, (s, (n, tt))) tt f) (fact 𝓤 (f ≡ takenAt number s.now n))
-  field-said number n f = ex_e 𝓤 _ (λ ws. snd∗ 𝓤 (sem 𝓛 (lasts field_at.ended (κ, tt) (number, (s, (n, tt))) ws)) (fact 𝓤 (f ≡ takenAt number s.now n)))
+  field-said : (number n : ℕ) (f : Taken) → ent 𝓤 (ensured 𝓛 field_at.ended (field_at.clauses 𝓛 mem run) (κ, tt) (number, (s, (n, tt))) tt f) (fact 𝓤 (f ≡ taken_at number s.now n))
+  field-said number n f = ex_e 𝓤 _ (λ ws. snd∗ 𝓤 (sem 𝓛 (lasts field_at.ended (κ, tt) (number, (s, (n, tt))) ws)) (fact 𝓤 (f ≡ taken_at number s.now n)))
 
   -- the end: the result, the token and what the line owns are what is to be had
-  exits : (r : Codes) (u : Val) → r ≡ allTaken s.now → ent 𝓤 (⋆ 𝓛 (‵ ((CodesT.the_row).own_val r (u ∷ [])) ∷ Token ∷ ‵ Own ∷ [])) (Post u)
+  exits : (r : Codes) (u : Val) → r ≡ all_taken s.now → ent 𝓤 (⋆ 𝓛 (‵ ((CodesT.the_row).own_val r (u ∷ [])) ∷ Token ∷ ‵ Own ∷ [])) (Post u)
   exits r u e =
       qed 𝓛 (‵ ((CodesT.the_row).own_val r (u ∷ [])) ∷ Token ∷ ‵ Own ∷ []) ∵
       suffices ! _ (ends_at 𝓛 take_all.ended stayed (take_all.clauses 𝓛 mem run) (((κ, tt), (q, tt), tt, (s, tt), (v ∷ [], tt)), tt) u r (tt, tt) (tt, tt)) $ says ! e $
@@ -114,7 +114,7 @@ module _ {M : Type 1} {𝓤 : Ura M} (𝓛 : Logic 𝓤) (mem : Memory → SProp
     -- the field of a column is taken
     takes : {K : Type 0} {Δ : List (Item 𝓤)} {E : Env 𝓤 H} {p : PostOf 𝓤 H} {i j m b bᵢ bⱼ bₘ : ℕ} {τ : Ty} {rest : Body} → K → (number n : ℕ)
         → reading.Ready 𝓛 κ q s E Δ i j m n b bᵢ bⱼ bₘ τ → Holds (has_ty τ v) → number < 2 ^ 64 → n < 2 ^ 64
-        → ((f : Found) → f.it ≡ takenAt number s.now n → Seq K 𝓛 (Token ∷ ‵ Own ∷ put 𝓛 (cell m) (reading.taken 𝓛 κ q s bₘ f) (reading.both 𝓛 κ q s Δ i j n bᵢ bⱼ τ)) (runs C Λ E rest p))
+        → ((f : Found) → f.it ≡ taken_at number s.now n → Seq K 𝓛 (Token ∷ ‵ Own ∷ put 𝓛 (cell m) (reading.taken 𝓛 κ q s bₘ f) (reading.both 𝓛 κ q s Δ i j n bᵢ bⱼ τ)) (runs C Λ E rest p))
         → Seq K 𝓛 (Token ∷ ‵ Own ∷ Δ) (runs C Λ E (seq (assign (place i []) (rv_opd (copy (place 2 (field 0 ∷ []))))) (seq (assign (place j []) (rv_opd (copy (place 2 (field 1 ∷ [])))))
         (seq (call #parser·field-at (int w64 number ∷ copy (place i []) ∷ copy (place j []) ∷ []) (place m [])) rest))) p)
     takes t number n ready ty number_fits fits =
@@ -156,7 +156,7 @@ module _ {M : Type 1} {𝓤 : Ura M} (𝓛 : Logic 𝓤) (mem : Memory → SProp
         takes ! 10 f₉.it.next refl tt (lit< tt) (next_fits f₉) (λ f₁₀ e₁₀. moves 𝓛 κ q s C Λ fm wt ! f₁₀ refl refl refl refl $
         takes ! 11 f₁₀.it.next refl tt (lit< tt) (next_fits f₁₀) (λ f₁₁ e₁₁.
         -- [the token; what the line owns; the locals]: each field is in its local
-        calls-gathered 𝓛 κ q s C Λ fm wt mem run known-gathered f₀ f₁ f₂ f₃ f₄ f₅ f₆ f₇ f₈ f₉ f₁₀ f₁₁ !
+        calls_gathered 𝓛 κ q s C Λ fm wt mem run known-gathered f₀ f₁ f₂ f₃ f₄ f₅ f₆ f₇ f₈ f₉ f₁₀ f₁₁ !
         (and_then ! (held ! (past 3) refl refl) (and_then ! (held ! (past 4) refl refl) (and_then ! (held ! (past 5) refl refl)
         (and_then ! (held ! (past 6) refl refl) (and_then ! (held ! (past 7) refl refl)
         (and_then ! (held ! (past 8) refl refl) (and_then ! (held ! (past 9) refl refl) (and_then ! (held ! (past 10) refl refl)
@@ -172,7 +172,7 @@ module _ {M : Type 1} {𝓤 : Ura M} (𝓛 : Logic 𝓤) (mem : Memory → SProp
         leaves ! (past 30) refl refl $ leaves ! (past 31) refl refl $ leaves ! (past 32) refl refl $ leaves ! (past 33) refl refl $ leaves ! (past 34) refl refl $ leaves ! (past 35) refl refl $
         leaves ! (past 36) refl refl $ leaves ! (past 37) refl refl $ leaves ! (past 38) refl refl $
         free0 ! $
-        by ! (exits r u (all-taken s.now e₀ e₁ e₂ e₃ e₄ e₅ e₆ e₇ e₈ e₉ e₁₀ e₁₁ e))))))))))))))))))))))))))))))))))))))))))))))))))))))
+        by ! (exits r u (all_taken_lem s.now e₀ e₁ e₂ e₃ e₄ e₅ e₆ e₇ e₈ e₉ e₁₀ e₁₁ e))))))))))))))))))))))))))))))))))))))))))))))))))))))
 
 module _ {M : Type 1} {𝓤 : Ura M} (𝓛 : Logic 𝓤) (mem : Memory → SProp 𝓤) (run : Routine → Fun 𝓤) where
   open 𝓛 use {H}

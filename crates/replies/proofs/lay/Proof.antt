@@ -1,6 +1,6 @@
 -- `replies::lay` meets its contract: the text is copied.
 -- Assumes nothing.
-use Rattle.replies.proofs.Laying.{put-fits}
+use Rattle.replies.proofs.Laying.{put_fits}
 use mathlib.Core.Path.{refl}
 use borrow.Author.Rules.{rules}
 use Rattle.replies.proofs.lay.Statement.{statement}
@@ -20,7 +20,7 @@ returns c =
     let copy = c.before.before.copy in
     let pre = c.before.before.before.before.before.before.requires in
     let args = c.before.before.before.before.before.before.args in
-    put-fits _ _ _ _ args.text.now refl (pre) copy.ensures
+    put_fits _ _ _ _ args.text.now refl (pre) copy.ensures
 
 pub lay-spec : {M : Type 1} → statement M
 lay-spec = tie.close (tie.spec copy-requires add-result same_length returns)

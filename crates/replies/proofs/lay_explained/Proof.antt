@@ -1,9 +1,9 @@
 -- `replies::lay_explained` meets its contract: each duty has its text, and any other is unknown.
 -- Assumes nothing.
-use Rattle.replies.proofs.Parts.{one-text, no_name, explained-unknown}
-use Rattle.replies.specs.Code.{explainedTexts}
-use Rattle.replies.specs.Replies.{verdictText, dutyText}
-use Rattle.steps.specs.Steps.{noDuty, Home, Requester, lost, discarded}
+use Rattle.replies.proofs.Parts.{one_text, no_name, explained_unknown}
+use Rattle.replies.specs.Code.{explained_texts}
+use Rattle.replies.specs.Replies.{verdict_text, duty_text}
+use Rattle.steps.specs.Steps.{no_duty, Home, Requester, lost, discarded}
 use mathlib.Core.Path.{refl}
 use native.Mathlib.Omega.{arith}
 use borrow.Author.Rules.{rules}
@@ -20,11 +20,11 @@ same_length : tie.Need-same-length
 same_length c = search rules
 
 returns : tie.Need-returns
-unfolding verdictText dutyText
+unfolding verdict_text duty_text
 returns c =
     let lay = c.before.before.lay in
     let if1 = c.before.before.before.before.before.if1 in
-    one-text _ explainedTexts noDuty _ if1.true refl (omega arith) lay.ensures
+    one_text _ explained_texts no_duty _ if1.true refl (omega arith) lay.ensures
 
 slice-aggregate-lay-2 : tie.Need-slice-aggregate-lay-2
 slice-aggregate-lay-2 c = search rules
@@ -36,11 +36,11 @@ same-length-2 : tie.Need-same-length-2
 same-length-2 c = search rules
 
 returns-2 : tie.Need-returns-2
-unfolding verdictText dutyText
+unfolding verdict_text duty_text
 returns-2 c =
     let lay2 = c.before.before.lay2 in
     let if2 = c.before.before.before.before.before.if2 in
-    one-text _ explainedTexts Home _ if2.true refl (omega arith) lay2.ensures
+    one_text _ explained_texts Home _ if2.true refl (omega arith) lay2.ensures
 
 slice-aggregate-lay-3 : tie.Need-slice-aggregate-lay-3
 slice-aggregate-lay-3 c = search rules
@@ -52,11 +52,11 @@ same-length-3 : tie.Need-same-length-3
 same-length-3 c = search rules
 
 returns-3 : tie.Need-returns-3
-unfolding verdictText dutyText
+unfolding verdict_text duty_text
 returns-3 c =
     let lay3 = c.before.before.lay3 in
     let if3 = c.before.before.before.before.before.if3 in
-    one-text _ explainedTexts Requester _ if3.true refl (omega arith) lay3.ensures
+    one_text _ explained_texts Requester _ if3.true refl (omega arith) lay3.ensures
 
 slice-aggregate-lay-4 : tie.Need-slice-aggregate-lay-4
 slice-aggregate-lay-4 c = search rules
@@ -68,11 +68,11 @@ same-length-4 : tie.Need-same-length-4
 same-length-4 c = search rules
 
 returns-4 : tie.Need-returns-4
-unfolding verdictText dutyText
+unfolding verdict_text duty_text
 returns-4 c =
     let lay4 = c.before.before.lay4 in
     let if4 = c.before.before.before.before.before.if4 in
-    one-text _ explainedTexts lost _ if4.true refl (omega arith) lay4.ensures
+    one_text _ explained_texts lost _ if4.true refl (omega arith) lay4.ensures
 
 slice-aggregate-lay-5 : tie.Need-slice-aggregate-lay-5
 slice-aggregate-lay-5 c = search rules
@@ -84,11 +84,11 @@ same-length-5 : tie.Need-same-length-5
 same-length-5 c = search rules
 
 returns-5 : tie.Need-returns-5
-unfolding verdictText dutyText
+unfolding verdict_text duty_text
 returns-5 c =
     let lay5 = c.before.before.lay5 in
     let if5 = c.before.before.before.before.before.if5 in
-    one-text _ explainedTexts discarded _ if5.true refl (omega arith) lay5.ensures
+    one_text _ explained_texts discarded _ if5.true refl (omega arith) lay5.ensures
 
 slice-aggregate-lay-6 : tie.Need-slice-aggregate-lay-6
 slice-aggregate-lay-6 c = search rules
@@ -108,7 +108,7 @@ returns-6 c =
     let if2 = c.before.before.before.before.before.before.before.before.before.before.before.if2 in
     let if1 = c.before.before.before.before.before.before.before.before.before.before.before.before.before.if1 in
     let args = c.before.before.before.before.before.before.before.before.before.before.before.before.before.before.before.before.args in
-    explained-unknown _ args.duty.0 (no_name args.duty.0 if1.false if2.false if3.false if4.false if5.false) (omega arith)
+    explained_unknown _ args.duty.0 (no_name args.duty.0 if1.false if2.false if3.false if4.false if5.false) (omega arith)
     lay6.ensures
 
 pub lay-explained-spec : {M : Type 1} → statement M

@@ -1,10 +1,10 @@
 -- `replies::lay_judged` meets its contract: an explained event has its duty and its states.
 -- Assumes nothing.
-use Rattle.replies.proofs.Parts.{judged-explained}
-use Rattle.replies.proofs.Laws.{explained-short}
-use Rattle.replies.proofs.Laying.{behind-all}
+use Rattle.replies.proofs.Parts.{judged_explained}
+use Rattle.replies.proofs.Laws.{explained_short}
+use Rattle.replies.proofs.Laying.{behind_all}
 use Rattle.replies.specs.Laid.{laid}
-use Rattle.replies.specs.Code.{explainedTexts}
+use Rattle.replies.specs.Code.{explained_texts}
 use native.Mathlib.Omega.{arith}
 use borrow.Author.Rules.{rules}
 use Rattle.replies.proofs.lay_judged.Statement.{statement}
@@ -18,8 +18,8 @@ lay-states-requires c κs =
     let args = c.before.before.before.before.before.before.before.before.args in
     omega (
       arith,
-      behind-all (laid args.at args.out.now) (explainedTexts args.found.duty.0) c.before.before.before.lay-explained.ensures,
-      explained-short args.found.duty.0,
+      behind_all (laid args.at args.out.now) (explained_texts args.found.duty.0) c.before.before.before.lay-explained.ensures,
+      explained_short args.found.duty.0,
     )
 
 same_length : tie.Need-same-length
@@ -31,7 +31,7 @@ returns c =
     let if1 = c.before.before.before.before.before.before.before.before.if1 in
     let lay-explained = c.before.before.before.before.before.before.lay-explained in
     let args = c.before.before.before.before.before.before.before.before.before.before.before.args in
-    judged-explained _ args.found if1.true lay-explained.ensures lay-states.ensures
+    judged_explained _ args.found if1.true lay-explained.ensures lay-states.ensures
 
 lay-unexplained-requires : tie.Need-lay-unexplained-requires
 lay-unexplained-requires c κs = search rules

@@ -1,8 +1,8 @@
 -- `replies::lay_states` meets its contract: four sets have one text each, and any other has its parts.
 -- Assumes nothing.
-use Rattle.replies.proofs.Parts.{one-text}
-use Rattle.replies.specs.Code.{lastTexts}
-use Rattle.replies.specs.Replies.{statesTexts}
+use Rattle.replies.proofs.Parts.{one_text}
+use Rattle.replies.specs.Code.{last_texts}
+use Rattle.replies.specs.Replies.{states_texts}
 use Rattle.sets.specs.Sets.{bit}
 use mathlib.Core.Path.{refl}
 use native.Mathlib.Omega.{arith}
@@ -20,8 +20,8 @@ same_length : tie.Need-same-length
 same_length c = search rules
 
 returns : tie.Need-returns
-unfolding statesTexts bit
-returns c = one-text _ lastTexts 1 _ c.before.before.before.before.before.if1.true refl (omega arith) c.before.before.lay.ensures
+unfolding states_texts bit
+returns c = one_text _ last_texts 1 _ c.before.before.before.before.before.if1.true refl (omega arith) c.before.before.lay.ensures
 
 slice-aggregate-lay-2 : tie.Need-slice-aggregate-lay-2
 slice-aggregate-lay-2 c = search rules
@@ -33,8 +33,8 @@ same-length-2 : tie.Need-same-length-2
 same-length-2 c = search rules
 
 returns-2 : tie.Need-returns-2
-unfolding statesTexts bit
-returns-2 c = one-text _ lastTexts 32 _ c.before.before.before.before.before.if2.true refl (omega arith) c.before.before.lay2.ensures
+unfolding states_texts bit
+returns-2 c = one_text _ last_texts 32 _ c.before.before.before.before.before.if2.true refl (omega arith) c.before.before.lay2.ensures
 
 slice-aggregate-lay-3 : tie.Need-slice-aggregate-lay-3
 slice-aggregate-lay-3 c = search rules
@@ -46,8 +46,8 @@ same-length-3 : tie.Need-same-length-3
 same-length-3 c = search rules
 
 returns-3 : tie.Need-returns-3
-unfolding statesTexts bit
-returns-3 c = one-text _ lastTexts 33 _ c.before.before.before.before.before.if3.true refl (omega arith) c.before.before.lay3.ensures
+unfolding states_texts bit
+returns-3 c = one_text _ last_texts 33 _ c.before.before.before.before.before.if3.true refl (omega arith) c.before.before.lay3.ensures
 
 slice-aggregate-lay-4 : tie.Need-slice-aggregate-lay-4
 slice-aggregate-lay-4 c = search rules
@@ -59,8 +59,8 @@ same-length-4 : tie.Need-same-length-4
 same-length-4 c = search rules
 
 returns-4 : tie.Need-returns-4
-unfolding statesTexts bit
-returns-4 c = one-text _ lastTexts 64 _ c.before.before.before.before.before.if4.true refl (omega arith) c.before.before.lay4.ensures
+unfolding states_texts bit
+returns-4 c = one_text _ last_texts 64 _ c.before.before.before.before.before.if4.true refl (omega arith) c.before.before.lay4.ensures
 
 put-last-requires : tie.Need-put-last-requires
 put-last-requires c κs = search rules

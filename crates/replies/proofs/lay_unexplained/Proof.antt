@@ -1,9 +1,9 @@
 -- `replies::lay_unexplained` meets its contract: each of the two verdicts has its text.
 -- Assumes nothing.
-use Rattle.replies.proofs.Parts.{judged-plain}
-use Rattle.replies.specs.Replies.{verdictText, dutyText, statesTexts}
+use Rattle.replies.proofs.Parts.{judged_plain}
+use Rattle.replies.specs.Replies.{verdict_text, duty_text, states_texts}
 use Rattle.sets.specs.Sets.{bit}
-use Rattle.verdicts.specs.Verdicts.{unexplained, notJudged}
+use Rattle.verdicts.specs.Verdicts.{unexplained, not_judged}
 use mathlib.Core.Path.{refl}
 use native.Mathlib.Omega.{arith}
 use borrow.Author.Rules.{rules}
@@ -20,14 +20,14 @@ same_length : tie.Need-same-length
 same_length c = search rules
 
 returns : tie.Need-returns
-unfolding verdictText dutyText statesTexts bit
+unfolding verdict_text duty_text states_texts bit
 returns c =
     let lay = c.before.before.lay in
     let if3 = c.before.before.before.before.before.if3 in
     let if2 = c.before.before.before.before.before.before.before.if2 in
     let if1 = c.before.before.before.before.before.before.before.before.if1 in
     let args = c.before.before.before.before.before.before.before.before.before.before.before.args in
-    judged-plain _ args.found unexplained _ if3.true if1.true if2.true refl (omega arith) lay.ensures
+    judged_plain _ args.found unexplained _ if3.true if1.true if2.true refl (omega arith) lay.ensures
 
 slice-aggregate-lay-2 : tie.Need-slice-aggregate-lay-2
 slice-aggregate-lay-2 c = search rules
@@ -39,14 +39,14 @@ same-length-2 : tie.Need-same-length-2
 same-length-2 c = search rules
 
 returns-2 : tie.Need-returns-2
-unfolding verdictText dutyText statesTexts bit
+unfolding verdict_text duty_text states_texts bit
 returns-2 c =
     let lay2 = c.before.before.lay2 in
     let if4 = c.before.before.before.before.before.if4 in
     let if2 = c.before.before.before.before.before.before.before.before.before.if2 in
     let if1 = c.before.before.before.before.before.before.before.before.before.before.if1 in
     let args = c.before.before.before.before.before.before.before.before.before.before.before.before.before.args in
-    judged-plain _ args.found notJudged _ if4.true if1.true if2.true refl (omega arith) lay2.ensures
+    judged_plain _ args.found not_judged _ if4.true if1.true if2.true refl (omega arith) lay2.ensures
 
 put-judged-requires : tie.Need-put-judged-requires
 put-judged-requires c κs = search rules

@@ -1,9 +1,9 @@
 -- `replies::lay_upto_six` meets its contract: its hundreds and its last two digits.
 -- Assumes nothing.
 use Prim.Native.Nat.{◌/◌}
-use Rattle.replies.proofs.Decimal.{decimal-short}
+use Rattle.replies.proofs.Decimal.{decimal_short}
 use Rattle.replies.proofs.Laying.{behind}
-use Rattle.replies.proofs.Parts.{hundreds-laid}
+use Rattle.replies.proofs.Parts.{hundreds_laid}
 use native.Mathlib.Omega.{arith}
 use borrow.Author.Rules.{rules}
 use Rattle.replies.proofs.lay_upto_six.Statement.{statement}
@@ -25,7 +25,7 @@ lay-two-requires : tie.Need-lay-two-requires
 lay-two-requires c κs =
     let lay-upto-four2 = c.before.before.before.lay-upto-four2 in
     let args = c.before.before.before.before.before.before.before.args in
-    (omega arith, omega (arith, behind _ _ lay-upto-four2.ensures, decimal-short 3 (args.n / 100) (omega arith)))
+    (omega arith, omega (arith, behind _ _ lay-upto-four2.ensures, decimal_short 3 (args.n / 100) (omega arith)))
 
 same-length-2 : tie.Need-same-length-2
 same-length-2 c = search rules
@@ -35,7 +35,7 @@ returns-2 c =
     let lay-two = c.before.before.lay-two in
     let lay-upto-four2 = c.before.before.before.before.before.before.lay-upto-four2 in
     let args = c.before.before.before.before.before.before.before.before.before.before.args in
-    hundreds-laid _ 5 args.n (omega arith) (omega arith) (omega arith) (omega arith) lay-upto-four2.ensures lay-two.ensures
+    hundreds_laid _ 5 args.n (omega arith) (omega arith) (omega arith) (omega arith) lay-upto-four2.ensures lay-two.ensures
 
 pub lay-upto-six-spec : {M : Type 1} → statement M
 lay-upto-six-spec =

@@ -1,6 +1,6 @@
 -- `replies::lay_upto_two` meets its contract: one digit or two.
 -- Assumes nothing.
-use Rattle.replies.proofs.Decimal.{decimal-small, decimal-two}
+use Rattle.replies.proofs.Decimal.{decimal_small, decimal_two}
 use Rattle.replies.specs.Laid.{lay}
 use mathlib.Core.Path.{sym, ◌∙◌, ap}
 use native.Mathlib.Omega.{arith}
@@ -28,7 +28,7 @@ returns c =
     let one = c.before.before.lay in
     let if1 = c.before.before.before.before.before.if1 in
     let args = c.before.before.before.before.before.before.before.args in
-    one.ensures ∙ ap (lay _) (sym (decimal-small args.n if1.true))
+    one.ensures ∙ ap (lay _) (sym (decimal_small args.n if1.true))
 
 lay-two-requires : tie.Need-lay-two-requires
 lay-two-requires c κs = search rules
@@ -40,7 +40,7 @@ returns-2 : tie.Need-returns-2
 returns-2 c =
     let two = c.before.before.lay-two in
     let args = c.before.before.before.before.before.before.args in
-    two.ensures ∙ ap (lay _) (sym (decimal-two args.n (omega arith) (omega arith)))
+    two.ensures ∙ ap (lay _) (sym (decimal_two args.n (omega arith) (omega arith)))
 
 pub lay-upto-two-spec : {M : Type 1} → statement M
 lay-upto-two-spec =

@@ -1,19 +1,19 @@
 -- `replies::put` meets its contract: the text is written where there is room for it.
 -- Assumes nothing.
-use Rattle.replies.proofs.Laying.{put-short}
+use Rattle.replies.proofs.Laying.{put_short}
 use native.Mathlib.Omega.{arith}
 use borrow.Author.Rules.{rules}
 use Rattle.replies.proofs.put.Statement.{statement}
 use Rattle.replies.proofs.put.Tie as tie
 
 returns : tie.Need-returns
-returns c = put-short _ _ _ (omega arith)
+returns c = put_short _ _ _ (omega arith)
 
 sub-if2 : tie.Need-overflow-sub-if2
 sub-if2 c = search rules
 
 returns-2 : tie.Need-returns-2
-returns-2 c = put-short _ _ _ (omega arith)
+returns-2 c = put_short _ _ _ (omega arith)
 
 lay-requires : tie.Need-lay-requires
 lay-requires c κs = search rules

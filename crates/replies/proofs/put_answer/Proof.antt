@@ -1,7 +1,7 @@
 -- `replies::put_answer` meets its contract: the line is laid where there is room for it.
 -- Assumes nothing.
 use Rattle.replies.proofs.Parts.{answered}
-use Rattle.replies.proofs.Decimal.{decimal-short}
+use Rattle.replies.proofs.Decimal.{decimal_short}
 use Rattle.replies.proofs.Laying.{behind}
 use native.Mathlib.Omega.{arith}
 use borrow.Author.Rules.{rules}
@@ -19,7 +19,7 @@ lay-judged-requires c κs =
     let lay-upto-six = c.before.before.before.lay-upto-six in
     let if1 = c.before.before.before.before.before.before.before.if1 in
     let args = c.before.before.before.before.before.before.before.before.before.args in
-    omega (arith, behind _ _ lay-upto-six.ensures, decimal-short 5 args.event.0 if1.true)
+    omega (arith, behind _ _ lay-upto-six.ensures, decimal_short 5 args.event.0 if1.true)
 
 same_length : tie.Need-same-length
 same_length c = search rules

@@ -1,9 +1,9 @@
 -- `replies::put_duty` meets its contract: each code has its name, and any other is unknown.
 -- Assumes nothing.
-use Rattle.steps.specs.Steps.{noDuty, Home, Requester, lost, discarded}
+use Rattle.steps.specs.Steps.{no_duty, Home, Requester, lost, discarded}
 use borrow.Author.Rules.{rules}
-use Rattle.replies.specs.Replies.{dutyText}
-use Rattle.replies.proofs.Parts.{duty-is, no_name, duty-unknown}
+use Rattle.replies.specs.Replies.{duty_text}
+use Rattle.replies.proofs.Parts.{duty_is, no_name, duty_unknown}
 use Rattle.replies.proofs.put_duty.Statement.{statement}
 use Rattle.replies.proofs.put_duty.Tie as tie
 
@@ -17,8 +17,8 @@ same_length : tie.Need-same-length
 same_length c = search rules
 
 returns : tie.Need-returns
-unfolding dutyText
-returns c = duty-is _ noDuty c.before.before.before.before.before.if1.true c.before.before.put.ensures
+unfolding duty_text
+returns c = duty_is _ no_duty c.before.before.before.before.before.if1.true c.before.before.put.ensures
 
 slice-aggregate-put-2 : tie.Need-slice-aggregate-put-2
 slice-aggregate-put-2 c = search rules
@@ -30,8 +30,8 @@ same-length-2 : tie.Need-same-length-2
 same-length-2 c = search rules
 
 returns-2 : tie.Need-returns-2
-unfolding dutyText
-returns-2 c = duty-is _ Home c.before.before.before.before.before.if2.true c.before.before.put2.ensures
+unfolding duty_text
+returns-2 c = duty_is _ Home c.before.before.before.before.before.if2.true c.before.before.put2.ensures
 
 slice-aggregate-put-3 : tie.Need-slice-aggregate-put-3
 slice-aggregate-put-3 c = search rules
@@ -43,8 +43,8 @@ same-length-3 : tie.Need-same-length-3
 same-length-3 c = search rules
 
 returns-3 : tie.Need-returns-3
-unfolding dutyText
-returns-3 c = duty-is _ Requester c.before.before.before.before.before.if3.true c.before.before.put3.ensures
+unfolding duty_text
+returns-3 c = duty_is _ Requester c.before.before.before.before.before.if3.true c.before.before.put3.ensures
 
 slice-aggregate-put-4 : tie.Need-slice-aggregate-put-4
 slice-aggregate-put-4 c = search rules
@@ -56,8 +56,8 @@ same-length-4 : tie.Need-same-length-4
 same-length-4 c = search rules
 
 returns-4 : tie.Need-returns-4
-unfolding dutyText
-returns-4 c = duty-is _ lost c.before.before.before.before.before.if4.true c.before.before.put4.ensures
+unfolding duty_text
+returns-4 c = duty_is _ lost c.before.before.before.before.before.if4.true c.before.before.put4.ensures
 
 slice-aggregate-put-5 : tie.Need-slice-aggregate-put-5
 slice-aggregate-put-5 c = search rules
@@ -69,8 +69,8 @@ same-length-5 : tie.Need-same-length-5
 same-length-5 c = search rules
 
 returns-5 : tie.Need-returns-5
-unfolding dutyText
-returns-5 c = duty-is _ discarded c.before.before.before.before.before.if5.true c.before.before.put5.ensures
+unfolding duty_text
+returns-5 c = duty_is _ discarded c.before.before.before.before.before.if5.true c.before.before.put5.ensures
 
 slice-aggregate-put-6 : tie.Need-slice-aggregate-put-6
 slice-aggregate-put-6 c = search rules
@@ -90,7 +90,7 @@ returns-6 c =
     let if3 = at-if3.if3 in
     let if2 = at-if3.before.before.if2 in
     let if1 = at-if3.before.before.before.before.if1 in
-    duty-unknown _ _ (no_name _ if1.false if2.false if3.false if4.false if5.false) put6.ensures
+    duty_unknown _ _ (no_name _ if1.false if2.false if3.false if4.false if5.false) put6.ensures
 
 pub put-duty-spec : {M : Type 1} → statement M
 put-duty-spec =

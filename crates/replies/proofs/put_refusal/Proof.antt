@@ -2,8 +2,8 @@
 -- Assumes nothing.
 use borrow.Author.Rules.{rules}
 use Rattle.replies.specs.Laid.{laid}
-use Rattle.replies.specs.Replies.{refusalTexts}
-use Rattle.replies.proofs.Parts.{refused, same-long}
+use Rattle.replies.specs.Replies.{refusal_texts}
+use Rattle.replies.proofs.Parts.{refused, same_long}
 use Rattle.replies.proofs.put_refusal.Statement.{statement}
 use Rattle.replies.proofs.put_refusal.Tie as tie
 
@@ -50,7 +50,7 @@ same_length : tie.Need-same-length
 same_length c =
     let halfway = c.before.before.before.before.before.before.before.before.before.before.before.before in
     let args = halfway.before.before.before.before.before.before.before.before.before.before.before.before.args in
-    same-long (laid args.at args.out.now) (refusalTexts args.refusal.0 args.line) (returns c)
+    same_long (laid args.at args.out.now) (refusal_texts args.refusal.0 args.line) (returns c)
 
 pub put-refusal-spec : {M : Type 1} → statement M
 put-refusal-spec =

@@ -2,7 +2,7 @@
 -- Assumes nothing.
 use borrow.Author.Rules.{rules}
 use lib.ListN.{drop}
-use Rattle.replies.proofs.Parts.{not_in, first-in, later-in, weight-pos, none_before, some-before, not-empty}
+use Rattle.replies.proofs.Parts.{not_in, first_in, later_in, weight_pos, none_before, some_before, not_empty}
 use Rattle.replies.proofs.put_state.Statement.{statement}
 use Rattle.replies.proofs.put_state.Tie as tie
 
@@ -18,13 +18,13 @@ shl-if2 : tie.Need-overflow-shl-if2
 shl-if2 c = search rules
 
 rem-if2 : tie.Need-nonzero-rem-if2
-rem-if2 c = weight-pos c.before.before.before.args.state c.before.before.before.requires.0
+rem-if2 c = weight_pos c.before.before.before.args.state c.before.before.before.requires.0
 
 sub-put : tie.Need-overflow-sub-put
-sub-put c = not-empty c.before.before.before.before.before.args.spaced.now c.before.before.before.before.before.requires.1
+sub-put c = not_empty c.before.before.before.before.before.args.spaced.now c.before.before.before.before.before.requires.1
 
 part-put-start : tie.Need-slice-bounds-put-start
-part-put-start c = not-empty c.before.before.before.before.before.args.spaced.now c.before.before.before.before.before.requires.1
+part-put-start c = not_empty c.before.before.before.before.before.args.spaced.now c.before.before.before.before.before.requires.1
 
 part-put-end : tie.Need-slice-bounds-put-end
 part-put-end c = search rules
@@ -43,7 +43,7 @@ returns-2 c =
     let start = c.before.before.before.before.before.before.before.before.before in
     let args = start.args in
     let pre = start.requires in
-    first-in _ args.states args.state args.spaced.now if1.false
+    first_in _ args.states args.state args.spaced.now if1.false
     (none_before args.states args.state pre.0 if2.true) put.ensures
 
 put-requires-2 : tie.Need-put-requires-2
@@ -60,7 +60,7 @@ returns-3 c =
     let start = c.before.before.before.before.before.before.before.before in
     let args = start.args in
     let pre = start.requires in
-    later-in _ args.states args.state args.spaced.now if1.false (some-before args.states args.state pre.0 if2.false)
+    later_in _ args.states args.state args.spaced.now if1.false (some_before args.states args.state pre.0 if2.false)
     pre.1 put2.ensures
 
 pub put-state-spec : {M : Type 1} → statement M

@@ -3,9 +3,9 @@
 use mathlib.Core.Path.{refl}
 use native.Mathlib.Omega.{arith}
 use Rattle.replies.specs.Laid.{laid}
-use Rattle.replies.specs.Replies.{statesTexts}
+use Rattle.replies.specs.Replies.{states_texts}
 use borrow.Author.Rules.{rules}
-use Rattle.replies.proofs.Parts.{seven, same-long}
+use Rattle.replies.proofs.Parts.{seven, same_long}
 use Rattle.replies.proofs.put_states.Statement.{statement}
 use Rattle.replies.proofs.put_states.Tie as tie
 
@@ -71,7 +71,7 @@ same_length : tie.Need-same-length
 same_length c =
     let halfway = c.before.before.before.before.before.before.before.before.before.before.before.before.before.before.before.before.before.before in
     let args = halfway.before.before.before.before.before.before.before.before.before.before.before.before.before.before.before.before.before.before.args in
-    same-long (laid args.at args.out.now) (statesTexts args.states) (returns c)
+    same_long (laid args.at args.out.now) (states_texts args.states) (returns c)
 
 pub put-states-spec : {M : Type 1} → statement M
 put-states-spec =

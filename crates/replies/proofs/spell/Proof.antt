@@ -4,7 +4,7 @@ use borrow.Author.Rules.{rules}
 use native.Mathlib.Omega.{arith}
 use mathlib.Core.Path.{◌∙◌}
 use lib.ListN.{length-set}
-use Rattle.replies.proofs.Decimal.{Spelling, spelling-start, spelling-next, spelling-end, spelling-first, decimal-one}
+use Rattle.replies.proofs.Decimal.{Spelling, spelling_start, spelling_next, spelling_end, spelling_first, decimal_one}
 use Rattle.replies.proofs.spell.Statement.{statement}
 use Rattle.replies.proofs.spell.Tie as tie
 
@@ -15,10 +15,10 @@ abbrev decreases-loop : tie.decreases-loop
 decreases-loop out₀ at k n i₀ rest₀ out i rest = rest
 
 loop-holds : tie.Need-loop-init invariant-loop decreases-loop
-loop-holds c = spelling-start _ _ _ _ (omega arith) c.requires.0 c.requires.1
+loop-holds c = spelling_start _ _ _ _ (omega arith) c.requires.0 c.requires.1
 
 sub-i : tie.Need-overflow-sub-i invariant-loop decreases-loop
-sub-i c = omega (arith, c.before.loop.invariant.left, decimal-one c.before.loop.rest)
+sub-i c = omega (arith, c.before.loop.invariant.left, decimal_one c.before.loop.rest)
 
 cast-out : tie.Need-overflow-cast-out invariant-loop decreases-loop
 cast-out c = search rules
@@ -30,13 +30,13 @@ add-out-2 : tie.Need-overflow-add-out-2 invariant-loop decreases-loop
 add-out-2 c = omega arith
 
 slice-write-out : tie.Need-slice-write-out invariant-loop decreases-loop
-slice-write-out c = omega (arith, c.before.loop.invariant.left, decimal-one c.before.loop.rest)
+slice-write-out c = omega (arith, c.before.loop.invariant.left, decimal_one c.before.loop.rest)
 
 loop-less : tie.Need-loop-smaller invariant-loop decreases-loop
 loop-less c = omega arith
 
 loop-again : tie.Need-loop-preserved invariant-loop decreases-loop
-loop-again c = spelling-next c.before.loop.invariant c.loop-test.true
+loop-again c = spelling_next c.before.loop.invariant c.loop-test.true
 
 cast-out-2 : tie.Need-overflow-cast-out-2 invariant-loop decreases-loop
 cast-out-2 c = search rules
@@ -45,13 +45,13 @@ add-out-3 : tie.Need-overflow-add-out-3 invariant-loop decreases-loop
 add-out-3 c = search rules
 
 slice-write-out-2 : tie.Need-slice-write-out-2 invariant-loop decreases-loop
-slice-write-out-2 c = spelling-first c.before.loop.invariant
+slice-write-out-2 c = spelling_first c.before.loop.invariant
 
 same_length : tie.Need-same-length invariant-loop decreases-loop
 same_length c = length-set c.before.loop.out _ _ ∙ c.before.loop.invariant.long
 
 returns : tie.Need-returns invariant-loop decreases-loop
-returns c = spelling-end c.before.loop.invariant c.loop-test.false
+returns c = spelling_end c.before.loop.invariant c.loop-test.false
 
 pub spell-spec : {M : Type 1} → statement M
 spell-spec =

@@ -27,7 +27,7 @@ unfolding answered
 returns c =
     let errors = c.before.before.errors in
     let same_answer = c.before.before.before.before.same_answer in
-    ap₂ ◌&&◌ (ap₂ ◌&&◌ same_answer.ensures errors.ensures) c.on-forward.ensures
+    ap₂ ◌&&◌ (ap₂ ◌&&◌ same_answer.ensures errors.ensures) c.on_forward.ensures
 
 pub answered-spec : {M : Type 1} → statement M
 answered-spec =

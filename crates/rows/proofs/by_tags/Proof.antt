@@ -1,4 +1,4 @@
--- `rows::by_tags` meets its contract: the choices of the code are those of `byTags`.
+-- `rows::by_tags` meets its contract: the choices of the code are those of `by_tags`.
 -- Assumes nothing.
 use Rattle.rows.proofs.Laws.{by_tags}
 use borrow.Author.Rules.{rules}
@@ -25,9 +25,9 @@ returns c =
     let choose-bool2 = c.before.before.before.choose-bool2 in
     let choose-bool = c.before.before.before.before.before.before.choose-bool in
     let passes-dirty = c.before.before.before.before.before.before.before.passes-dirty in
-    let at-resp = c.before.before.before.before.before.before.before.before in
-    let resp = at-resp.resp in
-    let args = at-resp.before.before.before.before.args in
+    let at_resp = c.before.before.before.before.before.before.before.before in
+    let resp = at_resp.resp in
+    let args = at_resp.before.before.before.before.args in
     by_tags args.op.0 args.tag.0 args.before.0 args.answer resp.result.0 passes-dirty.result choose-bool.result
     choose-bool2.result c.choose-bool3.result resp.ensures passes-dirty.ensures choose-bool.ensures choose-bool2.ensures
     c.choose-bool3.ensures

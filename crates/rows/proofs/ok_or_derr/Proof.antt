@@ -1,6 +1,6 @@
 -- `rows::ok_or_derr` meets its contract.
 -- Assumes nothing.
-use Rattle.rows.proofs.Laws.{ok-or-derr}
+use Rattle.rows.proofs.Laws.{ok_or_derr_lem}
 use borrow.Author.Rules.{rules}
 use Rattle.rows.proofs.ok_or_derr.Statement.{statement}
 use Rattle.rows.proofs.ok_or_derr.Tie as tie
@@ -15,7 +15,7 @@ returns : tie.Need-returns
 returns c =
     let has-data = c.before.has-data in
     let args = c.before.before.before.before.before.before.args in
-    ok-or-derr args.error.0 args.answer has-data.result c.choose-bool.result has-data.ensures c.choose-bool.ensures
+    ok_or_derr_lem args.error.0 args.answer has-data.result c.choose-bool.result has-data.ensures c.choose-bool.ensures
 
 pub ok-or-derr-spec : {M : Type 1} → statement M
 ok-or-derr-spec = tie.close (tie.spec has-data-requires choose-bool-requires returns)

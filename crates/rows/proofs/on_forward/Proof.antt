@@ -1,6 +1,6 @@
 -- `rows::on_forward` meets its contract.
 -- Assumes nothing.
-use Rattle.rows.proofs.Laws.{on-forward}
+use Rattle.rows.proofs.Laws.{on_forward_lem}
 use borrow.Author.Rules.{rules}
 use Rattle.rows.proofs.on_forward.Statement.{statement}
 use Rattle.rows.proofs.on_forward.Tie as tie
@@ -19,7 +19,7 @@ returns c =
     let present = c.before.present in
     let forward = c.before.before.forward in
     let args = c.before.before.before.before.before.args in
-    on-forward args.error.0 args.answer forward.result present.result c.choose-bool.result
+    on_forward_lem args.error.0 args.answer forward.result present.result c.choose-bool.result
     forward.ensures present.ensures c.choose-bool.ensures
 
 pub on-forward-spec : {M : Type 1} → statement M

@@ -1,7 +1,7 @@
 -- `rows::same_answer` meets its contract: six bytes against the six of the answer.
 -- Assumes nothing.
-use Rattle.rows.proofs.Laws.{same-wire}
-use Rattle.rows.specs.Event.{channelOf, opcode_of, respOf, fwdStateOf, forwardedOf, forwardedRespOf}
+use Rattle.rows.proofs.Laws.{same_wire}
+use Rattle.rows.specs.Event.{channel_of, opcode_of, resp_of, fwd_state_of, forwarded_of, forwarded_resp_of}
 use borrow.Author.Rules.{rules}
 use Rattle.rows.proofs.same_answer.Statement.{statement}
 use Rattle.rows.proofs.same_answer.Tie as tie
@@ -47,11 +47,11 @@ array-read-result-6 c = search rules
 
 returns : tie.Need-returns
 returns c =
-    let at-wire = c.before.before.before.before.before.before in
-    let wire = at-wire.wire in
-    let args = at-wire.before.args in
+    let at_wire = c.before.before.before.before.before.before in
+    let wire = at_wire.wire in
+    let args = at_wire.before.args in
     let e = args.e.now in
-    same-wire (channelOf e) (opcode_of e) (respOf e) (fwdStateOf e) (forwardedOf e) (forwardedRespOf e)
+    same_wire (channel_of e) (opcode_of e) (resp_of e) (fwd_state_of e) (forwarded_of e) (forwarded_resp_of e)
     args.answer wire.result wire.ensures
 
 pub same-answer-spec : {M : Type 1} → statement M

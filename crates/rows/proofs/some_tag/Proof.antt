@@ -1,6 +1,6 @@
 -- `rows::some_tag` meets its contract: the three tag states are tried one by one.
 -- Assumes nothing.
-use Rattle.rows.proofs.Laws.{some-tag}
+use Rattle.rows.proofs.Laws.{some_tag_lem}
 use borrow.Author.Rules.{rules}
 use Rattle.rows.proofs.some_tag.Statement.{statement}
 use Rattle.rows.proofs.some_tag.Tie as tie
@@ -31,7 +31,7 @@ returns c =
     let tagged = c.before.before.before.before.tagged in
     let sees-tag = c.before.before.before.before.before.sees-tag in
     let args = c.before.before.before.before.before.before.args in
-    some-tag args.e.now args.table args.before.0 args.answer sees-tag.result tagged.result sees-tag2.result
+    some_tag_lem args.e.now args.table args.before.0 args.answer sees-tag.result tagged.result sees-tag2.result
     tagged2.result sees-tag3.result c.tagged3.result sees-tag.ensures tagged.ensures sees-tag2.ensures tagged2.ensures
     sees-tag3.ensures c.tagged3.ensures
 

@@ -1,6 +1,6 @@
 -- `rows::tagged` meets its contract.
 -- Assumes nothing.
-use Rattle.rows.proofs.Laws.{tagged-by}
+use Rattle.rows.proofs.Laws.{tagged_by}
 use borrow.Author.Rules.{rules}
 use Rattle.rows.proofs.tagged.Statement.{statement}
 use Rattle.rows.proofs.tagged.Tie as tie
@@ -29,8 +29,8 @@ returns c =
     let on-data = c.before.before.before.before.on-data in
     let has-data = c.before.before.before.before.before.has-data in
     let args = c.before.before.before.before.before.before.before.args in
-    tagged-by args.e.now args.tag.0 args.table args.before.0 args.answer has-data.result on-data.result
-    choose-bool.result c.tags-allow.result has-data.ensures on-data.ensures choose-bool.ensures c.tags-allow.ensures
+    tagged_by args.e.now args.tag.0 args.table args.before.0 args.answer has-data.result on-data.result
+    choose-bool.result c.tags_allow.result has-data.ensures on-data.ensures choose-bool.ensures c.tags_allow.ensures
 
 pub tagged-spec : {M : Type 1} → statement M
 tagged-spec =

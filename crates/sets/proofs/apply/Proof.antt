@@ -1,6 +1,6 @@
 -- `sets::apply` meets its contract: the seven states are asked one by one.
 -- Assumes nothing.
-use Rattle.sets.proofs.Laws.{apply-chain}
+use Rattle.sets.proofs.Laws.{apply_chain}
 use borrow.Author.Rules.{rules}
 use Rattle.sets.proofs.apply.Statement.{statement}
 use Rattle.sets.proofs.apply.Tie as tie
@@ -56,7 +56,7 @@ returns c =
     let from-state2 = c.before.before.before.before.before.from-state2 in
     let from-state = c.before.before.before.before.before.before.from-state in
     let args = c.before.before.before.before.before.before.before.args in
-    apply-chain args.t1 args.before from-state.result from-state2.result from-state3.result from-state4.result
+    apply_chain args.t1 args.before from-state.result from-state2.result from-state3.result from-state4.result
     from-state5.result from-state6.result c.from-state7.result from-state.ensures from-state2.ensures from-state3.ensures
     from-state4.ensures from-state5.ensures from-state6.ensures c.from-state7.ensures
 

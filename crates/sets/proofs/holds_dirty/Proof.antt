@@ -1,6 +1,6 @@
 -- `sets::holds_dirty` meets its contract: the seven states are tried one by one.
 -- Assumes nothing.
-use Rattle.sets.proofs.Laws.{dirty-chain}
+use Rattle.sets.proofs.Laws.{dirty_chain}
 use borrow.Author.Rules.{rules}
 use Rattle.sets.proofs.holds_dirty.Statement.{statement}
 use Rattle.sets.proofs.holds_dirty.Tie as tie
@@ -35,7 +35,7 @@ returns c =
     let held-dirty2 = c.before.before.before.before.before.held-dirty2 in
     let held-dirty = c.before.before.before.before.before.before.held-dirty in
     let args = c.before.before.before.before.before.before.before.args in
-    dirty-chain args.set held-dirty.result held-dirty2.result held-dirty3.result held-dirty4.result held-dirty5.result
+    dirty_chain args.set held-dirty.result held-dirty2.result held-dirty3.result held-dirty4.result held-dirty5.result
     held-dirty6.result c.held-dirty7.result held-dirty.ensures held-dirty2.ensures held-dirty3.ensures
     held-dirty4.ensures held-dirty5.ensures held-dirty6.ensures c.held-dirty7.ensures
 

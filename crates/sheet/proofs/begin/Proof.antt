@@ -1,6 +1,6 @@
 -- `sheet::begin` meets its contract: the table is filled, the header's line is put, and nothing is held.
 -- Assumes nothing.
-use Rattle.sheet.proofs.Laws.{begun-is}
+use Rattle.sheet.proofs.Laws.{begun_is}
 use borrow.Author.Rules.{rules}
 use Rattle.sheet.proofs.begin.Statement.{statement}
 use Rattle.sheet.proofs.begin.Tie as tie
@@ -26,7 +26,7 @@ returns c =
     let at_fill_lem = c.before.before.before.before.before.before.before in
     let fill = at_fill_lem.fill in
     let args = at_fill_lem.before.before.before.before.args in
-    begun-is args.table.now args.out.now fill.ensures put-header.ensures c.answer.ensures
+    begun_is args.table.now args.out.now fill.ensures put-header.ensures c.answer.ensures
 
 pub begin-spec : {M : Type 1} → statement M
 begin-spec =

@@ -5,7 +5,7 @@ use mathlib.Core.Bool.{cond}
 use Prim.Native.Nat.{◌+◌, ◌-◌}
 use lib.ListN.{length}
 use Rattle.sheet.specs.Pieces.{held}
-use Rattle.sheet.proofs.Laws.{Eating, eating-start, ready-test, sure_next, unsure-next, nothing_left, next-end, roomy-here, said_here, counts-on, eaten-all, eating-less, eating-next}
+use Rattle.sheet.proofs.Laws.{Eating, eating_start, ready_test, sure_next, unsure_next, nothing_left, next_end, roomy_here, said_here, counts_on, eaten_all, eating_less, eating_next}
 use Rattle.sheet.proofs.eat.Statement.{statement}
 use Rattle.sheet.proofs.eat.Tie as tie
 
@@ -18,7 +18,7 @@ decreases-loop piece ended lines going table₀ out₀ taken₀ put₀ count₀ 
 loop-holds : tie.Need-loop-init invariant-loop decreases-loop
 loop-holds c =
     let args = c.before.before.before.args in
-    eating-start args.ended args.piece.now args.table.now args.out.now args.lines args.going
+    eating_start args.ended args.piece.now args.table.now args.out.now args.lines args.going
 
 sub-loop : tie.Need-overflow-sub-loop invariant-loop decreases-loop
 sub-loop c = c.loop.invariant.fits
@@ -31,21 +31,21 @@ sub-judge-line c =
     let next-line = c.before.before.before.next-line in
     let loop = c.before.before.before.before.before.before.loop in
     let args = c.before.before.before.before.before.before.before.before.before.before.args in
-    (next-end args.ended loop.count loop.taken args.piece.now next-line.result loop.invariant.inside next-line.ensures).0
+    (next_end args.ended loop.count loop.taken args.piece.now next-line.result loop.invariant.inside next-line.ensures).0
 
 part-judge-line-start : tie.Need-slice-bounds-judge-line-start invariant-loop decreases-loop
 part-judge-line-start c =
     let next-line = c.before.before.before.next-line in
     let loop = c.before.before.before.before.before.before.loop in
     let args = c.before.before.before.before.before.before.before.before.before.before.args in
-    (next-end args.ended loop.count loop.taken args.piece.now next-line.result loop.invariant.inside next-line.ensures).0
+    (next_end args.ended loop.count loop.taken args.piece.now next-line.result loop.invariant.inside next-line.ensures).0
 
 part-judge-line-end : tie.Need-slice-bounds-judge-line-end invariant-loop decreases-loop
 part-judge-line-end c =
     let next-line = c.before.before.before.next-line in
     let loop = c.before.before.before.before.before.before.loop in
     let args = c.before.before.before.before.before.before.before.before.before.before.args in
-    (next-end args.ended loop.count loop.taken args.piece.now next-line.result loop.invariant.inside next-line.ensures).1
+    (next_end args.ended loop.count loop.taken args.piece.now next-line.result loop.invariant.inside next-line.ensures).1
 
 judge-line-requires : tie.Need-judge-line-requires invariant-loop decreases-loop
 judge-line-requires c κs =
@@ -54,13 +54,13 @@ judge-line-requires c κs =
     let test = c.before.before.before.before.before.before.before.before.loop-test in
     let loop = c.before.before.before.before.before.before.before.before.before.loop in
     let ready = sure_next loop.invariant test.true next-line.ensures if3.false in
-    (roomy-here loop.invariant ready, said_here loop.invariant next-line.result next-line.ensures ready)
+    (roomy_here loop.invariant ready, said_here loop.invariant next-line.result next-line.ensures ready)
 
 counted-requires : tie.Need-counted-requires invariant-loop decreases-loop
 counted-requires c κs = λ g.
     let judge-line = c.before.before.before.before.judge-line in
     let loop = c.before.before.before.before.before.before.before.before.before.before.before.before.before.before.loop in
-    counts-on loop.count loop.table _ judge-line.ensures g
+    counts_on loop.count loop.table _ judge-line.ensures g
 
 loop-less : tie.Need-loop-smaller invariant-loop decreases-loop
 loop-less c =
@@ -70,8 +70,8 @@ loop-less c =
     let test = c.before.before.before.before.before.before.before.before.before.before.before.before.before.before.loop-test in
     let loop = c.before.before.before.before.before.before.before.before.before.before.before.before.before.before.before.loop in
     let ready = sure_next loop.invariant test.true next-line.ensures if3.false in
-    eating-less loop.invariant
-    (record { is-ready = ready; is-next = next-line.ensures; answered = judge-line.ensures; counted = c.counted.ensures })
+    eating_less loop.invariant
+    (record { is_ready = ready; is_next = next-line.ensures; answered = judge-line.ensures; counted = c.counted.ensures })
 
 loop-again : tie.Need-loop-preserved invariant-loop decreases-loop
 loop-again c =
@@ -81,35 +81,35 @@ loop-again c =
     let test = c.before.before.before.before.before.before.before.before.before.before.before.before.before.before.loop-test in
     let loop = c.before.before.before.before.before.before.before.before.before.before.before.before.before.before.before.loop in
     let ready = sure_next loop.invariant test.true next-line.ensures if3.false in
-    eating-next loop.invariant
-    (record { is-ready = ready; is-next = next-line.ensures; answered = judge-line.ensures; counted = c.counted.ensures })
+    eating_next loop.invariant
+    (record { is_ready = ready; is_next = next-line.ensures; answered = judge-line.ensures; counted = c.counted.ensures })
 
 same_length : tie.Need-same-length invariant-loop decreases-loop
-same_length c = c.before.loop.invariant.table-long
+same_length c = c.before.loop.invariant.table_long
 
 same-length-2 : tie.Need-same-length-2 invariant-loop decreases-loop
 same-length-2 c = c.before.loop.invariant.long
 
 returns : tie.Need-returns invariant-loop decreases-loop
-returns c = eaten-all c.before.loop.invariant (ready-test c.before.loop.invariant c.loop-test.false refl)
+returns c = eaten_all c.before.loop.invariant (ready_test c.before.loop.invariant c.loop-test.false refl)
 
 same-length-3 : tie.Need-same-length-3 invariant-loop decreases-loop
-same-length-3 c = c.before.before.before.loop.invariant.table-long
+same-length-3 c = c.before.before.before.loop.invariant.table_long
 
 same-length-4 : tie.Need-same-length-4 invariant-loop decreases-loop
 same-length-4 c = c.before.before.before.loop.invariant.long
 
 returns-2 : tie.Need-returns-2 invariant-loop decreases-loop
-returns-2 c = eaten-all c.before.before.before.loop.invariant (nothing_left c.before.before.before.loop.invariant c.before.if1.true c.if2.true)
+returns-2 c = eaten_all c.before.before.before.loop.invariant (nothing_left c.before.before.before.loop.invariant c.before.if1.true c.if2.true)
 
 same-length-5 : tie.Need-same-length-5 invariant-loop decreases-loop
-same-length-5 c = c.before.before.before.before.before.loop.invariant.table-long
+same-length-5 c = c.before.before.before.before.before.loop.invariant.table_long
 
 same-length-6 : tie.Need-same-length-6 invariant-loop decreases-loop
 same-length-6 c = c.before.before.before.before.before.loop.invariant.long
 
 returns-3 : tie.Need-returns-3 invariant-loop decreases-loop
-returns-3 c = eaten-all c.before.before.before.before.before.loop.invariant (unsure-next c.before.before.before.before.before.loop.invariant c.before.before.next-line.ensures c.if3.true)
+returns-3 c = eaten_all c.before.before.before.before.before.loop.invariant (unsure_next c.before.before.before.before.before.loop.invariant c.before.before.next-line.ensures c.if3.true)
 
 pub eat-spec : {M : Type 1} → statement M
 eat-spec =

@@ -3,7 +3,7 @@
 use mathlib.Core.Path.{sym, ◌∙◌}
 use native.Mathlib.Omega.{arith}
 use Rattle.sheet.specs.Sheet.{header}
-use Rattle.sheet.proofs.Laws.{header-good, header-bad}
+use Rattle.sheet.proofs.Laws.{header_good, header_bad}
 use borrow.Author.Rules.{rules}
 use Rattle.sheet.proofs.judge_header.Statement.{statement}
 use Rattle.sheet.proofs.judge_header.Tie as tie
@@ -20,7 +20,7 @@ returns c =
     let start = c.before.before.before.before.before in
     let args = start.args in
     let pre = start.requires in
-    header-good args.line.now args.out.now args.at (sym c.before.is.ensures ∙ c.if1.true) (omega (arith, pre))
+    header_good args.line.now args.out.now args.at (sym c.before.is.ensures ∙ c.if1.true) (omega (arith, pre))
 
 refuse-line-requires : tie.Need-refuse-line-requires
 refuse-line-requires c κs = search rules
@@ -35,7 +35,7 @@ returns-2 c =
     let if1 = c.before.before.before.before.if1 in
     let is_call = c.before.before.before.before.before.is in
     let args = c.before.before.before.before.before.before.before.before.before.args in
-    header-bad args.line.now (sym is_call.ensures ∙ if1.false) refuse-line.ensures
+    header_bad args.line.now (sym is_call.ensures ∙ if1.false) refuse-line.ensures
 
 pub judge-header-spec : {M : Type 1} → statement M
 judge-header-spec =

@@ -1,8 +1,8 @@
 -- `sheet::judge_line` meets its contract: the header, then 7 for a line too many or too long, then what the line says.
 -- Assumes nothing.
 use native.Mathlib.Omega.{arith}
-use Rattle.sheet.proofs.Good.{parse-no-fault}
-use Rattle.sheet.proofs.Laws.{positive, first-line, line-too-many, line-too-long, line_read}
+use Rattle.sheet.proofs.Good.{parse_no_fault}
+use Rattle.sheet.proofs.Laws.{positive, first_line_lem, line_too_many, line_too_long, line_read}
 use borrow.Author.Rules.{rules}
 use Rattle.sheet.proofs.judge_line.Statement.{statement}
 use Rattle.sheet.proofs.judge_line.Tie as tie
@@ -18,7 +18,7 @@ returns c =
     let judge-header = c.before.before.judge-header in
     let if1 = c.before.before.before.before.if1 in
     let args = c.before.before.before.before.before.before.before.before.args in
-    first-line args.lines args.line.now args.table.now if1.true judge-header.ensures
+    first_line_lem args.lines args.line.now args.table.now if1.true judge-header.ensures
 
 add-if2 : tie.Need-overflow-add-if2
 add-if2 c = search rules
@@ -35,7 +35,7 @@ returns-2 c =
     let if2 = c.before.before.before.before.if2 in
     let if1 = c.before.before.before.before.before.if1 in
     let args = c.before.before.before.before.before.before.before.before.before.args in
-    line-too-many args.lines args.line.now args.table.now if1.false if2.true refuse-line.ensures
+    line_too_many args.lines args.line.now args.table.now if1.false if2.true refuse-line.ensures
 
 refuse-line-requires-2 : tie.Need-refuse-line-requires-2
 refuse-line-requires-2 c κs = search rules
@@ -50,7 +50,7 @@ returns-3 c =
     let if2 = c.before.before.before.before.before.if2 in
     let if1 = c.before.before.before.before.before.before.if1 in
     let args = c.before.before.before.before.before.before.before.before.before.before.args in
-    line-too-long args.lines args.line.now args.table.now if1.false if2.false if3.true refuse-line2.ensures
+    line_too_long args.lines args.line.now args.table.now if1.false if2.false if3.true refuse-line2.ensures
 
 judge-parsed-requires : tie.Need-judge-parsed-requires
 judge-parsed-requires c κs =
@@ -59,7 +59,7 @@ judge-parsed-requires c κs =
     let if1 = c.before.before.before.before.if1 in
     let pre = c.before.before.before.before.before.before.before.before.requires in
     let args = c.before.before.before.before.before.before.before.before.args in
-    (pre.0, (positive args.lines if1.false, (omega (arith, if2.false), parse-no-fault args.line.now args.parsed (pre.1 (positive args.lines if1.false) if3.false))))
+    (pre.0, (positive args.lines if1.false, (omega (arith, if2.false), parse_no_fault args.line.now args.parsed (pre.1 (positive args.lines if1.false) if3.false))))
 
 same-length-4 : tie.Need-same-length-4
 same-length-4 c = search rules

@@ -1,9 +1,9 @@
 -- `sheet::judge_parsed` meets its contract: refused, the table stays; else the set of its pair moves and the answer is put.
 -- Assumes nothing.
 use mathlib.Core.Path.{◌∙◌}
-use Rattle.event.proofs.Ranges.{in-range}
-use Rattle.verdicts.proofs.Looked.{found-finding}
-use Rattle.sheet.proofs.Laws.{parsed-refused, answer-put}
+use Rattle.event.proofs.Ranges.{in_range_lem}
+use Rattle.verdicts.proofs.Looked.{found_finding}
+use Rattle.sheet.proofs.Laws.{parsed_refused, answer_put}
 use borrow.Author.Rules.{rules}
 use Rattle.sheet.proofs.judge_parsed.Statement.{statement}
 use Rattle.sheet.proofs.judge_parsed.Tie as tie
@@ -19,7 +19,7 @@ returns c =
     let refuse-line = c.before.before.refuse-line in
     let if1 = c.before.before.before.before.if1 in
     let args = c.before.before.before.before.before.before.before.before.args in
-    parsed-refused args.lines args.table.now args.parsed if1.true refuse-line.ensures
+    parsed_refused args.lines args.table.now args.parsed if1.true refuse-line.ensures
 
 set-in-requires : tie.Need-set-in-requires
 set-in-requires c κs = search rules
@@ -48,9 +48,9 @@ same-length-3 c = search rules
 returns-2 : tie.Need-returns-2
 returns-2 c =
     let pre = c.before.before.before.before.before.before.before.before.before.before.before.before.before.before.before.before.before.before.requires in
-    answer-put c.before.before.before.before.before.before.before.before.before.before.before.before.before.before.before.before.before.before.args.lines c.before.before.before.before.before.before.before.before.before.before.before.before.before.before.before.before.before.before.args.at c.before.before.put-answer.result c.before.before.before.before.before.before.before.before.before.before.before.before.before.before.before.before.before.before.args.table.now c.before.before.before.before.before.before.before.before.before.before.before.before.before.before.before.before.before.before.args.out.now _ _ c.before.before.before.before.before.before.before.before.before.before.before.before.before.before.before.before.before.before.args.parsed c.before.before.before.before.before.before.before.before.found.result
+    answer_put c.before.before.before.before.before.before.before.before.before.before.before.before.before.before.before.before.before.before.args.lines c.before.before.before.before.before.before.before.before.before.before.before.before.before.before.before.before.before.before.args.at c.before.before.put-answer.result c.before.before.before.before.before.before.before.before.before.before.before.before.before.before.before.before.before.before.args.table.now c.before.before.before.before.before.before.before.before.before.before.before.before.before.before.before.before.before.before.args.out.now _ _ c.before.before.before.before.before.before.before.before.before.before.before.before.before.before.before.before.before.before.args.parsed c.before.before.before.before.before.before.before.before.found.result
     c.before.before.before.before.before.before.before.before.before.before.set-in.result pre.1.0 pre.1.1.0 pre.0 c.before.before.before.before.before.before.before.before.before.before.before.before.before.before.if1.false c.before.before.before.before.before.before.before.before.before.before.set-in.ensures
-    (c.before.before.before.before.before.before.before.before.found.ensures ∙ found-finding c.before.before.before.before.before.before.before.before.before.before.before.before.before.before.before.before.before.before.args.parsed.event (in-range c.before.before.before.before.before.before.before.before.before.before.before.before.before.before.before.before.before.before.args.parsed.event (pre.1.1.1 c.before.before.before.before.before.before.before.before.before.before.before.before.before.before.if1.false)) c.before.before.before.before.before.before.before.before.before.before.set-in.result)
+    (c.before.before.before.before.before.before.before.before.found.ensures ∙ found_finding c.before.before.before.before.before.before.before.before.before.before.before.before.before.before.before.before.before.before.args.parsed.event (in_range_lem c.before.before.before.before.before.before.before.before.before.before.before.before.before.before.before.before.before.before.args.parsed.event (pre.1.1.1 c.before.before.before.before.before.before.before.before.before.before.before.before.before.before.if1.false)) c.before.before.before.before.before.before.before.before.before.before.set-in.result)
     c.before.before.before.before.before.before.put_in.ensures c.before.before.put-answer.ensures
 
 pub judge-parsed-spec : {M : Type 1} → statement M

@@ -2,8 +2,8 @@
 -- Assumes nothing.
 use mathlib.Core.Path.{◌∙◌, ap}
 use lib.Dec.{ltb}
-use Rattle.first_line.specs.First.{firstLine}
-use Rattle.sheet.proofs.Laws.{first-within, next-seen, rest_of}
+use Rattle.first_line.specs.First.{first_line}
+use Rattle.sheet.proofs.Laws.{first_within, next_seen, rest_of}
 use borrow.Author.Rules.{rules}
 use Rattle.sheet.proofs.next_line.Statement.{statement}
 use Rattle.sheet.proofs.next_line.Tie as tie
@@ -30,8 +30,8 @@ add-end c =
     let parse = c.before.before.parse in
     search (
       rules,
-      first-within args.piece.now args.start (ltb 0 args.lines) args.ended parse.result pre
-          (parse.ensures ∙ ap (firstLine (ltb 0 args.lines) args.ended) (rest_of args.piece.now args.start)),
+      first_within args.piece.now args.start (ltb 0 args.lines) args.ended parse.result pre
+          (parse.ensures ∙ ap (first_line (ltb 0 args.lines) args.ended) (rest_of args.piece.now args.start)),
     )
 
 behind-requires : tie.Need-behind-requires
@@ -41,16 +41,16 @@ behind-requires c κs =
     let parse = c.before.before.parse in
     search (
       rules,
-      first-within args.piece.now args.start (ltb 0 args.lines) args.ended parse.result pre
-          (parse.ensures ∙ ap (firstLine (ltb 0 args.lines) args.ended) (rest_of args.piece.now args.start)),
+      first_within args.piece.now args.start (ltb 0 args.lines) args.ended parse.result pre
+          (parse.ensures ∙ ap (first_line (ltb 0 args.lines) args.ended) (rest_of args.piece.now args.start)),
     )
 
 returns : tie.Need-returns
 returns c =
     let args = c.before.before.before.before.before.before.args in
     let parse = c.before.before.before.parse in
-    next-seen args.ended args.lines args.piece.now args.start c.behind.result parse.result
-    (parse.ensures ∙ ap (firstLine (ltb 0 args.lines) args.ended) (rest_of args.piece.now args.start)) c.behind.ensures
+    next_seen args.ended args.lines args.piece.now args.start c.behind.result parse.result
+    (parse.ensures ∙ ap (first_line (ltb 0 args.lines) args.ended) (rest_of args.piece.now args.start)) c.behind.ensures
 
 pub next-line-spec : {M : Type 1} → statement M
 next-line-spec =

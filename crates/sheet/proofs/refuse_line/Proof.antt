@@ -1,6 +1,6 @@
 -- `sheet::refuse_line` meets its contract: the refusal's line fits.
 -- Assumes nothing.
-use Rattle.sheet.proofs.Laws.{refuse-put}
+use Rattle.sheet.proofs.Laws.{refuse_put}
 use borrow.Author.Rules.{rules}
 use Rattle.sheet.proofs.refuse_line.Statement.{statement}
 use Rattle.sheet.proofs.refuse_line.Tie as tie
@@ -20,7 +20,7 @@ returns c =
     let start = c.before.before.before.before.before in
     let args = start.args in
     let pre = start.requires in
-    refuse-put args.refusal.0 args.lines args.at put-refusal.result args.out.now _ (search rules) (search rules) pre
+    refuse_put args.refusal.0 args.lines args.at put-refusal.result args.out.now _ (search rules) (search rules) pre
     put-refusal.ensures
 
 pub refuse-line-spec : {M : Type 1} → statement M

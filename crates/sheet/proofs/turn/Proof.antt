@@ -2,7 +2,7 @@
 -- Assumes nothing.
 use native.Mathlib.Omega.{arith}
 use lib.ListN.{length-take}
-use Rattle.sheet.proofs.Laws.{ate-most, turn_is}
+use Rattle.sheet.proofs.Laws.{ate_most, turn_is}
 use borrow.Author.Rules.{rules}
 use Rattle.sheet.proofs.turn.Statement.{statement}
 use Rattle.sheet.proofs.turn.Tie as tie
@@ -28,7 +28,7 @@ sub-rest c =
     let at-held-with = c.before.before.before.before.before.before.before.before in
     let held_with = at-held-with.held_with in
     let args = at-held-with.before.before.before.before.before.before.args in
-    omega (arith, ate-most _ _ _ _ _ _ eat.ensures, length-take held_with.result args.piece.now)
+    omega (arith, ate_most _ _ _ _ _ _ eat.ensures, length-take held_with.result args.piece.now)
 
 move-down-requires : tie.Need-move-down-requires
 move-down-requires c κs =
@@ -36,7 +36,7 @@ move-down-requires c κs =
     let at-held-with = c.before.before.before.before.before.before.before.before.before in
     let held_with = at-held-with.held_with in
     let args = at-held-with.before.before.before.before.before.before.args in
-    omega (arith, ate-most _ _ _ _ _ _ eat.ensures, length-take held_with.result args.piece.now, held_with.ensures)
+    omega (arith, ate_most _ _ _ _ _ _ eat.ensures, length-take held_with.result args.piece.now, held_with.ensures)
 
 answer-requires : tie.Need-answer-requires
 answer-requires c κs = tt

@@ -1,6 +1,6 @@
 -- `steps::duty` meets its contract: the choices of the code are those of `duty`.
 -- Assumes nothing.
-use Rattle.steps.proofs.Laws.{duty-by}
+use Rattle.steps.proofs.Laws.{duty_by}
 use borrow.Author.Rules.{rules}
 use Rattle.steps.proofs.duty.Statement.{statement}
 use Rattle.steps.proofs.duty.Tie as tie
@@ -43,7 +43,7 @@ returns c =
     let choose-byte3 = c.before.choose-byte3 in
     let choose-byte2 = c.before.before.choose-byte2 in
     let choose-byte = c.before.before.before.choose-byte in
-    let holds-dirty = c.before.before.before.before.before.before.before.holds-dirty in
+    let holds_dirty_lem = c.before.before.before.before.before.before.before.holds_dirty in
     let byte-at4 = c.before.before.before.before.before.before.before.before.byte-at4 in
     let byte-at3 = c.before.before.before.before.before.before.before.before.before.byte-at3 in
     let passes-dirty2 = c.before.before.before.before.before.before.before.before.before.before.passes-dirty2 in
@@ -51,10 +51,10 @@ returns c =
     let passes-dirty = c.before.before.before.before.before.before.before.before.before.before.before.before.passes-dirty in
     let byte_at = c.before.before.before.before.before.before.before.before.before.before.before.before.before.byte_at in
     let args = c.before.before.before.before.before.before.before.before.before.before.before.before.before.before.before.args in
-    duty-by args.event.now args.before byte_at.result byte-at2.result byte-at3.result byte-at4.result
-    passes-dirty.result passes-dirty2.result holds-dirty.result choose-byte.result choose-byte2.result
+    duty_by args.event.now args.before byte_at.result byte-at2.result byte-at3.result byte-at4.result
+    passes-dirty.result passes-dirty2.result holds_dirty_lem.result choose-byte.result choose-byte2.result
     choose-byte3.result c.choose-byte4.result byte_at.ensures passes-dirty.ensures byte-at2.ensures
-    passes-dirty2.ensures byte-at3.ensures byte-at4.ensures holds-dirty.ensures choose-byte.ensures
+    passes-dirty2.ensures byte-at3.ensures byte-at4.ensures holds_dirty_lem.ensures choose-byte.ensures
     choose-byte2.ensures choose-byte3.ensures c.choose-byte4.ensures
 
 pub duty-spec : {M : Type 1} → statement M

@@ -1,6 +1,6 @@
 -- `steps::event_key` meets its contract: each column is read off the event.
 -- Assumes nothing.
-use Rattle.steps.proofs.Laws.{key-by}
+use Rattle.steps.proofs.Laws.{key_by}
 use borrow.Author.Rules.{rules}
 use Rattle.steps.proofs.event_key.Statement.{statement}
 use Rattle.steps.proofs.event_key.Tie as tie
@@ -37,7 +37,7 @@ returns c =
     let message-of = c.before.before.before.message-of in
     let tables-of = c.before.before.before.before.before.before.tables-of in
     let args = c.before.before.before.before.before.before.before.before.before.args in
-    key-by args.e.now tables-of.result message-of.result c.row-key.result tables-of.ensures message-of.ensures
+    key_by args.e.now tables-of.result message-of.result c.row-key.result tables-of.ensures message-of.ensures
     c.row-key.ensures
 
 pub event-key-spec : {M : Type 1} → statement M

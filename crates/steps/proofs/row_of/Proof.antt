@@ -1,6 +1,6 @@
 -- `steps::row_of` meets its contract: each column is read off the word.
 -- Assumes nothing.
-use Rattle.steps.proofs.Laws.{row-parts}
+use Rattle.steps.proofs.Laws.{row_parts}
 use borrow.Author.Rules.{rules}
 use Rattle.steps.proofs.row_of.Statement.{statement}
 use Rattle.steps.proofs.row_of.Tie as tie
@@ -42,7 +42,7 @@ returns c =
     let table_of = c.before.before.before.before.before.before.table_of in
     let column = c.before.before.before.before.before.before.before.column in
     let args = c.before.before.before.before.before.before.before.before.args in
-    row-parts args.word column.result column2.result column3.result column4.result column5.result c.column6.result
+    row_parts args.word column.result column2.result column3.result column4.result column5.result c.column6.result
     table_of.result answer-of.result column.ensures table_of.ensures column2.ensures column3.ensures column4.ensures
     column5.ensures answer-of.ensures c.column6.ensures
 

@@ -1,6 +1,6 @@
 -- `steps::seen_states` meets its contract: a byte of the eight sets, and none past them.
 -- Assumes nothing.
-use Rattle.steps.proofs.Laws.{seen_at, seen-past}
+use Rattle.steps.proofs.Laws.{seen_at, seen_past}
 use borrow.Author.Rules.{rules}
 use Rattle.steps.proofs.seen_states.Statement.{statement}
 use Rattle.steps.proofs.seen_states.Tie as tie
@@ -21,7 +21,7 @@ returns : tie.Need-returns
 returns c = seen_at c.before.args.shown.0 c.if1.true
 
 returns-2 : tie.Need-returns-2
-returns-2 c = seen-past c.before.args.shown.0 c.if1.false
+returns-2 c = seen_past c.before.args.shown.0 c.if1.false
 
 pub seen-states-spec : {M : Type 1} → statement M
 seen-states-spec =

@@ -6,20 +6,20 @@ use native.Mathlib.Omega.{arith}
 use Prim.Native.Nat.{◌≤◌, ◌-◌}
 use mathlib.Core.Path.{◌≡◌, refl}
 use lib.ListN.{take}
-use Rattle.sets.specs.Sets.{setOf}
+use Rattle.sets.specs.Sets.{set_of}
 use Rattle.rows.specs.Rows.{rows}
-use Rattle.steps.specs.Code.{rowCount, row_at, eventBytes, wireKey}
-use Rattle.steps.proofs.Walk.{Printed, half, keyed, walked, walk_none, word-before, walk_end}
-use Rattle.steps.proofs.Passing.{pass-turn, add_turn}
+use Rattle.steps.specs.Code.{row_count, row_at, event_bytes, wire_key}
+use Rattle.steps.proofs.Walk.{Printed, half, keyed, walked, walk_none, word_before, walk_end}
+use Rattle.steps.proofs.Passing.{pass_turn, add_turn}
 use Rattle.steps.proofs.sets_after.Statement.{statement}
 use Rattle.steps.proofs.sets_after.Tie as tie
 
 abbrev invariant-loop : tie.invariant-loop
 invariant-loop event e among key words sets₀ i₀ sets i =
-    (i ≤ rowCount) × Printed words × (sets ≡ walked (eventBytes event) (take i rows))
+    (i ≤ row_count) × Printed words × (sets ≡ walked (event_bytes event) (take i rows))
 
 abbrev decreases-loop : tie.decreases-loop
-decreases-loop event e among key words sets₀ i₀ sets i = rowCount - i
+decreases-loop event e among key words sets₀ i₀ sets i = row_count - i
 
 event-bytes-requires : tie.Need-event-bytes-requires invariant-loop decreases-loop
 event-bytes-requires c κs = search rules
@@ -34,8 +34,8 @@ event-key-requires : tie.Need-event-key-requires invariant-loop decreases-loop
 event-key-requires c κs = search rules
 
 loop-holds : tie.Need-loop-init invariant-loop decreases-loop
-unfolding row_at rows setOf keyed wireKey half
-loop-holds c = (omega arith, record { same = refl; keys = refl }, walk_none (eventBytes c.before.before.before.before.before.args.event.now))
+unfolding row_at rows set_of keyed wire_key half
+loop-holds c = (omega arith, record { same = refl; keys = refl }, walk_none (event_bytes c.before.before.before.before.before.args.event.now))
 
 mul-word : tie.Need-overflow-mul-word invariant-loop decreases-loop
 mul-word c = omega arith
@@ -58,7 +58,7 @@ loop-again c =
     let args = c.before.before.before.before.before.before.before.before.args in (
       omega arith,
       loop.invariant.1,
-      pass-turn args.event.now loop.i event-bytes.result seen-states.result event-key.result loop.sets loop.invariant.1
+      pass_turn args.event.now loop.i event-bytes.result seen-states.result event-key.result loop.sets loop.invariant.1
           c.before.loop-test.true event-bytes.ensures seen-states.ensures event-key.ensures c.if1.true loop.invariant.2,
     )
 
@@ -76,14 +76,14 @@ array-read-sets c =
     let row_of = c.before.before.before.row_of in
     let loop-test = c.before.before.before.before.before.loop-test in
     let loop = c.before.before.before.before.before.before.loop in
-    word-before loop.i row_of.result loop.invariant.1 loop-test.true row_of.ensures
+    word_before loop.i row_of.result loop.invariant.1 loop-test.true row_of.ensures
 
 array-write-sets : tie.Need-array-write-sets invariant-loop decreases-loop
 array-write-sets c =
     let row_of = c.before.before.before.row_of in
     let loop-test = c.before.before.before.before.before.loop-test in
     let loop = c.before.before.before.before.before.before.loop in
-    word-before loop.i row_of.result loop.invariant.1 loop-test.true row_of.ensures
+    word_before loop.i row_of.result loop.invariant.1 loop-test.true row_of.ensures
 
 add-i-2 : tie.Need-overflow-add-i-2 invariant-loop decreases-loop
 add-i-2 c = omega arith

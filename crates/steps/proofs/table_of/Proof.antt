@@ -1,6 +1,6 @@
 -- `steps::table_of` meets its contract: each arm is a case of `table_at`.
 -- Assumes nothing.
-use Rattle.steps.proofs.Laws.{table-else}
+use Rattle.steps.proofs.Laws.{table_else}
 use Rattle.steps.proofs.table_of.Statement.{statement}
 use Rattle.steps.proofs.table_of.Tie as tie
 
@@ -28,7 +28,7 @@ returns-7 c = rw c.match.keys7
 returns-8 : tie.Need-returns-8
 returns-8 c =
     let rest = c.match.rest in
-    table-else c.before.args.number rest.0.0.0.0.0.0.1 rest.0.0.0.0.0.1 rest.0.0.0.0.1 rest.0.0.0.1
+    table_else c.before.args.number rest.0.0.0.0.0.0.1 rest.0.0.0.0.0.1 rest.0.0.0.0.1 rest.0.0.0.1
     rest.0.0.1 rest.0.1 rest.1
 
 pub table-of-spec : {M : Type 1} → statement M

@@ -3,7 +3,7 @@
 use mathlib.Core.Bool.{◌||◌}
 use lib.Dec.{eqb}
 use Rattle.kinds.specs.Codes.{NDERR, SnpUnique, SnpCleanInvalid, SnpMakeInvalid, SnpPreferUniqueFwd}
-use Rattle.steps.proofs.Laws.{three-choices}
+use Rattle.steps.proofs.Laws.{three_choices}
 use borrow.Author.Rules.{rules}
 use Rattle.steps.proofs.tables_of.Statement.{statement}
 use Rattle.steps.proofs.tables_of.Tie as tie
@@ -22,7 +22,7 @@ returns c =
     let choose-byte2 = c.before.choose-byte2 in
     let choose-byte = c.before.before.choose-byte in
     let args = c.before.before.before.before.before.before.before.before.args in
-    three-choices (eqb args.error NDERR || eqb args.request SnpMakeInvalid)
+    three_choices (eqb args.error NDERR || eqb args.request SnpMakeInvalid)
     (eqb args.request SnpUnique || eqb args.request SnpCleanInvalid) (eqb args.request SnpPreferUniqueFwd) 3 2 1 0
     choose-byte.result choose-byte2.result c.choose-byte3.result choose-byte.ensures choose-byte2.ensures
     c.choose-byte3.ensures

@@ -4,14 +4,14 @@ use Prim.Native.Nat.{◌-◌}
 use native.Mathlib.Omega.{arith}
 use borrow.Author.Rules.{rules}
 use lib.ListN.{length}
-use Rattle.event.specs.Refusals.{issueE}
-use Rattle.trace.specs.Refusals.{faultAt, badEvent}
-use Rattle.trace.proofs.Laws.{First, first-start, first-here, first_next, first-end, bad, good}
+use Rattle.event.specs.Refusals.{issue_e}
+use Rattle.trace.specs.Refusals.{fault_at, bad_event}
+use Rattle.trace.proofs.Laws.{First, first_start, first_here, first_next, first_end, bad, good}
 use Rattle.trace.proofs.first_bad_event.Statement.{statement}
 use Rattle.trace.proofs.first_bad_event.Tie as tie
 
 abbrev invariant-loop : tie.invariant-loop
-invariant-loop events pairs table k₀ k = First (badEvent issueE events pairs table) (length pairs) k
+invariant-loop events pairs table k₀ k = First (bad_event issue_e events pairs table) (length pairs) k
 
 abbrev decreases-loop : tie.decreases-loop
 decreases-loop events pairs table k₀ k = length pairs - k
@@ -19,7 +19,7 @@ decreases-loop events pairs table k₀ k = length pairs - k
 loop-holds : tie.Need-loop-init invariant-loop decreases-loop
 loop-holds c =
     let args = c.before.before.before.args in
-    first-start (badEvent issueE args.events.now args.pairs.now args.table.now) (length args.pairs.now)
+    first_start (bad_event issue_e args.events.now args.pairs.now args.table.now) (length args.pairs.now)
 
 cast-loop : tie.Need-overflow-cast-loop invariant-loop decreases-loop
 cast-loop c = omega arith
@@ -33,8 +33,8 @@ returns c =
     let loop-test = c.before.before.before.loop-test in
     let loop = c.before.before.before.before.loop in
     let args = c.before.before.before.before.before.before.before.before.args in
-    first-here loop.invariant loop-test.true
-    (bad fault-at.result.0 (faultAt issueE args.events.now args.pairs.now args.table.now loop.k) fault-at.ensures c.if1.true)
+    first_here loop.invariant loop-test.true
+    (bad fault-at.result.0 (fault_at issue_e args.events.now args.pairs.now args.table.now loop.k) fault-at.ensures c.if1.true)
 
 add-k : tie.Need-overflow-add-k invariant-loop decreases-loop
 add-k c = omega (arith, c.before.before.before.before.before.before.before.before.requires.few)
@@ -49,10 +49,10 @@ loop-again c =
     let loop = c.before.before.before.before.loop in
     let args = c.before.before.before.before.before.before.before.before.args in
     first_next loop.invariant loop-test.true
-    (good fault-at.result.0 (faultAt issueE args.events.now args.pairs.now args.table.now loop.k) fault-at.ensures c.if1.false)
+    (good fault-at.result.0 (fault_at issue_e args.events.now args.pairs.now args.table.now loop.k) fault-at.ensures c.if1.false)
 
 returns-2 : tie.Need-returns-2 invariant-loop decreases-loop
-returns-2 c = first-end c.before.loop.invariant c.loop-test.false
+returns-2 c = first_end c.before.loop.invariant c.loop-test.false
 
 pub first-bad-event-spec : {M : Type 1} → statement M
 first-bad-event-spec =

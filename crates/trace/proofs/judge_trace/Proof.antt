@@ -1,10 +1,10 @@
 -- `trace::judge_trace` meets its contract: refused, nothing is written; accepted, everything is.
 -- Assumes nothing.
 use mathlib.Core.Path.{sym, ◌∙◌, ap}
-use Rattle.event.specs.Refusals.{issueE}
+use Rattle.event.specs.Refusals.{issue_e}
 use Rattle.trace.specs.declared.Outcome.{Outcome}
 use Rattle.trace.specs.Lent.{lent}
-use Rattle.trace.proofs.Laws.{fits, accepted-fits, left-refused, left-accepted}
+use Rattle.trace.proofs.Laws.{fits, accepted_fits, left_refused, left_accepted}
 use Rattle.trace.proofs.Whole.{ready}
 use borrow.Author.Rules.{rules}
 use Rattle.trace.proofs.judge_trace.Statement.{statement}
@@ -30,7 +30,7 @@ returns c =
     let at-outcome-of = c.before.before in
     let outcome-of = at-outcome-of.outcome-of in
     let args = at-outcome-of.before.before.before.before.before.before.before.before.before.before.before.args in
-    left-refused issueE
+    left_refused issue_e
     (lent args.events.now args.pairs.now args.table.now args.verdicts.now args.duties.now args.afters.now)
     outcome-of.result outcome-of.ensures c.if1.true
 
@@ -65,8 +65,8 @@ returns-2 c =
     let outcome-of = at-outcome-of.outcome-of in
     let args = at-outcome-of.before.before.before.before.before.before.before.before.before.before.before.args in
     let given = lent args.events.now args.pairs.now args.table.now args.verdicts.now args.duties.now args.afters.now in
-    left-accepted issueE given outcome-of.result _ _ _ _ outcome-of.ensures if1.false
-    (fits given (accepted-fits issueE given (sym (ap (λ (o : Outcome). o.refusal.0) outcome-of.ensures) ∙ if1.false))).pairs-fit
+    left_accepted issue_e given outcome-of.result _ _ _ _ outcome-of.ensures if1.false
+    (fits given (accepted_fits issue_e given (sym (ap (λ (o : Outcome). o.refusal.0) outcome-of.ensures) ∙ if1.false))).pairs_fit
     judge-all.ensures
 
 pub judge-trace-spec : {M : Type 1} → statement M

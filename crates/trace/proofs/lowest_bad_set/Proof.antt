@@ -5,14 +5,14 @@ use Prim.Native.Nat.{◌-◌}
 use native.Mathlib.Omega.{arith}
 use borrow.Author.Rules.{rules}
 use lib.ListN.{length}
-use Rattle.kinds.specs.Places.{setIn}
-use Rattle.trace.specs.Refusals.{badSetAt}
-use Rattle.trace.proofs.Laws.{First, first-from, first-here, first_next, first-end, set_tested}
+use Rattle.kinds.specs.Places.{set_in}
+use Rattle.trace.specs.Refusals.{bad_set_at}
+use Rattle.trace.proofs.Laws.{First, first_from_lem, first_here, first_next, first_end, set_tested}
 use Rattle.trace.proofs.lowest_bad_set.Statement.{statement}
 use Rattle.trace.proofs.lowest_bad_set.Tie as tie
 
 abbrev invariant-loop : tie.invariant-loop
-invariant-loop table p₀ p = First (badSetAt table) (length table) p
+invariant-loop table p₀ p = First (bad_set_at table) (length table) p
 
 abbrev decreases-loop : tie.decreases-loop
 decreases-loop table p₀ p = length table - p
@@ -24,7 +24,7 @@ loop-holds : tie.Need-loop-init invariant-loop decreases-loop
 loop-holds c =
     let table = c.before.before.args.table.now in
     let found = c.good-sets in
-    first-from (badSetAt table) (length table) found.result found.ensures.within found.ensures.good
+    first_from_lem (bad_set_at table) (length table) found.result found.ensures.within found.ensures.good
 
 cast-t6 : tie.Need-overflow-cast-t6 invariant-loop decreases-loop
 cast-t6 c = omega (arith, c.before.before.before.before.requires)
@@ -37,13 +37,13 @@ bad-set-requires c κs = search rules
 
 returns : tie.Need-returns invariant-loop decreases-loop
 returns c =
-    let bad-set = c.before.bad-set in
+    let bad_set = c.before.bad_set in
     let set-in = c.before.before.set-in in
     let loop-test = c.before.before.before.loop-test in
     let loop = c.before.before.before.before.loop in
     let args = c.before.before.before.before.before.before.before.args in
-    first-here loop.invariant loop-test.true
-    (set_tested set-in.result (setIn args.table.now loop.p) bad-set.result true set-in.ensures bad-set.ensures c.if1.true)
+    first_here loop.invariant loop-test.true
+    (set_tested set-in.result (set_in args.table.now loop.p) bad_set.result true set-in.ensures bad_set.ensures c.if1.true)
 
 add-p : tie.Need-overflow-add-p invariant-loop decreases-loop
 add-p c = omega arith
@@ -53,16 +53,16 @@ loop-less c = omega arith
 
 loop-again : tie.Need-loop-preserved invariant-loop decreases-loop
 loop-again c =
-    let bad-set = c.before.bad-set in
+    let bad_set = c.before.bad_set in
     let set-in = c.before.before.set-in in
     let loop-test = c.before.before.before.loop-test in
     let loop = c.before.before.before.before.loop in
     let args = c.before.before.before.before.before.before.before.args in
     first_next loop.invariant loop-test.true
-    (set_tested set-in.result (setIn args.table.now loop.p) bad-set.result false set-in.ensures bad-set.ensures c.if1.false)
+    (set_tested set-in.result (set_in args.table.now loop.p) bad_set.result false set-in.ensures bad_set.ensures c.if1.false)
 
 returns-2 : tie.Need-returns-2 invariant-loop decreases-loop
-returns-2 c = first-end c.before.loop.invariant c.loop-test.false
+returns-2 c = first_end c.before.loop.invariant c.loop-test.false
 
 pub lowest-bad-set-spec : {M : Type 1} → statement M
 lowest-bad-set-spec =

@@ -3,7 +3,7 @@
 use mathlib.Core.Path.{◌∙◌}
 use native.Mathlib.Omega.{arith}
 use borrow.Author.Rules.{rules}
-use Rattle.words.proofs.Laws.{half-last}
+use Rattle.words.proofs.Laws.{half_last}
 use Rattle.words.proofs.half_at.Statement.{statement}
 use Rattle.words.proofs.half_at.Tie as tie
 
@@ -11,7 +11,7 @@ last-requires : tie.Need-last-requires
 last-requires c κs = search rules
 
 returns : tie.Need-returns
-returns c = let args = c.before.before.before.args in c.last.ensures ∙ half-last args.bytes.now args.at (omega arith)
+returns c = let args = c.before.before.before.args in c.last.ensures ∙ half_last args.bytes.now args.at (omega arith)
 
 sub-if2 : tie.Need-overflow-sub-if2
 sub-if2 c = search rules
@@ -20,7 +20,7 @@ last-requires-2 : tie.Need-last-requires-2
 last-requires-2 c κs = search rules
 
 returns-2 : tie.Need-returns-2
-returns-2 c = let args = c.before.before.before.before.args in c.last2.ensures ∙ half-last args.bytes.now args.at (omega arith)
+returns-2 c = let args = c.before.before.before.before.args in c.last2.ensures ∙ half_last args.bytes.now args.at (omega arith)
 
 four-requires : tie.Need-four-requires
 four-requires c κs = search rules

@@ -7,7 +7,7 @@ use lib.ListN.{length, drop}
 use lib.Seq.{drop-length}
 use borrow.Author.Rules.{rules}
 use Rattle.words.specs.Words.{word_of}
-use Rattle.words.proofs.Laws.{last_turn, last_end, last-small}
+use Rattle.words.proofs.Laws.{last_turn, last_end, last_small}
 use Rattle.words.proofs.last.Statement.{statement}
 use Rattle.words.proofs.last.Tie as tie
 
@@ -28,7 +28,7 @@ small c =
     let loop = c.before.before.loop in
     let h : length bytes.now ≤ loop.i + 7 = omega arith in
     subst (λ (n : ℕ). n < 72057594037927936) (sym loop.invariant.2)
-    (last-small bytes.now (λ i. (c.shared-slice-known.given i).fits) loop.i h)
+    (last_small bytes.now (λ i. (c.shared-slice-known.given i).fits) loop.i h)
 
 sub-i : tie.Need-overflow-sub-i invariant-loop decreases-loop
 sub-i c = search rules

@@ -3,8 +3,8 @@
 use mathlib.Core.Path.{refl}
 use borrow.Author.Rules.{rules}
 use Rattle.text.specs.Text.{bytes}
-use Rattle.names.specs.Names.{code_of, forwardNames}
-use Rattle.first_line.proofs.Matching.{took-name, took-end}
+use Rattle.names.specs.Names.{code_of, forward_names}
+use Rattle.first_line.proofs.Matching.{took_name, took_end}
 use Rattle.first_line.proofs.in_place.comp_data.Statement.{statement}
 use Rattle.first_line.proofs.in_place.comp_data.Tie as tie
 
@@ -18,10 +18,10 @@ taken-requires : tie.Need-taken-requires
 taken-requires c κs = search rules
 
 returns : tie.Need-returns
-unfolding code_of forwardNames
+unfolding code_of forward_names
 returns c =
     let behind = c.before.before.behind in
-    took-name (bytes "_SC") c.taken.ensures (behind.ensures c.before.if1.true) refl refl refl
+    took_name (bytes "_SC") c.taken.ensures (behind.ensures c.before.if1.true) refl refl refl
 
 slice-aggregate-behind-2 : tie.Need-slice-aggregate-behind-2
 slice-aggregate-behind-2 c = search rules
@@ -33,10 +33,10 @@ taken-requires-2 : tie.Need-taken-requires-2
 taken-requires-2 c κs = search rules
 
 returns-2 : tie.Need-returns-2
-unfolding code_of forwardNames
+unfolding code_of forward_names
 returns-2 c =
     let behind2 = c.before.before.behind2 in
-    took-name (bytes "_UC") c.taken2.ensures (behind2.ensures c.before.if2.true) refl refl refl
+    took_name (bytes "_UC") c.taken2.ensures (behind2.ensures c.before.if2.true) refl refl refl
 
 slice-aggregate-behind-3 : tie.Need-slice-aggregate-behind-3
 slice-aggregate-behind-3 c = search rules
@@ -48,10 +48,10 @@ taken-requires-3 : tie.Need-taken-requires-3
 taken-requires-3 c κs = search rules
 
 returns-3 : tie.Need-returns-3
-unfolding code_of forwardNames
+unfolding code_of forward_names
 returns-3 c =
     let behind3 = c.before.before.behind3 in
-    took-name (bytes "_UD_PD") c.taken3.ensures (behind3.ensures c.before.if3.true) refl refl refl
+    took_name (bytes "_UD_PD") c.taken3.ensures (behind3.ensures c.before.if3.true) refl refl refl
 
 slice-aggregate-ending : tie.Need-slice-aggregate-ending
 slice-aggregate-ending c = search rules
@@ -60,8 +60,8 @@ ending-requires : tie.Need-ending-requires
 ending-requires c κs = search rules
 
 returns-4 : tie.Need-returns-4
-unfolding code_of forwardNames
-returns-4 c = took-end (bytes "_SD_PD") c.ending.ensures refl refl refl
+unfolding code_of forward_names
+returns-4 c = took_end (bytes "_SD_PD") c.ending.ensures refl refl refl
 
 pub comp-data-spec : {M : Type 1} → statement M
 comp-data-spec =

@@ -3,9 +3,9 @@
 use mathlib.Core.Path.{refl}
 use borrow.Author.Rules.{rules}
 use Rattle.text.specs.Text.{bytes}
-use Rattle.names.specs.Names.{code_of, responseNames, responses}
+use Rattle.names.specs.Names.{code_of, response_names, responses}
 use Rattle.first_line.specs.InPlace.{left}
-use Rattle.first_line.proofs.Matching.{took-end, took-rest}
+use Rattle.first_line.proofs.Matching.{took_end, took_rest}
 use Rattle.first_line.proofs.in_place.data_fwded.Statement.{statement}
 use Rattle.first_line.proofs.in_place.data_fwded.Tie as tie
 
@@ -21,7 +21,7 @@ i-data-fwded-requires c κs = search rules
 returns : tie.Need-returns
 returns c =
     let behind = c.before.before.behind in
-    took-rest (bytes "ata_I_Fw") c.i-data-fwded.ensures (behind.ensures c.before.if1.true) refl
+    took_rest (bytes "ata_I_Fw") c.i-data-fwded.ensures (behind.ensures c.before.if1.true) refl
 
 slice-aggregate-behind-2 : tie.Need-slice-aggregate-behind-2
 slice-aggregate-behind-2 c = search rules
@@ -35,7 +35,7 @@ sc-data-fwded-requires c κs = search rules
 returns-2 : tie.Need-returns-2
 returns-2 c =
     let behind2 = c.before.before.behind2 in
-    took-rest (bytes "ata_SC_F") c.sc-data-fwded.ensures (behind2.ensures c.before.if2.true) refl
+    took_rest (bytes "ata_SC_F") c.sc-data-fwded.ensures (behind2.ensures c.before.if2.true) refl
 
 slice-aggregate-behind-3 : tie.Need-slice-aggregate-behind-3
 slice-aggregate-behind-3 c = search rules
@@ -50,11 +50,11 @@ ending-requires : tie.Need-ending-requires
 ending-requires c κs = search rules
 
 returns-3 : tie.Need-returns-3
-unfolding code_of responseNames responses
+unfolding code_of response_names responses
 returns-3 c =
     let if3 = c.before.before.if3 in
     let behind3 = c.before.before.before.behind3 in
-    took-rest (bytes "ata_SD_F") (took-end (bytes "wded_SC") c.ending.ensures refl refl refl) (behind3.ensures if3.true) refl
+    took_rest (bytes "ata_SD_F") (took_end (bytes "wded_SC") c.ending.ensures refl refl refl) (behind3.ensures if3.true) refl
 
 not-taken-requires : tie.Need-not-taken-requires
 not-taken-requires c κs = search rules

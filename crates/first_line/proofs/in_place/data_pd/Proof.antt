@@ -3,8 +3,8 @@
 use mathlib.Core.Path.{refl}
 use borrow.Author.Rules.{rules}
 use Rattle.text.specs.Text.{bytes}
-use Rattle.names.specs.Names.{code_of, responseNames, responses}
-use Rattle.first_line.proofs.Matching.{took-end, took-rest}
+use Rattle.names.specs.Names.{code_of, response_names, responses}
+use Rattle.first_line.proofs.Matching.{took_end, took_rest}
 use Rattle.first_line.proofs.in_place.data_pd.Statement.{statement}
 use Rattle.first_line.proofs.in_place.data_pd.Tie as tie
 
@@ -20,7 +20,7 @@ i-pd-requires c κs = search rules
 returns : tie.Need-returns
 returns c =
     let behind = c.before.before.behind in
-    took-rest (bytes "ata_I_PD") c.i-pd.ensures (behind.ensures c.before.if1.true) refl
+    took_rest (bytes "ata_I_PD") c.i-pd.ensures (behind.ensures c.before.if1.true) refl
 
 slice-aggregate-behind-2 : tie.Need-slice-aggregate-behind-2
 slice-aggregate-behind-2 c = search rules
@@ -34,7 +34,7 @@ sc-pd-requires c κs = search rules
 returns-2 : tie.Need-returns-2
 returns-2 c =
     let behind2 = c.before.before.behind2 in
-    took-rest (bytes "ata_SC_P") c.sc-pd.ensures (behind2.ensures c.before.if2.true) refl
+    took_rest (bytes "ata_SC_P") c.sc-pd.ensures (behind2.ensures c.before.if2.true) refl
 
 slice-aggregate-behind-3 : tie.Need-slice-aggregate-behind-3
 slice-aggregate-behind-3 c = search rules
@@ -49,11 +49,11 @@ ending-requires : tie.Need-ending-requires
 ending-requires c κs = search rules
 
 returns-3 : tie.Need-returns-3
-unfolding code_of responseNames responses
+unfolding code_of response_names responses
 returns-3 c =
     let if3 = c.before.before.if3 in
     let behind3 = c.before.before.before.behind3 in
-    took-rest (bytes "ataPtl_I") (took-end (bytes "_PD") c.ending.ensures refl refl refl) (behind3.ensures if3.true) refl
+    took_rest (bytes "ataPtl_I") (took_end (bytes "_PD") c.ending.ensures refl refl refl) (behind3.ensures if3.true) refl
 
 data-fwded-requires : tie.Need-data-fwded-requires
 data-fwded-requires c κs = search rules

@@ -1,6 +1,6 @@
 -- `first_line::in_place::ending` meets its contract: what `behind` finds, with a code.
 -- Assumes nothing.
-use Rattle.first_line.specs.InPlace.{ended, passed-by}
+use Rattle.first_line.specs.InPlace.{ended, passed_by}
 use borrow.Author.Rules.{rules}
 use Rattle.first_line.proofs.in_place.ending.Statement.{statement}
 use Rattle.first_line.proofs.in_place.ending.Tie as tie
@@ -18,7 +18,7 @@ not-taken-requires : tie.Need-not-taken-requires
 not-taken-requires c κs = search rules
 
 returns-2 : tie.Need-returns-2
-returns-2 c = passed-by c.not_taken.ensures
+returns-2 c = passed_by c.not_taken.ensures
 
 pub ending-spec : {M : Type 1} → statement M
 ending-spec =

@@ -5,7 +5,7 @@ use borrow.Author.Rules.{rules}
 use lib.ListN.{length, get_or}
 use Rattle.first_line.specs.InPlace.{left}
 use Rattle.first_line.proofs.Matching.{roomy}
-use Rattle.first_line.proofs.Digits.{flag-low, flag-met}
+use Rattle.first_line.proofs.Digits.{flag_low, flag_met}
 use Rattle.first_line.proofs.in_place.flag.Statement.{statement}
 use Rattle.first_line.proofs.in_place.flag.Tie as tie
 
@@ -43,7 +43,7 @@ shared-slice-read-if2 c =
 sub-taken : tie.Need-overflow-sub-taken
 sub-taken c =
     let args = c.before.before.before.before.before.before.args in
-    omega (arith, flag-low (get_or args.text.now args.at 0) _ c.if2.true)
+    omega (arith, flag_low (get_or args.text.now args.at 0) _ c.if2.true)
 
 add-taken : tie.Need-overflow-add-taken
 add-taken c =
@@ -60,7 +60,7 @@ returns-2 c =
     let if1 = c.before.before.before.before.if1 in
     let at-hand = c.before.before.before.before.before.at-hand in
     let args = c.before.before.before.before.before.before.before.args in
-    flag-met args.text.now args.at (roomy args.at (length args.text.now) at-hand.ensures if1.false) c.before.if2.true c.taken.ensures
+    flag_met args.text.now args.at (roomy args.at (length args.text.now) at-hand.ensures if1.false) c.before.if2.true c.taken.ensures
 
 not-taken-requires-2 : tie.Need-not-taken-requires-2
 not-taken-requires-2 c κs = search rules

@@ -3,9 +3,9 @@
 use mathlib.Core.Path.{refl}
 use borrow.Author.Rules.{rules}
 use Rattle.text.specs.Text.{bytes}
-use Rattle.names.specs.Names.{code_of, forwardNames}
+use Rattle.names.specs.Names.{code_of, forward_names}
 use Rattle.first_line.specs.InPlace.{left}
-use Rattle.first_line.proofs.Matching.{took-name, took-rest}
+use Rattle.first_line.proofs.Matching.{took_name, took_rest}
 use Rattle.first_line.proofs.in_place.forward.Statement.{statement}
 use Rattle.first_line.proofs.in_place.forward.Tie as tie
 
@@ -19,10 +19,10 @@ taken-requires : tie.Need-taken-requires
 taken-requires c κs = search rules
 
 returns : tie.Need-returns
-unfolding code_of forwardNames
+unfolding code_of forward_names
 returns c =
     let behind = c.before.before.behind in
-    took-name (bytes "-") c.taken.ensures (behind.ensures c.before.if1.true) refl refl refl
+    took_name (bytes "-") c.taken.ensures (behind.ensures c.before.if1.true) refl refl refl
 
 slice-aggregate-behind-2 : tie.Need-slice-aggregate-behind-2
 slice-aggregate-behind-2 c = search rules
@@ -36,7 +36,7 @@ comp-data-requires c κs = search rules
 returns-2 : tie.Need-returns-2
 returns-2 c =
     let behind2 = c.before.before.behind2 in
-    took-rest (bytes "CompData") c.comp-data.ensures (behind2.ensures c.before.if2.true) refl
+    took_rest (bytes "CompData") c.comp-data.ensures (behind2.ensures c.before.if2.true) refl
 
 not-taken-requires : tie.Need-not-taken-requires
 not-taken-requires c κs = search rules

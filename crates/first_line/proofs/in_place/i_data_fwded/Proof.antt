@@ -3,9 +3,9 @@
 use mathlib.Core.Path.{refl}
 use borrow.Author.Rules.{rules}
 use Rattle.text.specs.Text.{bytes}
-use Rattle.names.specs.Names.{code_of, responseNames, responses}
+use Rattle.names.specs.Names.{code_of, response_names, responses}
 use Rattle.first_line.specs.InPlace.{left}
-use Rattle.first_line.proofs.Matching.{took-name, took-end, took-rest}
+use Rattle.first_line.proofs.Matching.{took_name, took_end, took_rest}
 use Rattle.first_line.proofs.in_place.i_data_fwded.Statement.{statement}
 use Rattle.first_line.proofs.in_place.i_data_fwded.Tie as tie
 
@@ -19,10 +19,10 @@ taken-requires : tie.Need-taken-requires
 taken-requires c κs = search rules
 
 returns : tie.Need-returns
-unfolding code_of responseNames responses
+unfolding code_of response_names responses
 returns c =
     let behind = c.before.before.behind in
-    took-name (bytes "ded_SC") c.taken.ensures (behind.ensures c.before.if1.true) refl refl refl
+    took_name (bytes "ded_SC") c.taken.ensures (behind.ensures c.before.if1.true) refl refl refl
 
 slice-aggregate-behind-2 : tie.Need-slice-aggregate-behind-2
 slice-aggregate-behind-2 c = search rules
@@ -37,11 +37,11 @@ ending-requires : tie.Need-ending-requires
 ending-requires c κs = search rules
 
 returns-2 : tie.Need-returns-2
-unfolding code_of responseNames responses
+unfolding code_of response_names responses
 returns-2 c =
     let if2 = c.before.before.if2 in
     let behind2 = c.before.before.before.behind2 in
-    took-rest (bytes "ded_SD_P") (took-end (bytes "D") c.ending.ensures refl refl refl) (behind2.ensures if2.true) refl
+    took_rest (bytes "ded_SD_P") (took_end (bytes "D") c.ending.ensures refl refl refl) (behind2.ensures if2.true) refl
 
 not-taken-requires : tie.Need-not-taken-requires
 not-taken-requires c κs = search rules

@@ -4,7 +4,7 @@ use mathlib.Core.Path.{refl}
 use borrow.Author.Rules.{rules}
 use Rattle.text.specs.Text.{bytes}
 use Rattle.first_line.specs.InPlace.{left}
-use Rattle.first_line.proofs.Matching.{took-rest}
+use Rattle.first_line.proofs.Matching.{took_rest}
 use Rattle.first_line.proofs.in_place.not_shared.Statement.{statement}
 use Rattle.first_line.proofs.in_place.not_shared.Tie as tie
 
@@ -20,7 +20,7 @@ not-shared-dirty-requires c κs = search rules
 returns : tie.Need-returns
 returns c =
     let behind = c.before.before.behind in
-    took-rest (bytes "aredDirt") c.not-shared-dirty.ensures (behind.ensures c.before.if1.true) refl
+    took_rest (bytes "aredDirt") c.not-shared-dirty.ensures (behind.ensures c.before.if1.true) refl
 
 not-taken-requires : tie.Need-not-taken-requires
 not-taken-requires c κs = search rules

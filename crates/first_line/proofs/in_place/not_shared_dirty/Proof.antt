@@ -3,8 +3,8 @@
 use mathlib.Core.Path.{refl}
 use borrow.Author.Rules.{rules}
 use Rattle.text.specs.Text.{bytes}
-use Rattle.names.specs.Names.{code_of, requestNames}
-use Rattle.first_line.proofs.Matching.{took-name, took-end}
+use Rattle.names.specs.Names.{code_of, request_names}
+use Rattle.first_line.proofs.Matching.{took_name, took_end}
 use Rattle.first_line.proofs.in_place.not_shared_dirty.Statement.{statement}
 use Rattle.first_line.proofs.in_place.not_shared_dirty.Tie as tie
 
@@ -18,10 +18,10 @@ taken-requires : tie.Need-taken-requires
 taken-requires c κs = search rules
 
 returns : tie.Need-returns
-unfolding code_of requestNames
+unfolding code_of request_names
 returns c =
     let behind = c.before.before.behind in
-    took-name (bytes "y") c.taken.ensures (behind.ensures c.before.if1.true) refl refl refl
+    took_name (bytes "y") c.taken.ensures (behind.ensures c.before.if1.true) refl refl refl
 
 slice-aggregate-ending : tie.Need-slice-aggregate-ending
 slice-aggregate-ending c = search rules
@@ -30,8 +30,8 @@ ending-requires : tie.Need-ending-requires
 ending-requires c κs = search rules
 
 returns-2 : tie.Need-returns-2
-unfolding code_of requestNames
-returns-2 c = took-end (bytes "yFwd") c.ending.ensures refl refl refl
+unfolding code_of request_names
+returns-2 c = took_end (bytes "yFwd") c.ending.ensures refl refl refl
 
 pub not-shared-dirty-spec : {M : Type 1} → statement M
 not-shared-dirty-spec =

@@ -3,9 +3,9 @@
 use mathlib.Core.Path.{refl}
 use borrow.Author.Rules.{rules}
 use Rattle.text.specs.Text.{bytes}
-use Rattle.names.specs.Names.{code_of, finalNames}
+use Rattle.names.specs.Names.{code_of, final_names}
 use Rattle.first_line.specs.InPlace.{left}
-use Rattle.first_line.proofs.Matching.{took-name}
+use Rattle.first_line.proofs.Matching.{took_name}
 use Rattle.first_line.proofs.in_place.other_state.Statement.{statement}
 use Rattle.first_line.proofs.in_place.other_state.Tie as tie
 
@@ -19,10 +19,10 @@ taken-requires : tie.Need-taken-requires
 taken-requires c κs = search rules
 
 returns : tie.Need-returns
-unfolding code_of finalNames
+unfolding code_of final_names
 returns c =
     let behind = c.before.before.behind in
-    took-name (bytes "UDP") c.taken.ensures (behind.ensures c.before.if1.true) refl refl refl
+    took_name (bytes "UDP") c.taken.ensures (behind.ensures c.before.if1.true) refl refl refl
 
 slice-aggregate-behind-2 : tie.Need-slice-aggregate-behind-2
 slice-aggregate-behind-2 c = search rules
@@ -34,10 +34,10 @@ taken-requires-2 : tie.Need-taken-requires-2
 taken-requires-2 c κs = search rules
 
 returns-2 : tie.Need-returns-2
-unfolding code_of finalNames
+unfolding code_of final_names
 returns-2 c =
     let behind2 = c.before.before.behind2 in
-    took-name (bytes "SC") c.taken2.ensures (behind2.ensures c.before.if2.true) refl refl refl
+    took_name (bytes "SC") c.taken2.ensures (behind2.ensures c.before.if2.true) refl refl refl
 
 slice-aggregate-behind-3 : tie.Need-slice-aggregate-behind-3
 slice-aggregate-behind-3 c = search rules
@@ -49,10 +49,10 @@ taken-requires-3 : tie.Need-taken-requires-3
 taken-requires-3 c κs = search rules
 
 returns-3 : tie.Need-returns-3
-unfolding code_of finalNames
+unfolding code_of final_names
 returns-3 c =
     let behind3 = c.before.before.behind3 in
-    took-name (bytes "SD") c.taken3.ensures (behind3.ensures c.before.if3.true) refl refl refl
+    took_name (bytes "SD") c.taken3.ensures (behind3.ensures c.before.if3.true) refl refl refl
 
 slice-aggregate-behind-4 : tie.Need-slice-aggregate-behind-4
 slice-aggregate-behind-4 c = search rules
@@ -64,10 +64,10 @@ taken-requires-4 : tie.Need-taken-requires-4
 taken-requires-4 c κs = search rules
 
 returns-4 : tie.Need-returns-4
-unfolding code_of finalNames
+unfolding code_of final_names
 returns-4 c =
     let behind4 = c.before.before.behind4 in
-    took-name (bytes "?") c.taken4.ensures (behind4.ensures c.before.if4.true) refl refl refl
+    took_name (bytes "?") c.taken4.ensures (behind4.ensures c.before.if4.true) refl refl refl
 
 not-taken-requires : tie.Need-not-taken-requires
 not-taken-requires c κs = search rules

@@ -5,7 +5,7 @@ use borrow.Author.Rules.{rules}
 use lib.ListN.{length}
 use Rattle.first_line.specs.InPlace.{left}
 use Rattle.first_line.proofs.Matching.{roomy}
-use Rattle.first_line.proofs.Digits.{pair-met}
+use Rattle.first_line.proofs.Digits.{pair_met}
 use Rattle.first_line.proofs.in_place.pair.Statement.{statement}
 use Rattle.first_line.proofs.in_place.pair.Tie as tie
 
@@ -78,7 +78,7 @@ returns-4 c =
     let if1 = c.before.before.before.before.before.if1 in
     let at-hand = c.before.before.before.before.before.before.at-hand in
     let args = c.before.before.before.before.before.before.before.before.args in
-    pair-met args.text.now args.at read-digits.result read-digits.ensures
+    pair_met args.text.now args.at read-digits.result read-digits.ensures
     (roomy args.at (length args.text.now) at-hand.ensures if1.false) if2.false c.if3.false
 
 pub pair_spec : {M : Type 1} → statement M

@@ -3,9 +3,9 @@
 use Prim.Native.Nat.{◌+◌, ◌-◌}
 use native.Mathlib.Omega.{arith}
 use lib.ListN.{get_or}
-use Rattle.names.specs.Names.{mostDigits}
-use Rattle.names.proofs.Laws.{digit_low, digit-high, few-digits}
-use Rattle.first_line.proofs.Digits.{Reading, reading-start, reading-next}
+use Rattle.names.specs.Names.{most_digits}
+use Rattle.names.proofs.Laws.{digit_low, digit_high, few_digits}
+use Rattle.first_line.proofs.Digits.{Reading, reading_start, reading_next}
 use borrow.Author.Rules.{rules}
 use Rattle.first_line.proofs.in_place.read_digits.Statement.{statement}
 use Rattle.first_line.proofs.in_place.read_digits.Tie as tie
@@ -14,10 +14,10 @@ abbrev invariant-loop : tie.invariant-loop
 invariant-loop text at value₀ count₀ value count = Reading text at value count
 
 abbrev decreases-loop : tie.decreases-loop
-decreases-loop text at value₀ count₀ value count = mostDigits - count
+decreases-loop text at value₀ count₀ value count = most_digits - count
 
 loop-holds : tie.Need-loop-init invariant-loop decreases-loop
-loop-holds c = reading-start c.args.text.now c.args.at
+loop-holds c = reading_start c.args.text.now c.args.at
 
 add-d : tie.Need-overflow-add-d invariant-loop decreases-loop
 add-d c = search (rules, c.before.before.requires)
@@ -32,7 +32,7 @@ mul-value : tie.Need-overflow-mul-value invariant-loop decreases-loop
 mul-value c =
     let loop-test = c.before.before.loop-test in
     let loop = c.before.before.before.loop in
-    omega (arith, few-digits loop.count mostDigits loop.value loop-test.true (omega arith) loop.invariant.small)
+    omega (arith, few_digits loop.count most_digits loop.value loop-test.true (omega arith) loop.invariant.small)
 
 sub-value : tie.Need-overflow-sub-value invariant-loop decreases-loop
 sub-value c =
@@ -44,14 +44,14 @@ cast-value : tie.Need-overflow-cast-value invariant-loop decreases-loop
 cast-value c =
     let loop = c.before.before.before.loop in
     let args = c.before.before.before.before.args in
-    omega (arith, digit-high (get_or args.text.now (args.at + loop.count) 0) c.if1.false)
+    omega (arith, digit_high (get_or args.text.now (args.at + loop.count) 0) c.if1.false)
 
 add-value : tie.Need-overflow-add-value invariant-loop decreases-loop
 add-value c =
     let loop-test = c.before.before.loop-test in
     let loop = c.before.before.before.loop in
     let args = c.before.before.before.before.args in
-    omega (arith, few-digits loop.count mostDigits loop.value loop-test.true (omega arith) loop.invariant.small, digit-high (get_or args.text.now (args.at + loop.count) 0) c.if1.false)
+    omega (arith, few_digits loop.count most_digits loop.value loop-test.true (omega arith) loop.invariant.small, digit_high (get_or args.text.now (args.at + loop.count) 0) c.if1.false)
 
 add-count : tie.Need-overflow-add-count invariant-loop decreases-loop
 add-count c = omega arith
@@ -64,7 +64,7 @@ loop-again c =
     let loop-test = c.before.before.loop-test in
     let loop = c.before.before.before.loop in
     let pre = c.before.before.before.before.requires in
-    reading-next loop.invariant loop-test.true pre c.if1.false
+    reading_next loop.invariant loop-test.true pre c.if1.false
 
 returns-2 : tie.Need-returns-2 invariant-loop decreases-loop
 returns-2 c = c.before.loop.invariant

@@ -3,9 +3,9 @@
 use mathlib.Core.Path.{refl}
 use borrow.Author.Rules.{rules}
 use Rattle.text.specs.Text.{bytes}
-use Rattle.names.specs.Names.{code_of, requestNames}
+use Rattle.names.specs.Names.{code_of, request_names}
 use Rattle.first_line.specs.InPlace.{left}
-use Rattle.first_line.proofs.Matching.{took-end, took-rest}
+use Rattle.first_line.proofs.Matching.{took_end, took_rest}
 use Rattle.first_line.proofs.in_place.request.Statement.{statement}
 use Rattle.first_line.proofs.in_place.request.Tie as tie
 
@@ -22,11 +22,11 @@ ending-requires : tie.Need-ending-requires
 ending-requires c κs = search rules
 
 returns : tie.Need-returns
-unfolding code_of requestNames
+unfolding code_of request_names
 returns c =
     let if1 = c.before.before.if1 in
     let behind = c.before.before.before.behind in
-    took-rest (bytes "SnpShare") (took-end (bytes "d") c.ending.ensures refl refl refl) (behind.ensures if1.true) refl
+    took_rest (bytes "SnpShare") (took_end (bytes "d") c.ending.ensures refl refl refl) (behind.ensures if1.true) refl
 
 slice-aggregate-behind-2 : tie.Need-slice-aggregate-behind-2
 slice-aggregate-behind-2 c = search rules
@@ -40,7 +40,7 @@ clean-requires c κs = search rules
 returns-2 : tie.Need-returns-2
 returns-2 c =
     let behind2 = c.before.before.behind2 in
-    took-rest (bytes "SnpClean") c.clean.ensures (behind2.ensures c.before.if2.true) refl
+    took_rest (bytes "SnpClean") c.clean.ensures (behind2.ensures c.before.if2.true) refl
 
 slice-aggregate-behind-3 : tie.Need-slice-aggregate-behind-3
 slice-aggregate-behind-3 c = search rules
@@ -54,7 +54,7 @@ not-shared-requires c κs = search rules
 returns-3 : tie.Need-returns-3
 returns-3 c =
     let behind3 = c.before.before.behind3 in
-    took-rest (bytes "SnpNotSh") c.not-shared.ensures (behind3.ensures c.before.if3.true) refl
+    took_rest (bytes "SnpNotSh") c.not-shared.ensures (behind3.ensures c.before.if3.true) refl
 
 slice-aggregate-behind-4 : tie.Need-slice-aggregate-behind-4
 slice-aggregate-behind-4 c = search rules
@@ -68,7 +68,7 @@ prefer-unique-requires c κs = search rules
 returns-4 : tie.Need-returns-4
 returns-4 c =
     let behind4 = c.before.before.behind4 in
-    took-rest (bytes "SnpPrefe") c.prefer-unique.ensures (behind4.ensures c.before.if4.true) refl
+    took_rest (bytes "SnpPrefe") c.prefer-unique.ensures (behind4.ensures c.before.if4.true) refl
 
 slice-aggregate-behind-5 : tie.Need-slice-aggregate-behind-5
 slice-aggregate-behind-5 c = search rules
@@ -83,11 +83,11 @@ ending-requires-2 : tie.Need-ending-requires-2
 ending-requires-2 c κs = search rules
 
 returns-5 : tie.Need-returns-5
-unfolding code_of requestNames
+unfolding code_of request_names
 returns-5 c =
     let if5 = c.before.before.if5 in
     let behind5 = c.before.before.before.behind5 in
-    took-rest (bytes "SnpUniqu") (took-end (bytes "e") c.ending2.ensures refl refl refl) (behind5.ensures if5.true) refl
+    took_rest (bytes "SnpUniqu") (took_end (bytes "e") c.ending2.ensures refl refl refl) (behind5.ensures if5.true) refl
 
 slice-aggregate-behind-6 : tie.Need-slice-aggregate-behind-6
 slice-aggregate-behind-6 c = search rules
@@ -102,11 +102,11 @@ ending-requires-3 : tie.Need-ending-requires-3
 ending-requires-3 c κs = search rules
 
 returns-6 : tie.Need-returns-6
-unfolding code_of requestNames
+unfolding code_of request_names
 returns-6 c =
     let if6 = c.before.before.if6 in
     let behind6 = c.before.before.before.behind6 in
-    took-rest (bytes "SnpMakeI") (took-end (bytes "nvalid") c.ending3.ensures refl refl refl) (behind6.ensures if6.true) refl
+    took_rest (bytes "SnpMakeI") (took_end (bytes "nvalid") c.ending3.ensures refl refl refl) (behind6.ensures if6.true) refl
 
 not-taken-requires : tie.Need-not-taken-requires
 not-taken-requires c κs = search rules

@@ -4,7 +4,7 @@ use mathlib.Core.Path.{refl}
 use borrow.Author.Rules.{rules}
 use Rattle.text.specs.Text.{bytes}
 use Rattle.first_line.specs.InPlace.{left}
-use Rattle.first_line.proofs.Matching.{took-rest}
+use Rattle.first_line.proofs.Matching.{took_rest}
 use Rattle.first_line.proofs.in_place.response.Statement.{statement}
 use Rattle.first_line.proofs.in_place.response.Tie as tie
 
@@ -20,7 +20,7 @@ without-data-requires c κs = search rules
 returns : tie.Need-returns
 returns c =
     let behind = c.before.before.behind in
-    took-rest (bytes "SnpResp_") c.without-data.ensures (behind.ensures c.before.if1.true) refl
+    took_rest (bytes "SnpResp_") c.without_data.ensures (behind.ensures c.before.if1.true) refl
 
 slice-aggregate-behind-2 : tie.Need-slice-aggregate-behind-2
 slice-aggregate-behind-2 c = search rules
@@ -34,7 +34,7 @@ with-data-requires c κs = search rules
 returns-2 : tie.Need-returns-2
 returns-2 c =
     let behind2 = c.before.before.behind2 in
-    took-rest (bytes "SnpRespD") c.with-data.ensures (behind2.ensures c.before.if2.true) refl
+    took_rest (bytes "SnpRespD") c.with_data.ensures (behind2.ensures c.before.if2.true) refl
 
 not-taken-requires : tie.Need-not-taken-requires
 not-taken-requires c κs = search rules

@@ -3,8 +3,8 @@
 use mathlib.Core.Path.{refl}
 use borrow.Author.Rules.{rules}
 use Rattle.text.specs.Text.{bytes}
-use Rattle.names.specs.Names.{code_of, responseNames, responses}
-use Rattle.first_line.proofs.Matching.{took-name, took-end}
+use Rattle.names.specs.Names.{code_of, response_names, responses}
+use Rattle.first_line.proofs.Matching.{took_name, took_end}
 use Rattle.first_line.proofs.in_place.sc_fwded.Statement.{statement}
 use Rattle.first_line.proofs.in_place.sc_fwded.Tie as tie
 
@@ -18,10 +18,10 @@ taken-requires : tie.Need-taken-requires
 taken-requires c κs = search rules
 
 returns : tie.Need-returns
-unfolding code_of responseNames responses
+unfolding code_of response_names responses
 returns c =
     let behind = c.before.before.behind in
-    took-name (bytes "_SC") c.taken.ensures (behind.ensures c.before.if1.true) refl refl refl
+    took_name (bytes "_SC") c.taken.ensures (behind.ensures c.before.if1.true) refl refl refl
 
 slice-aggregate-ending : tie.Need-slice-aggregate-ending
 slice-aggregate-ending c = search rules
@@ -30,8 +30,8 @@ ending-requires : tie.Need-ending-requires
 ending-requires c κs = search rules
 
 returns-2 : tie.Need-returns-2
-unfolding code_of responseNames responses
-returns-2 c = took-end (bytes "_SD_PD") c.ending.ensures refl refl refl
+unfolding code_of response_names responses
+returns-2 c = took_end (bytes "_SD_PD") c.ending.ensures refl refl refl
 
 pub sc-fwded-spec : {M : Type 1} → statement M
 sc-fwded-spec =

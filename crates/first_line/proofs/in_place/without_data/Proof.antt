@@ -3,9 +3,9 @@
 use mathlib.Core.Path.{refl}
 use borrow.Author.Rules.{rules}
 use Rattle.text.specs.Text.{bytes}
-use Rattle.names.specs.Names.{code_of, responseNames, responses}
+use Rattle.names.specs.Names.{code_of, response_names, responses}
 use Rattle.first_line.specs.InPlace.{left}
-use Rattle.first_line.proofs.Matching.{took-name, took-end, took-rest}
+use Rattle.first_line.proofs.Matching.{took_name, took_end, took_rest}
 use Rattle.first_line.proofs.in_place.without_data.Statement.{statement}
 use Rattle.first_line.proofs.in_place.without_data.Tie as tie
 
@@ -19,10 +19,10 @@ taken-requires : tie.Need-taken-requires
 taken-requires c κs = search rules
 
 returns : tie.Need-returns
-unfolding code_of responseNames responses
+unfolding code_of response_names responses
 returns c =
     let behind = c.before.before.behind in
-    took-name (bytes "I") c.taken.ensures (behind.ensures c.before.if1.true) refl refl refl
+    took_name (bytes "I") c.taken.ensures (behind.ensures c.before.if1.true) refl refl refl
 
 slice-aggregate-behind-2 : tie.Need-slice-aggregate-behind-2
 slice-aggregate-behind-2 c = search rules
@@ -34,10 +34,10 @@ taken-requires-2 : tie.Need-taken-requires-2
 taken-requires-2 c κs = search rules
 
 returns-2 : tie.Need-returns-2
-unfolding code_of responseNames responses
+unfolding code_of response_names responses
 returns-2 c =
     let behind2 = c.before.before.behind2 in
-    took-name (bytes "SC") c.taken2.ensures (behind2.ensures c.before.if2.true) refl refl refl
+    took_name (bytes "SC") c.taken2.ensures (behind2.ensures c.before.if2.true) refl refl refl
 
 slice-aggregate-behind-3 : tie.Need-slice-aggregate-behind-3
 slice-aggregate-behind-3 c = search rules
@@ -51,7 +51,7 @@ i-fwded-requires c κs = search rules
 returns-3 : tie.Need-returns-3
 returns-3 c =
     let behind3 = c.before.before.behind3 in
-    took-rest (bytes "I_Fwded_") c.i-fwded.ensures (behind3.ensures c.before.if3.true) refl
+    took_rest (bytes "I_Fwded_") c.i-fwded.ensures (behind3.ensures c.before.if3.true) refl
 
 slice-aggregate-behind-4 : tie.Need-slice-aggregate-behind-4
 slice-aggregate-behind-4 c = search rules
@@ -65,7 +65,7 @@ sc-fwded-requires c κs = search rules
 returns-4 : tie.Need-returns-4
 returns-4 c =
     let behind4 = c.before.before.behind4 in
-    took-rest (bytes "SC_Fwded") c.sc-fwded.ensures (behind4.ensures c.before.if4.true) refl
+    took_rest (bytes "SC_Fwded") c.sc-fwded.ensures (behind4.ensures c.before.if4.true) refl
 
 slice-aggregate-behind-5 : tie.Need-slice-aggregate-behind-5
 slice-aggregate-behind-5 c = search rules
@@ -80,11 +80,11 @@ ending-requires : tie.Need-ending-requires
 ending-requires c κs = search rules
 
 returns-5 : tie.Need-returns-5
-unfolding code_of responseNames responses
+unfolding code_of response_names responses
 returns-5 c =
     let if5 = c.before.before.if5 in
     let behind5 = c.before.before.before.behind5 in
-    took-rest (bytes "SD_Fwded") (took-end (bytes "_SC") c.ending.ensures refl refl refl) (behind5.ensures if5.true) refl
+    took_rest (bytes "SD_Fwded") (took_end (bytes "_SC") c.ending.ensures refl refl refl) (behind5.ensures if5.true) refl
 
 not-taken-requires : tie.Need-not-taken-requires
 not-taken-requires c κs = search rules

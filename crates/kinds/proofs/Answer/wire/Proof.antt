@@ -22,10 +22,10 @@ enum-known-self-3 : tie.Need-enum-known-self-3
 enum-known-self-3 c = search rules
 
 returns : tie.Need-returns
-returns c = c.without-data.ensures ∙ sym (ap wire c.before.before.self.given.1)
+returns c = c.without_data.ensures ∙ sym (ap wire c.before.before.self.given.1)
 
 returns-2 : tie.Need-returns-2
-returns-2 c = c.with-data.ensures ∙ sym (ap wire c.before.before.self2.given.1)
+returns-2 c = c.with_data.ensures ∙ sym (ap wire c.before.before.self2.given.1)
 
 returns-3 : tie.Need-returns-3
 returns-3 c = sym (ap wire c.before.self3.given.1)

@@ -1,4 +1,4 @@
--- `kinds::Forward::from_state` meets its contract: each arm is a case of `forwardAt`.
+-- `kinds::Forward::from_state` meets its contract: each arm is a case of `forward_at`.
 -- Assumes nothing.
 use borrow.Author.Tests.{eq-eqb, ne_eqb}
 use Rattle.kinds.proofs.Forward.from_state.Statement.{statement}

@@ -3,7 +3,7 @@
 use mathlib.Core.Path.{refl}
 use borrow.Author.Rules.{rules}
 use Rattle.kinds.specs.Codes.{requests}
-use Rattle.kinds.proofs.Lists.{of-bits}
+use Rattle.kinds.proofs.Lists.{of_bits}
 use Rattle.kinds.proofs.Request.known.Statement.{statement}
 use Rattle.kinds.proofs.Request.known.Tie as tie
 
@@ -14,7 +14,7 @@ shr-result : tie.Need-overflow-shr-result
 shr-result c = search rules
 
 returns : tie.Need-returns
-returns c = of-bits _ 32 requests refl refl c.args.self.0
+returns c = of_bits _ 32 requests refl refl c.args.self.0
 
 pub known-spec : {M : Type 1} → statement M
 known-spec = tie.close (tie.spec cast-result shr-result returns)

@@ -2,7 +2,7 @@
 -- Assumes nothing.
 use mathlib.Core.Path.{refl}
 use Rattle.kinds.specs.Tests.{◌∈?◌}
-use Rattle.rows.specs.Permitted.{rulesOf}
+use Rattle.rows.specs.Permitted.{rules_of}
 use Rattle.rows.proofs.Laws.{told}
 use borrow.Author.Rules.{rules}
 use Rattle.rows.proofs.Table.on_data.Statement.{statement}
@@ -39,55 +39,55 @@ returns : tie.Need-returns
 returns c =
     let by_tags = c.before.before.by_tags in
     let args = c.before.before.before.args in
-    told (λ T. args.op.0 ∈? (rulesOf T).onData args.tag.0 args.before.0 args.answer) c.enum_told.given.1
+    told (λ T. args.op.0 ∈? (rules_of T).on_data args.tag.0 args.before.0 args.answer) c.enum_told.given.1
     by_tags.ensures
 
 returns-2 : tie.Need-returns-2
 returns-2 c =
     let by_tags = c.before.before.by_tags in
     let args = c.before.before.before.args in
-    told (λ T. args.op.0 ∈? (rulesOf T).onData args.tag.0 args.before.0 args.answer) c.enum-told2.given.1
+    told (λ T. args.op.0 ∈? (rules_of T).on_data args.tag.0 args.before.0 args.answer) c.enum-told2.given.1
     by_tags.ensures
 
 returns-3 : tie.Need-returns-3
 returns-3 c =
     let by_tags = c.before.before.by_tags in
     let args = c.before.before.before.args in
-    told (λ T. args.op.0 ∈? (rulesOf T).onData args.tag.0 args.before.0 args.answer) c.enum-told3.given.1
+    told (λ T. args.op.0 ∈? (rules_of T).on_data args.tag.0 args.before.0 args.answer) c.enum-told3.given.1
     by_tags.ensures
 
 returns-4 : tie.Need-returns-4
 returns-4 c =
     let by_tags = c.before.before.by_tags in
     let args = c.before.before.before.args in
-    told (λ T. args.op.0 ∈? (rulesOf T).onData args.tag.0 args.before.0 args.answer) c.enum-told4.given.1
+    told (λ T. args.op.0 ∈? (rules_of T).on_data args.tag.0 args.before.0 args.answer) c.enum-told4.given.1
     by_tags.ensures
 
 returns-5 : tie.Need-returns-5
 returns-5 c =
     let by_tags = c.before.before.by_tags in
     let args = c.before.before.before.args in
-    told (λ T. args.op.0 ∈? (rulesOf T).onData args.tag.0 args.before.0 args.answer) c.enum-told5.given.1
+    told (λ T. args.op.0 ∈? (rules_of T).on_data args.tag.0 args.before.0 args.answer) c.enum-told5.given.1
     by_tags.ensures
 
 returns-6 : tie.Need-returns-6
 returns-6 c =
     let by_tags = c.before.before.by_tags in
     let args = c.before.before.before.args in
-    told (λ T. args.op.0 ∈? (rulesOf T).onData args.tag.0 args.before.0 args.answer) c.enum-told6.given.1
+    told (λ T. args.op.0 ∈? (rules_of T).on_data args.tag.0 args.before.0 args.answer) c.enum-told6.given.1
     by_tags.ensures
 
 returns-7 : tie.Need-returns-7
 returns-7 c =
     let by_tags = c.before.before.by_tags in
     let args = c.before.before.before.args in
-    told (λ T. args.op.0 ∈? (rulesOf T).onData args.tag.0 args.before.0 args.answer) c.enum-told7.given.1
+    told (λ T. args.op.0 ∈? (rules_of T).on_data args.tag.0 args.before.0 args.answer) c.enum-told7.given.1
     by_tags.ensures
 
 returns-8 : tie.Need-returns-8
 returns-8 c =
     let args = c.before.before.before.args in
-    told (λ T. args.op.0 ∈? (rulesOf T).onData args.tag.0 args.before.0 args.answer) c.enum-told8.given.1 refl
+    told (λ T. args.op.0 ∈? (rules_of T).on_data args.tag.0 args.before.0 args.answer) c.enum-told8.given.1 refl
 
 pub on-data-spec : {M : Type 1} → statement M
 on-data-spec =
