@@ -24,6 +24,12 @@ def names():
 
 
 PLAIN, FIELD = names()
+# A law that had the new name of its definition already, in the files that speak of the law.
+FALLEN = {
+    "rows/proofs/Laws.antt": {"by_tags": "by_tags_lem"},
+    "rows/proofs/by_tags/Proof.antt": {"by_tags": "by_tags_lem"},
+    "theorems/proofs/TagColumn.antt": {"by_tags": "by_tags_lem"},
+}
 
 
 def respelled(code, in_record):
@@ -70,6 +76,12 @@ def by_quotes(code, turn):
     return "".join(p if p.startswith('"') and len(p) > 1 else turn(p) for p in pieces)
 
 
+def law_turned(text, fallen):
+    for old, new in fallen.items():
+        text = re.sub(r"(?<![\w'\-.`])" + old + r"(?![\w'\-])(?! computes)", new, text)
+    return text
+
+
 def file_turned(text, mark):
     out, record = [], None
     for line in text.split("\n"):
@@ -105,7 +117,8 @@ def main():
         for name in files:
             path = os.path.join(folder, name)
             if name.endswith(".antt"):
-                turn = lambda t: file_turned(t, "--")  # noqa: E731
+                fallen = next((FALLEN[f] for f in FALLEN if path.endswith("/crates/" + f)), {})
+                turn = lambda t: file_turned(law_turned(t, fallen), "--")  # noqa: E731, B023
             elif name.endswith(".rt"):
                 turn = lambda t: file_turned(t, "//")  # noqa: E731
             elif name.endswith(".edit"):

@@ -1,7 +1,7 @@
 -- What `choices`, `all_below` and `keep` hold, and that they ascend.
 -- Assumes nothing.
 use mathlib.Core.Path.{◌≡◌, refl, sym, ◌∙◌, ap, ap₂, subst}
-use mathlib.Core.Bool.{Bool, true, false, cond, ◌&&◌, ◌||◌, false≢true, and_false, and_true, and_comm, or_assoc, and-or_distrib_left, and-or_distrib_right}
+use mathlib.Core.Bool.{Bool, true, false, cond, ◌&&◌, ◌||◌, false≢true, and-false, and-true, and_comm, or_assoc, and-or_distrib_left, and-or_distrib_right}
 use mathlib.Core.List.{List, [], ◌∷◌, ◌++◌, map}
 use Prim.Native.Nat.{ℕ, zero, suc, ◌+◌, ◌<◌, ◌≤◌}
 use native.Mathlib.Nat.{add-suc, suc-add, zero-add}
@@ -24,7 +24,7 @@ any_append p (x ∷ xs) ys = ap (λ (b : Bool). p x || b) (any_append p xs ys) �
 
 -- a list among those with the number x in front
 front_members : (x y : ℕ) (ys : List ℕ) (ls : List (List ℕ)) → any (same (y ∷ ys)) (map (λ l. x ∷ l) ls) ≡ eqb y x && any (same ys) ls
-front_members x y ys [] = sym (and_false (eqb y x))
+front_members x y ys [] = sym (and-false (eqb y x))
 front_members x y ys (l ∷ ls) =
     ap (λ (b : Bool). (eqb y x && same ys l) || b) (front_members x y ys ls)
     ∙ sym (and-or_distrib_left (eqb y x) (same ys l) (any (same ys) ls))
@@ -109,7 +109,7 @@ all_below-members limits a =
 
 -- the members of `keep`: those that pass the test
 pub keep_members : (p : List ℕ → Bool) (ls : List (List ℕ)) (a : List ℕ) → any (same a) (keep p ls) ≡ p a && any (same a) ls
-keep_members p [] a = sym (and_false (p a))
+keep_members p [] a = sym (and-false (p a))
 keep_members p (l ∷ ls) a = go (p l) (same a l) refl refl (keep_members p ls a)
   where
     go : (b s : Bool) → p l ≡ b → same a l ≡ s → any (same a) (keep p ls) ≡ p a && any (same a) ls

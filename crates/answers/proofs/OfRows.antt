@@ -1,7 +1,7 @@
 -- The answers of the rows: an answer is among them exactly when it is permitted.
 -- Assumes nothing.
 use mathlib.Core.Path.{◌≡◌, refl, sym, ◌∙◌, ap, subst}
-use mathlib.Core.Bool.{Bool, true, false, cond, ◌&&◌, ◌||◌, and_true, and_false}
+use mathlib.Core.Bool.{Bool, true, false, cond, ◌&&◌, ◌||◌, and-true, and-false}
 use mathlib.Core.List.{List, [], ◌∷◌, ◌++◌}
 use Prim.Native.Nat.{ℕ}
 use borrow.Author.Tests.{eqb-true, eq-eqb}
@@ -80,9 +80,9 @@ wire_six (SnpRespDataPtl r) = refl
 
 -- the tests of an answer's bytes, those of its six wire bytes first
 last_six : (o e g h f x : Bool) → o && (e && ((g || false) && ((h || false) && (f && (x && true))))) ≡ (g && (h && true)) && (o && (e && (f && x)))
-last_six o e true true f x = ap (λ (b : Bool). o && (e && (f && b))) (and_true x)
-last_six o e true false f x = ap (λ (b : Bool). o && b) (and_false e) ∙ and_false o
-last_six o e false h f x = ap (λ (b : Bool). o && b) (and_false e) ∙ and_false o
+last_six o e true true f x = ap (λ (b : Bool). o && (e && (f && b))) (and-true x)
+last_six o e true false f x = ap (λ (b : Bool). o && b) (and-false e) ∙ and-false o
+last_six o e false h f x = ap (λ (b : Bool). o && b) (and-false e) ∙ and-false o
 
 regrouped : (a b c d o e g h f x : Bool)
     → (a || false) && ((b || false) && ((c || false) && ((d || false) && (o && (e && ((g || false) && ((h || false) && (f && (x && true)))))))))

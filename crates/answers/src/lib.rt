@@ -1,4 +1,6 @@
 // Every answer that a cache could have given to a snoop, listed (definition 11).
+#![tactic(auto)]
+
 ghost use Rattle.std.specs.Prelude.{◌+◌, ◌*◌, ◌≤◌, ◌≡◌, ◌++◌, length, get_or, take, drop};
 ghost use Rattle.event.specs.Refusals.{issue_e};
 ghost use Rattle.answers.specs.Listed.{answer_length, most_answers, joined, fault_of, list_left, listed};
@@ -19,7 +21,7 @@ pub const MOST_ANSWERS: usize = 57;
 const WITH_DERR: u8 = 128;
 
 // What is asked: a snoop, the tag state of the snoopee and the state of its line before (definition 11.1).
-#[derive(Drop)]
+#[derive(Clone, Copy)]
 pub struct Question {
     pub request: Request,
     pub ret_to_src: u8,
@@ -30,7 +32,7 @@ pub struct Question {
 }
 
 // The result of a call: a refusal number, its place, and the number of answers that were put into the room (definition 11.4).
-#[derive(Drop)]
+#[derive(Clone, Copy)]
 pub struct Listed {
     pub refusal: Refusal,
     pub place: usize,

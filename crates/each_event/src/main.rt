@@ -1,6 +1,8 @@
 // A filter for tests: judges events one by one, each alone. Records come from standard input, and answers go to standard output.
 // A record is 41 bytes: the length of the event (above 40 counts as 40), and 40 bytes of which the first so many are the event.
 // An answer is 16 bytes: refusal number, place, seven sets, seven duties. A last record that is cut off gets no answer.
+#![tactic(auto)]
+
 ghost use Rattle.std.specs.Prelude.{◌≤◌, length};
 
 use event::Judgment;

@@ -2,6 +2,8 @@
 // A record is 648 bytes: request, RetToSrc, DoNotGoToSD, excl, tag state and state before; the length of the room, low byte first (above
 // 640 counts as 640); and 640 bytes of which the first so many are the room. An answer is 648 bytes: refusal number, place in three bytes,
 // count in four bytes, each low byte first; and the 640 bytes afterwards. A last record that is cut off gets no answer.
+#![tactic(auto)]
+
 ghost use Rattle.std.specs.Prelude.{◌≤◌, length};
 
 use answers::{Listed, Question};

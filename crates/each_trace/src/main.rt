@@ -2,6 +2,8 @@
 // Numbers are little-endian. A case is six 32-bit numbers, and then the six buffers. The numbers are the length of the events in bytes,
 // the count of pair numbers, and the lengths of table, verdicts, duties and after-sets. A pair number is two bytes. An answer is the
 // refusal number in one byte, the place in 32 bits, and the last four buffers as left. A case that is cut off or too long ends the run.
+#![tactic(auto)]
+
 ghost use Rattle.std.specs.Prelude.{◌<◌, ◌≤◌};
 
 use kinds::{MOST_EVENTS, MOST_PAIRS};
@@ -18,7 +20,7 @@ const EACH_ROOM: usize = MOST_EVENTS * 2;
 const PAIR_BYTES_ROOM: usize = EACH_ROOM * 2;
 
 // The lengths in the head of a case; `said` is whether the head was complete.
-#[derive(Drop)]
+#[derive(Clone, Copy)]
 struct Lengths {
     said: bool,
     events: usize,

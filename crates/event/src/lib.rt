@@ -1,4 +1,6 @@
 // One event judged alone, whatever bytes are handed in (definition 3.1, 3.2).
+#![tactic(auto)]
+
 ghost use Rattle.std.specs.Prelude.{◌≡◌, cond, map, eqb};
 ghost use Rattle.steps.specs.Steps.{no_duty, sets_after, duty_alone};
 ghost use Rattle.kinds.specs.Codes.{states};
@@ -16,7 +18,7 @@ const FRONT: u64 = 0xF8_E0_FE_FC_FE_FE_FE_00;
 const BACK: u64 = 0xFC_F8_F8_FE_FC_FC_F8_00;
 
 // The answer to one event alone: for each of the seven states before, a set of states after and a duty.
-#[derive(Drop)]
+#[derive(Clone, Copy)]
 pub struct Judgment {
     pub refusal: Refusal,
     pub place: usize,

@@ -1,4 +1,6 @@
 // Finds where the fields of a line end (definition 8.3).
+#![tactic(auto)]
+
 ghost use Rattle.std.specs.Prelude.{◌≡◌};
 ghost use Rattle.fields.specs.Fields.{field_end};
 

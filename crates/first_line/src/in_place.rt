@@ -24,7 +24,7 @@ const ZERO: u8 = 48;
 const NINE: u8 = 57;
 
 // Digits, and the number that they stand for.
-#[derive(Drop)]
+#[derive(Clone, Copy)]
 struct Digits {
     count: usize,
     value: u32,

@@ -1,5 +1,7 @@
 // Parses the first line of a text (definition 8.1, 8.4). The fields of a good line are taken by matching names where they stand; any other
 // line goes the general way, and both ways give the same.
+#![tactic(auto)]
+
 ghost use Rattle.std.specs.Prelude.{◌≡◌, true, false};
 ghost use Rattle.names.specs.Names.{columns};
 ghost use Rattle.names.specs.Columns.{fwd_err_code};
@@ -18,7 +20,7 @@ mod in_place;
 const WINDOW: usize = LONGEST + 2;
 
 // The first line of a text: parsed, the offset at which it ends, and whether its CR LF is there.
-#[derive(Drop)]
+#[derive(Clone, Copy)]
 pub struct FirstLine {
     pub line: ParsedLine,
     pub end: usize,

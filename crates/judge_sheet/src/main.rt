@@ -1,5 +1,7 @@
 // The program that `./judge` runs: a sheet from standard input, its answers to standard output (definition 8).
 // It only reads and writes, at most 65,536 bytes at a time. The crate `sheet` does the judging.
+#![tactic(auto)]
+
 ghost use Rattle.std.specs.Prelude.{◌≤◌, length};
 
 use kinds::MOST_PAIRS;
@@ -10,7 +12,7 @@ use sheet::Turned;
 const SIZE: usize = 65536;
 
 // What a read brought: the number of bytes, and whether it failed.
-#[derive(Drop)]
+#[derive(Clone, Copy)]
 struct Got {
     count: usize,
     failed: bool,

@@ -1,4 +1,6 @@
 // The types that the judge speaks of: states, codes, answers and numbers, each with its codes (definition 2).
+#![tactic(auto)]
+
 ghost use Rattle.std.specs.Prelude.{◌≡◌, cond, ltb, length, set};
 ghost use Rattle.kinds.specs.Codes.{dirty, requests, resp_pd, fwd_pd};
 ghost use Rattle.kinds.specs.Tests.{◌∈?◌};
@@ -37,7 +39,7 @@ pub fn choose_bool(test: bool, this: bool, that: bool) -> bool
 }
 
 // The state of a cache line (definition 2.1).
-#[derive(Drop)]
+#[derive(Clone, Copy)]
 pub struct LineState(pub u8);
 
 impl LineState {
@@ -67,7 +69,7 @@ impl LineState {
 }
 
 // The state of the line's memory tags (definition 2.3, byte 4).
-#[derive(Drop)]
+#[derive(Clone, Copy)]
 pub struct TagState(pub u8);
 
 impl TagState {
@@ -81,7 +83,7 @@ impl TagState {
 }
 
 // What an answer says about the tags it carries (definition 2.3, byte 9).
-#[derive(Drop)]
+#[derive(Clone, Copy)]
 pub struct TagOp(pub u8);
 
 impl TagOp {
@@ -95,7 +97,7 @@ impl TagOp {
 }
 
 // An error field: that of the answer to Home, or that of the forwarded data (definition 2.3, bytes 10 and 14).
-#[derive(Drop)]
+#[derive(Clone, Copy)]
 pub struct RespErr(pub u8);
 
 impl RespErr {
@@ -121,7 +123,7 @@ const KNOWN: u32 = (1 << Request::SNP_SHARED.0)
     + (1 << Request::SNP_PREFER_UNIQUE_FWD.0);
 
 // The snoop that Home sends (definition 2.4).
-#[derive(Drop)]
+#[derive(Clone, Copy)]
 pub struct Request(pub u8);
 
 impl Request {
@@ -155,7 +157,7 @@ impl Request {
 }
 
 // The channel that carries an answer.
-#[derive(Drop)]
+#[derive(Clone, Copy)]
 pub struct Channel(pub u8);
 
 impl Channel {
@@ -165,7 +167,7 @@ impl Channel {
 }
 
 // The message, among those of its channel (definition 2.5).
-#[derive(Drop)]
+#[derive(Clone, Copy)]
 pub struct Opcode(pub u8);
 
 impl Opcode {
@@ -181,7 +183,7 @@ impl Opcode {
 }
 
 // The state that an answer names, and whether it passes the duty to write back to Home (definition 2.6).
-#[derive(Drop)]
+#[derive(Clone, Copy)]
 pub struct Resp(pub u8);
 
 impl Resp {
@@ -205,7 +207,7 @@ impl Resp {
 }
 
 // The state that forwarded data names, and whether it passes the duty to write back to the Requester (definition 2.6).
-#[derive(Drop)]
+#[derive(Clone, Copy)]
 pub struct FwdState(pub u8);
 
 impl FwdState {
@@ -229,7 +231,7 @@ impl FwdState {
 }
 
 // What the snoopee forwards to the Requester: data with its state and its own error field, or nothing (definition 2.7).
-#[derive(Drop)]
+#[derive(Clone, Copy)]
 pub enum Forward {
     NoForward,
     CompData(FwdState, RespErr),
@@ -280,7 +282,7 @@ impl Forward {
 }
 
 // The snoopee's answer to Home, together with what it forwarded to the Requester (definition 2.7).
-#[derive(Drop)]
+#[derive(Clone, Copy)]
 pub enum Answer {
     // Without data: SnpResp, or SnpRespFwded with a forward.
     SnpResp(Resp, Forward),
@@ -383,7 +385,7 @@ fn with_data(r: Resp, forward: Forward) -> [u8; 6]
 }
 
 // What the judge says about an event (definition 2.9, 7.3).
-#[derive(Drop)]
+#[derive(Clone, Copy)]
 pub struct Verdict(pub u8);
 
 impl Verdict {
@@ -395,7 +397,7 @@ impl Verdict {
 }
 
 // Who has to write the line back after an explained event (definition 2.9, 6.3).
-#[derive(Drop)]
+#[derive(Clone, Copy)]
 pub struct Duty(pub u8);
 
 impl Duty {
@@ -411,7 +413,7 @@ impl Duty {
 }
 
 // Why a call is refused, or that it is accepted (definition 4.1, 8.7, 11.5).
-#[derive(Drop)]
+#[derive(Clone, Copy)]
 pub struct Refusal(pub u8);
 
 impl Refusal {
@@ -437,7 +439,7 @@ impl Refusal {
 }
 
 // The number of a pair, which is one line in one cache. Only this number looks up the table of sets (definition 1.3).
-#[derive(Drop)]
+#[derive(Clone, Copy)]
 pub struct PairNumber(pub u16);
 
 impl PairNumber {
@@ -471,7 +473,7 @@ impl PairNumber {
 }
 
 // The number of an event in its trace, counted from 0.
-#[derive(Drop)]
+#[derive(Clone, Copy)]
 pub struct EventNumber(pub u32);
 
 impl EventNumber {

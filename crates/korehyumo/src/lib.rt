@@ -1,5 +1,7 @@
 // The judge for other languages: one event alone, a whole trace and the list of permitted answers, as functions for a C program to link
 // (definition 10). include/korehyumo.h says in words what these claims say.
+#![tactic(auto)]
+
 ghost use Rattle.std.specs.Prelude.{◌<◌, ◌≤◌, ◌^◌, ◌≡◌};
 ghost use Rattle.event.specs.Refusals.{issue_e};
 ghost use Rattle.event.specs.Alone.{judged_alone};

@@ -1,4 +1,6 @@
 // Finds where the lines of a text end (definition 8.1).
+#![tactic(auto)]
+
 ghost use Rattle.std.specs.Prelude.{◌≡◌, ◌+◌, ◌-◌, ◌≤◌, min, length, drop};
 ghost use Rattle.lines.specs.Lines.{crlf};
 ghost use Rattle.lines.specs.Seen.{line_end, too_long};

@@ -1,4 +1,6 @@
 // What an event can do to a line, looked up by request and state (definition 6): by its answer too, and for all states before at once.
+#![tactic(auto)]
+
 ghost use Rattle.std.specs.Prelude.{◌<◌, ◌≡◌};
 ghost use Rattle.lookup.specs.Code.{kind_of, context_of, entry_of, choice_of, looked_up, packed, effect_of};
 ghost use Rattle.lookup.specs.Code.{from, to, told, spread, seen_after, looked_sets};
@@ -14,7 +16,7 @@ const HALF: u64 = 1 << 32;
 const GATHER: u64 = (1 << 3) + (1 << 10) + (1 << 17) + (1 << 24);
 
 // What the rows say of an event, a byte each, the lowest first: the states before from which it is a step, the states after, the duty.
-#[derive(Drop)]
+#[derive(Clone, Copy)]
 pub struct Effect(pub u64);
 
 impl Effect {

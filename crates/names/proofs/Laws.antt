@@ -1,7 +1,7 @@
 -- Laws about the names, over plain variables: two lists compared side by side, a column name by name, and digits one by one.
 -- Assumes nothing.
 use mathlib.Core.Path.{◌≡◌, refl, sym, ◌∙◌, ap, ap₂}
-use mathlib.Core.Bool.{Bool, true, false, cond, not, ◌&&◌, true≢false, false≢true, and_assoc, and_true, and_false}
+use mathlib.Core.Bool.{Bool, true, false, cond, not, ◌&&◌, true≢false, false≢true, and_assoc, and-true, and-false}
 use mathlib.Core.List.{List, [], ◌∷◌}
 use Prim.Native.Nat.{ℕ, zero, suc, ◌+◌, ◌-◌, ◌*◌, ◌^◌, ◌<◌, ◌≤◌}
 use native.Mathlib.Numerals.{add-one}
@@ -17,7 +17,7 @@ use Rattle.kinds.proofs.Lists.{and_left, and_right}
 use Rattle.names.specs.Names.{Named, unknown, code_of, most_digits, is_digit, leading_zero, is_pair, read_decimal, pair_of, answers, answer_at, columns, in_column}
 
 and_not : (b : Bool) {a : Bool} → a ≡ false → b && a ≡ false
-and_not b h = ap (λ (a : Bool). b && a) h ∙ and_false b
+and_not b h = ap (λ (a : Bool). b && a) h ∙ and-false b
 
 -- lists of different lengths are not the same
 pub same_other_length : (f n : List ℕ) → (length f ≡ length n → ⊥) → same f n ≡ false
@@ -57,7 +57,7 @@ alike_next {f} {n} {m} {i} {t} a h =
 
 pub alike_end : {f n : List ℕ} {m i : ℕ} {t : Bool} → Alike f n m t i → m ≤ i → t ≡ same f n
 alike_end {f} {n} {m} {i} {t} a h =
-    sym (and_true t)
+    sym (and-true t)
     ∙ ap (λ (b : Bool). t && b) (sym (ap₂ same (drop_of_length-le f {i = i} (omega (arith, a.first_length))) (drop_of_length-le n {i = i} (omega (arith, a.second_length)))))
     ∙ a.rest
 

@@ -1,4 +1,6 @@
 // Finds the code of a field by its name (definition 8.4).
+#![tactic(auto)]
+
 ghost use Rattle.std.specs.Prelude.{◌≡◌, cond, ◌≤◌, length};
 ghost use Rattle.kinds.specs.Tests.{same, all};
 ghost use Rattle.names.specs.Names.{code_of, request_names, flag_names, tag_names, response_names, tag_op_names, resp_err_names};

@@ -1,7 +1,7 @@
 -- Laws about the fields of a line read one after another, and about an event's bytes.
 -- Assumes nothing.
 use mathlib.Core.Path.{◌≡◌, refl, sym, ◌∙◌, ap, ap₂, subst}
-use mathlib.Core.Bool.{Bool, true, false, cond, ◌&&◌, false≢true, and_assoc, and_true}
+use mathlib.Core.Bool.{Bool, true, false, cond, ◌&&◌, false≢true, and_assoc, and-true}
 use mathlib.Core.List.{List, [], ◌∷◌, ◌++◌, map}
 use Prim.Native.Nat.{ℕ, suc, ◌+◌, ◌-◌, ◌≤◌, ◌<◌}
 use native.Mathlib.Numerals.{add-one}
@@ -217,7 +217,7 @@ known_next {codes} {n} {t} {i} k h = record {
 
 pub known_end : {codes : List ℕ} {n : ℕ} {t : Bool} {i : ℕ} → KnownSoFar codes n t i → n ≤ i → t ≡ all known codes
 known_end {codes} {n} {t} {i} k h =
-    sym (and_true t) ∙ ap (λ (s : List ℕ). t && all known s) (sym (drop_of_length-le codes {i = i} (omega (arith, k.long, h)))) ∙ k.rest
+    sym (and-true t) ∙ ap (λ (s : List ℕ). t && all known s) (sym (drop_of_length-le codes {i = i} (omega (arith, k.long, h)))) ∙ k.rest
 
 -- CODES AS BYTES: the first i are converted
 pub record CutSoFar (codes bytes : List ℕ) (n i : ℕ) : Type 0 where

@@ -1,4 +1,6 @@
 // Parses a line of the bench sheet: its pair and its event, or why it is refused (definition 8.3, 8.4, 8.7).
+#![tactic(auto)]
+
 ghost use Rattle.std.specs.Prelude.{◌≡◌, map};
 ghost use Rattle.kinds.specs.Tests.{all};
 ghost use Rattle.parser.specs.Parsed.{known, dashes_agree, event_of, parsed, refused_parse};
@@ -9,7 +11,7 @@ use names::columns;
 use names::columns::COLUMNS;
 
 // A parsed line: its pair and its event with refusal 0, or the refusal number.
-#[derive(Drop)]
+#[derive(Clone, Copy)]
 pub struct ParsedLine {
     pub refusal: Refusal,
     pub pair: PairNumber,
@@ -17,28 +19,28 @@ pub struct ParsedLine {
 }
 
 // A line, and the offset at which its next field starts.
-#[derive(Drop)]
+#[derive(Clone, Copy)]
 pub struct Fields<'a> {
     pub line: &'a [u8],
     pub at: usize,
 }
 
 // One field: its code in its column, and the offset behind its comma.
-#[derive(Drop)]
+#[derive(Clone, Copy)]
 pub struct Taken {
     pub code: u32,
     pub next: usize,
 }
 
 // The codes of a line's first twelve fields, and the offset behind the last one.
-#[derive(Drop)]
+#[derive(Clone, Copy)]
 pub struct Codes {
     pub codes: [u32; COLUMNS],
     pub end: usize,
 }
 
 // The codes of a line's fields, and whether the line is well formed.
-#[derive(Drop)]
+#[derive(Clone, Copy)]
 struct Found {
     codes: [u32; COLUMNS],
     good: bool,

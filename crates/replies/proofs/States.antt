@@ -1,7 +1,7 @@
 -- The parts of a set's text make the text: the names of its states with spaces between them.
 -- Assumes nothing.
 use mathlib.Core.Path.{◌≡◌, refl, sym, ◌∙◌, ap}
-use mathlib.Core.Bool.{Bool, true, false, cond, ◌&&◌, not, and_true, and_false}
+use mathlib.Core.Bool.{Bool, true, false, cond, ◌&&◌, not, and-true, and-false}
 use mathlib.Core.List.{List, [], ◌∷◌, ◌++◌, append-nil}
 use Prim.Native.Nat.{ℕ, zero, suc, ◌+◌, ◌*◌, ◌/◌, ◌%◌, ◌^◌, ◌<◌}
 use native.Mathlib.Nat.{mod-lt, mod-one, zero-lt-suc}
@@ -25,8 +25,8 @@ spaced_led name (next ∷ names) = ap (λ (s : List ℕ). name ++ space ∷ s) (
 
 -- no state up to n is in the set: none below n, and not n itself
 below : (t r p s : ℕ) → t ≡ s * p + r → 0 < p → s < 2 → eqb t 0 ≡ (eqb r 0 && not (eqb s 1))
-below t r p zero e h k = ap (λ (x : ℕ). eqb x 0) (let f : t ≡ r = omega arith in f) ∙ sym (and_true (eqb r 0))
-below t r p (suc zero) e h k = ne_eqb t 0 (λ z. omega arith) ∙ sym (and_false (eqb r 0))
+below t r p zero e h k = ap (λ (x : ℕ). eqb x 0) (let f : t ≡ r = omega arith in f) ∙ sym (and-true (eqb r 0))
+below t r p (suc zero) e h k = ne_eqb t 0 (λ z. omega arith) ∙ sym (and-false (eqb r 0))
 below t r p (suc (suc s)) e h k = absurd (omega arith)
 
 none_below : (m n : ℕ) → eqb (m % 2 ^ suc n) 0 ≡ (eqb (m % 2 ^ n) 0 && not (bit m n))

@@ -1,4 +1,6 @@
 // Writes the output of the bench sheet into a buffer, byte for byte (definition 8.6, 8.7).
+#![tactic(auto)]
+
 ghost use Rattle.std.specs.Prelude.{◌+◌, ◌≤◌, ◌<◌, ◌≡◌, [], ◌∷◌, ◌++◌, length, take, drop};
 ghost use Rattle.text.specs.Text.{comma};
 ghost use Rattle.replies.specs.Laid.{laid, lay, lay_all};

@@ -38,10 +38,10 @@ on_forward_lem n a f p r hf hp hr =
     hr ∙ ap (λ (b : Bool). cond b (eqb n OK || eqb n DERR) (eqb n 0)) (hp ∙ ap present hf) ∙ derr_if n (present (forward_of a))
 
 -- `by_tags` computes by_tags
-pub by_tags : (n t s : ℕ) (a : Answer) (m : ℕ) (p x y r : Bool) → m ≡ answer_resp a → p ≡ resp_pd m
+pub by_tags_lem : (n t s : ℕ) (a : Answer) (m : ℕ) (p x y r : Bool) → m ≡ answer_resp a → p ≡ resp_pd m
     → x ≡ cond p (eqb n op_update) (eqb n op_transfer) → y ≡ cond (eqb s UDP) (eqb n op_invalid) (eqb n op_invalid || eqb n op_transfer)
     → r ≡ cond (eqb t tag_dirty) x y → r ≡ n ∈? by_tags t s a
-by_tags n t s a m p x y r hm hp hx hy hr =
+by_tags_lem n t s a m p x y r hm hp hx hy hr =
     hr
     ∙ ap₂ (cond (eqb t tag_dirty)) (hx ∙ ap (λ (b : Bool). cond b (eqb n op_update) (eqb n op_transfer)) (hp ∙ ap resp_pd hm)) hy
     ∙ each (eqb t tag_dirty) (resp_pd (answer_resp a)) (eqb s UDP)

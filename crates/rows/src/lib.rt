@@ -1,4 +1,6 @@
 // What the rows of the tables ask of an event (definition 5).
+#![tactic(auto)]
+
 ghost use Rattle.std.specs.Prelude.{◌≡◌, cond, [], ◌∷◌};
 ghost use Rattle.kinds.specs.Tests.{◌∈?◌, same};
 ghost use Rattle.kinds.specs.Codes.{tag_not_seen, NDERR};
@@ -9,7 +11,7 @@ ghost use Rattle.rows.specs.Permitted.{rules_of, ok_or_derr, on_forward, by_tags
 use kinds::{Answer, EVENT_BYTES, LineState, Request, RespErr, TagOp, TagState, place};
 
 // The printed tables, the bench copy's rows for three snoops more, and the row of NDERR (definition 5.2 to 5.5, 5.11, 5.12).
-#[derive(Drop)]
+#[derive(Clone, Copy)]
 pub enum Table {
     B46,
     B57,

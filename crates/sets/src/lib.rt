@@ -1,4 +1,6 @@
 // Sets of states as bytes, one bit per state (definition 2.2).
+#![tactic(auto)]
+
 ghost use Rattle.std.specs.Prelude.{◌≡◌, cond, ◌&&◌};
 ghost use Rattle.kinds.specs.Codes.{dirty};
 ghost use Rattle.sets.specs.Sets.{bit, holds_dirty, apply};

@@ -1,4 +1,6 @@
 // The bench sheet judged as it arrives, piece by piece (definition 8).
+#![tactic(auto)]
+
 ghost use Rattle.std.specs.Prelude.{◌+◌, ◌≤◌, ◌<◌, ◌^◌, min, ◌≡◌, cond, true, [], length, replicate};
 ghost use Rattle.kinds.specs.Codes.{all_states};
 ghost use Rattle.sheet.specs.Sheet.{refuse, on_header, on_parsed, on_line, most_lines};
@@ -18,7 +20,7 @@ const MOST_LINES: u64 = 1_000_001;
 
 // What a run keeps between two turns: the number of bytes held at the front of the piece, the number of lines taken so far, whether
 // the run goes on, and whether the input has ended.
-#[derive(Drop)]
+#[derive(Clone, Copy)]
 pub struct Carried {
     pub held: usize,
     pub lines: u32,
@@ -28,7 +30,7 @@ pub struct Carried {
 
 // The result of a turn: what is kept, how many bytes of the output buffer to write now, whether to read before the next turn, and
 // whether the run is over.
-#[derive(Drop)]
+#[derive(Clone, Copy)]
 pub struct Turned {
     pub carried: Carried,
     pub put: usize,
@@ -38,7 +40,7 @@ pub struct Turned {
 
 // What was done with a piece: how many of its bytes are taken, how many bytes are put into the output buffer, how many lines are taken
 // so far, and whether the run goes on.
-#[derive(Drop)]
+#[derive(Clone, Copy)]
 struct Eaten {
     taken: usize,
     put: usize,
@@ -47,14 +49,14 @@ struct Eaten {
 }
 
 // What was done with a line: the offset behind its output, and whether the run goes on.
-#[derive(Drop)]
+#[derive(Clone, Copy)]
 struct Answered {
     at: usize,
     goes: bool,
 }
 
 // The next line of a piece: whether enough of it is known, where it ends, where the line behind it starts, and the line parsed.
-#[derive(Drop)]
+#[derive(Clone, Copy)]
 struct Next {
     sure: bool,
     end: usize,

@@ -110,24 +110,24 @@ pub fits_none : (e : List ℕ) (r : code.Row) (b : Bool) → b ≡ asked e r.tab
 unfolding row_fits
 fits_none e r true h k = absurd (false≢true k)
 fits_none e r false h k =
-    and_false (answered e r.table r.answer) (some_tag e r.table r.before.0 r.answer)
+    and-false (answered e r.table r.answer) (some_tag e r.table r.before.0 r.answer)
     ∙ ap (λ (x : Bool). answered e r.table r.answer && x && some_tag e r.table r.before.0 r.answer) h
   where
-    and_false : (a t : Bool) → false ≡ a && false && t
-    and_false true t = refl
-    and_false false t = refl
+    and-false : (a t : Bool) → false ≡ a && false && t
+    and-false true t = refl
+    and-false false t = refl
 
 pub fits_rest : (e : List ℕ) (r : code.Row) (b x y : Bool) → b ≡ asked e r.table r.ret r.marked → not b ≡ false
     → x ≡ answered e r.table r.answer → y ≡ some_tag e r.table r.before.0 r.answer → x && y ≡ row_fits e r
 unfolding row_fits
 fits_rest e r true x y h k p q =
-    and_true x y
+    and-true x y
     ∙ ap₂ (λ (a t : Bool). a && true && t) p q
     ∙ ap (λ (z : Bool). answered e r.table r.answer && z && some_tag e r.table r.before.0 r.answer) h
   where
-    and_true : (a t : Bool) → a && t ≡ a && true && t
-    and_true true t = refl
-    and_true false t = refl
+    and-true : (a t : Bool) → a && t ≡ a && true && t
+    and-true true t = refl
+    and-true false t = refl
 fits_rest e r false x y h k p q = absurd (false≢true (sym k))
 
 -- one choice inside another, and a third inside that

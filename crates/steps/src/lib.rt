@@ -1,4 +1,6 @@
 // What one event can do to a line: the states after, found in one loop over the rows, and the duty (definition 6).
+#![tactic(auto)]
+
 ghost use Rattle.std.specs.Prelude.{◌≡◌, ◌<◌};
 ghost use Rattle.kinds.specs.Codes.{state_not_seen};
 ghost use Rattle.sets.specs.Sets.{set_of};
@@ -16,7 +18,7 @@ use rows::Table;
 mod printed;
 
 // A row: `ret` is RetToSrc or X, `finals` is the set of states after, and `marked` is the star (definition 5.1, 5.7).
-#[derive(Drop)]
+#[derive(Clone, Copy)]
 pub struct Row {
     pub table: Table,
     pub before: LineState,

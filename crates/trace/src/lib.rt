@@ -1,4 +1,6 @@
 // A whole trace judged, whatever is lent (definition 3.3 to 3.5).
+#![tactic(auto)]
+
 ghost use Rattle.std.specs.Prelude.{◌<◌, ◌≤◌, ◌≡◌, length, set};
 ghost use Rattle.kinds.specs.Places.{most_pairs, set_in, event_in};
 ghost use Rattle.event.specs.Refusals.{issue_e};
@@ -11,7 +13,7 @@ use kinds::{ALL_STATES, EVENT_BYTES, EventNumber, MOST_EVENTS, MOST_PAIRS, PairN
 use verdicts::Finding;
 
 // A refusal number and its place (definition 4.1).
-#[derive(Drop)]
+#[derive(Clone, Copy)]
 pub struct Outcome {
     pub refusal: Refusal,
     pub place: usize,

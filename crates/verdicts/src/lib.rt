@@ -1,4 +1,6 @@
 // One event judged on the set of its pair (definition 7.3, 6.3).
+#![tactic(auto)]
+
 ghost use Rattle.std.specs.Prelude.{◌≡◌};
 ghost use Rattle.verdicts.specs.Verdicts.{finding};
 ghost use Rattle.verdicts.specs.Looked.{no_step, duty_kept, found_by};
@@ -6,7 +8,7 @@ ghost use Rattle.verdicts.specs.Looked.{no_step, duty_kept, found_by};
 use kinds::{Duty, Refusal, Verdict};
 
 // What an event does to its pair: the set after, the verdict, and the duty byte.
-#[derive(Drop)]
+#[derive(Clone, Copy)]
 pub struct Finding {
     pub after: u8,
     pub verdict: Verdict,

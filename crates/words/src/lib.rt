@@ -1,4 +1,6 @@
 // Several bytes read as one number, the first byte lowest.
+#![tactic(auto)]
+
 ghost use Rattle.std.specs.Prelude.{◌+◌, ◌≤◌, ◌≡◌, length, drop};
 ghost use Rattle.words.specs.Words.{half, word, word_of};
 

@@ -1,6 +1,6 @@
--- `rows::by_tags` meets its contract: the choices of the code are those of `by_tags`.
+-- `rows::by_tags_lem` meets its contract: the choices of the code are those of `by_tags`.
 -- Assumes nothing.
-use Rattle.rows.proofs.Laws.{by_tags}
+use Rattle.rows.proofs.Laws.{by_tags_lem}
 use borrow.Author.Rules.{rules}
 use Rattle.rows.proofs.by_tags.Statement.{statement}
 use Rattle.rows.proofs.by_tags.Tie as tie
@@ -28,7 +28,7 @@ returns c =
     let at_resp = c.before.before.before.before.before.before.before.before in
     let resp = at_resp.resp in
     let args = at_resp.before.before.before.before.args in
-    by_tags args.op.0 args.tag.0 args.before.0 args.answer resp.result.0 passes-dirty.result choose-bool.result
+    by_tags_lem args.op.0 args.tag.0 args.before.0 args.answer resp.result.0 passes-dirty.result choose-bool.result
     choose-bool2.result c.choose-bool3.result resp.ensures passes-dirty.ensures choose-bool.ensures choose-bool2.ensures
     c.choose-bool3.ensures
 
