@@ -1,21 +1,21 @@
 -- What `choices`, `all_below` and `keep` hold, and that they ascend.
 -- Assumes nothing.
 use mathlib.Core.Path.{◌≡◌, refl, sym, ◌∙◌, ap, ap₂, subst}
-use mathlib.Core.Bool.{Bool, true, false, cond, ◌&&◌, ◌||◌, false≢true, and-false, and-true, and_comm, or_assoc, and-or_distrib_left, and-or_distrib_right}
+use mathlib.Core.Bool.{Bool, true, false, cond, ◌&&◌, ◌||◌, false≢true, and-false, or_assoc, and-or_distrib_left, and-or_distrib_right}
 use mathlib.Core.List.{List, [], ◌∷◌, ◌++◌, map}
 use Prim.Native.Nat.{ℕ, zero, suc, ◌+◌, ◌<◌, ◌≤◌}
-use native.Mathlib.Nat.{add-suc, suc-add, zero-add}
+use native.Mathlib.Nat.{zero-add}
 use native.Mathlib.Omega.{arith}
-use borrow.Author.Tests.{ltb-true, eqb-true, eqb-false, eq-eqb, lt-ltb}
+use borrow.Author.Tests.{ltb-true, eqb-true, eqb-false, lt-ltb}
 use lib.Dec.{eqb, ltb, eqb-zero-suc, eqb-suc-zero, eqb-suc-suc}
-use lib.ListN.{length, get_or}
+use lib.ListN.{length}
 use Rattle.kinds.specs.Tests.{any, all, same, ◌∈?◌}
-use Rattle.kinds.proofs.Lists.{and_left, and_right, and_both, or_left, or_right, same_truth, same_equal, all_append}
+use Rattle.kinds.proofs.Lists.{and_left, and_right, and_both, or_left, same_truth, same_equal, all_append}
 use Rattle.rows.specs.Event.{byte}
 use Rattle.event.specs.Refusals.{below}
 use Rattle.answers.specs.Answers.{numbers_from, in_front, choices, all_below, keep}
 use Rattle.answers.specs.Ascending.{comes_before, ascending}
-use Rattle.answers.proofs.Ascending.{behind_same, same_self}
+use Rattle.answers.proofs.Ascending.{behind_same}
 
 -- `any` of two lists joined; of `all` it is `all_append` of kinds
 pub any_append : {A : Type 0} (p : A → Bool) (xs ys : List A) → any p (xs ++ ys) ≡ any p xs || any p ys

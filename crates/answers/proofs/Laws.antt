@@ -1,22 +1,19 @@
 -- Laws about the code of `list_answers`, over plain variables.
 -- Assumes nothing.
 use mathlib.Core.Path.{◌≡◌, refl, sym, ◌∙◌, ap, ap₂, subst}
-use mathlib.Core.Bool.{Bool, true, false, cond, ◌&&◌, ◌||◌}
+use mathlib.Core.Bool.{Bool, cond, ◌&&◌, ◌||◌}
 use mathlib.Core.List.{List, [], ◌∷◌, ◌++◌, map, append_assoc, append-nil}
-use Prim.Native.Nat.{ℕ, zero, suc, ◌+◌, ◌*◌, ◌/◌, ◌%◌, ◌<◌, ◌≤◌}
+use Prim.Native.Nat.{ℕ, suc, ◌+◌, ◌*◌, ◌/◌, ◌%◌, ◌<◌, ◌≤◌}
 use native.Mathlib.Nat.{le_antisymm}
 use native.Mathlib.Numerals.{add-one}
 use native.Mathlib.Omega.{arith}
-use borrow.Author.Tests.{eq-eqb, ne_eqb, le-leb, lt-leb}
-use lib.Dec.{eqb, ltb, leb}
+use lib.Dec.{eqb, ltb}
 use lib.ListN.{length, get_or, take, drop, set, length-append, length-drop, length-map}
 use lib.Seq.{sets-eq, take-suc, take_at, drop-append-add, drop-drop, get_or-drop, length-take-le}
-use Rattle.kinds.specs.Tests.{◌∈?◌}
 use Rattle.kinds.specs.Codes.{RSP, DAT, DERR, SnpUnique, SnpCleanInvalid, SnpMakeInvalid, SnpCleanFwd, SnpNotSharedDirtyFwd, SnpPreferUniqueFwd}
 use Rattle.kinds.proofs.Laws.{one_of_2, and_5}
 use Rattle.event.specs.Refusals.{issue_e, below}
 use Rattle.answers.specs.declared.Question.{Question}
-use Rattle.answers.specs.declared.Listed.{Listed}
 use Rattle.answers.specs.Answers.{question_bytes}
 use Rattle.answers.specs.Listed.{answer_length, asking, joined}
 use Rattle.answers.specs.Table.{spans, numbers, answers, list_count, number_count, first_on_dat}

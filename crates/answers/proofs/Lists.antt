@@ -1,7 +1,7 @@
 -- The code's table lists exactly the permitted answers: one fact, computed for every question in range.
 -- Assumes nothing.
-use mathlib.Core.Path.{◌≡◌, refl, sym, ◌∙◌, ap, ap₂, subst}
-use mathlib.Core.Bool.{Bool, true, false, cond, ◌&&◌, and_comm}
+use mathlib.Core.Path.{◌≡◌, refl, sym, ◌∙◌, ap}
+use mathlib.Core.Bool.{Bool, true, false, cond, ◌&&◌}
 use mathlib.Core.List.{List, [], ◌∷◌, map}
 use Prim.Native.Nat.{ℕ, zero, suc, ◌*◌, ◌/◌, ◌%◌, ◌<◌}
 use native.Mathlib.Nat.{mod-lt}
@@ -23,7 +23,7 @@ use Rattle.answers.specs.Listed.{answer_length, asking, fault_of}
 use Rattle.answers.specs.Table.{spans, numbers, answers, first_on_dat}
 use Rattle.answers.specs.Code.{span_of, ten_of, with_derr, answer_at, answers_in}
 use Rattle.answers.proofs.Ascending.{all_member, same_members}
-use Rattle.answers.proofs.Choices.{chosen, choices_members, chosen_below, all_below-members, all_below-ascending, keep_members, keep_ascending}
+use Rattle.answers.proofs.Choices.{choices_members, chosen_below, all_below-members, all_below-ascending, keep_members, keep_ascending}
 use Rattle.answers.proofs.OfRows.{row_choices, row_asked, answers_of, rows_members}
 use Rattle.answers.proofs.Sorted.{order, insert, sorted, alike, alike_equal, sorted_members}
 

@@ -1,10 +1,9 @@
 -- The answers of the rows: an answer is among them exactly when it is permitted.
 -- Assumes nothing.
-use mathlib.Core.Path.{◌≡◌, refl, sym, ◌∙◌, ap, subst}
+use mathlib.Core.Path.{◌≡◌, refl, sym, ◌∙◌, ap}
 use mathlib.Core.Bool.{Bool, true, false, cond, ◌&&◌, ◌||◌, and-true, and-false}
 use mathlib.Core.List.{List, [], ◌∷◌, ◌++◌}
 use Prim.Native.Nat.{ℕ}
-use borrow.Author.Tests.{eqb-true, eq-eqb}
 use lib.Dec.{eqb}
 use lib.ListN.{length}
 use Rattle.kinds.specs.Tests.{any, same, ◌∈?◌}
@@ -12,15 +11,14 @@ use Rattle.kinds.specs.declared.Answer.{Answer}
 use Rattle.kinds.specs.declared.Answer.TheVariants.{SnpResp, SnpRespData, SnpRespDataPtl}
 use Rattle.kinds.specs.declared.Forward.TheVariants.{NoForward, CompData}
 use Rattle.kinds.specs.Answers.{wire}
-use Rattle.kinds.proofs.Lists.{In, any_found, found_any, and_left, and_right, and_both, same_equal, same_truth}
-use Rattle.rows.specs.Event.{byte, answer_of, resp_err_of, tag_op_of, state_after_of}
+use Rattle.kinds.proofs.Lists.{In, any_found, found_any, and_left, and_right, and_both, same_truth}
+use Rattle.rows.specs.Event.{byte}
 use Rattle.rows.specs.Rows.{Row, rows}
 use Rattle.rows.specs.Permitted.{rules_of, on_forward, asked, answered, tags_allow, tag_ops, tagged}
 use Rattle.rows.proofs.ByRows.{Permits, permitted_row, row_permitted}
 use Rattle.answers.specs.declared.Question.{Question}
 use Rattle.answers.specs.Answers.{event_with, choices, permits}
 use Rattle.answers.specs.Listed.{answer_length}
-use Rattle.answers.proofs.Ascending.{same_self}
 use Rattle.answers.proofs.Choices.{any_append, chosen, choices_members}
 
 -- what each byte of a row's answers may be

@@ -1,20 +1,19 @@
 -- What a call of `list_answers` leaves, refused and accepted.
 -- Assumes nothing.
 use mathlib.Core.Path.{◌≡◌, refl, sym, ◌∙◌, ap, ap₂, subst}
-use mathlib.Core.Bool.{Bool, true, false, cond}
-use mathlib.Core.List.{List, [], ◌∷◌, ◌++◌}
+use mathlib.Core.Bool.{Bool, true, cond}
+use mathlib.Core.List.{List, ◌++◌}
 use Prim.Native.Nat.{ℕ, ◌+◌, ◌*◌, ◌/◌, ◌%◌, ◌<◌, ◌≤◌}
 use native.Mathlib.Omega.{arith}
 use borrow.Author.Tests.{eq-eqb, ne_eqb, le-leb, lt-leb, leb-true}
-use lib.Dec.{eqb, leb}
+use lib.Dec.{leb}
 use lib.ListN.{length, drop}
 use Rattle.kinds.specs.Tests.{all}
 use Rattle.kinds.specs.declared.Refusal.{Refusal}
 use Rattle.event.specs.Refusals.{issue_e}
 use Rattle.answers.specs.declared.Question.{Question}
-use Rattle.answers.specs.declared.Listed.{Listed}
 use Rattle.answers.specs.Answers.{answers_to}
-use Rattle.answers.specs.Listed.{answer_length, fault_of, joined, ListLeft, list_left, result, accepted_list, refused_list, listed_in, listed}
+use Rattle.answers.specs.Listed.{answer_length, fault_of, joined, list_left, result, accepted_list, refused_list, listed_in, listed}
 use Rattle.answers.specs.Table.{spans, numbers, number_count}
 use Rattle.answers.specs.Code.{span_of, answers_at, answers_in}
 use Rattle.answers.proofs.Lists.{questions, question_at, every_question, table_right}

@@ -128,8 +128,8 @@ fn put_answer(room: &mut [u8], at: usize, channel: u8, rest: u64, error: u8)
 
 // Puts so many answers into the room, one after another, by their numbers from `start` on. They must fit.
 fn put_answers(room: &mut [u8], start: usize, count: usize)
-    requires count_in_bounds { start + count ≤ length numbers }
-    requires count_in_bounds_2 { answer_length * count ≤ length room.old }
+    requires in_table { start + count ≤ length numbers }
+    requires in_room { answer_length * count ≤ length room.old }
     ensures { room.new ≡ joined (answers_at start count) ++ drop (answer_length * count) room.old }
 {
     let numbers = table::NUMBERS;

@@ -45,8 +45,8 @@ pub fn ends_line(text: &[u8], at: usize) -> bool
 
 // The offset of the next CR from an offset on, or `last`.
 fn next_cr(text: &[u8], start: usize, last: usize) -> usize
-    requires start_le_last { start ≤ last }
-    requires last_in_bounds { last ≤ length text.now }
+    requires ordered { start ≤ last }
+    requires inside { last ≤ length text.now }
     ensures { result ≡ start + before_cr (last - start) (drop start text.now) }
 {
     let mut at = start;

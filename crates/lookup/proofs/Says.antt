@@ -6,22 +6,22 @@ use mathlib.Core.List.{List, [], ◌∷◌}
 use Prim.Native.Nat.{ℕ, zero, suc, ◌+◌, ◌*◌, ◌/◌, ◌%◌, ◌^◌, ◌<◌}
 use native.Mathlib.Nat.{zero-add, zero-div, div-one, div-eq_of_lt, mod-eq_of_lt, add-mul-div_left, add-mul-mod_self_left}
 use native.Mathlib.Omega.{arith}
-use borrow.Author.Tests.{eqb-true, eqb-false}
+use borrow.Author.Tests.{eqb-true}
 use lib.Dec.{eqb}
 use lib.ListN.{get_or}
 use Rattle.kinds.specs.Tests.{any, all, ◌∈?◌}
 use Rattle.kinds.specs.Codes.{all_states, requests, tags, tag_not_seen, state_not_seen}
 use Rattle.kinds.specs.Answers.{wire}
-use Rattle.kinds.proofs.Lists.{any_found, all_at, one_of, if_then, or_and, and_left, and_right, and_both}
+use Rattle.kinds.proofs.Lists.{any_found, all_at, one_of, if_then, or_and, and_left, and_right}
 use Rattle.sets.specs.Sets.{set_of, bit}
 use Rattle.sets.proofs.Laws.{bit-set_of, set_of-below}
 use Rattle.words.specs.Words.{half}
-use Rattle.rows.specs.Event.{byte, request_of, ret_to_src_of, do_not_go_to_sd_of, excl_of, tag_of, channel_of, opcode_of, resp_of, fwd_state_of, tag_op_of, resp_err_of, forwarded_of, forwarded_resp_of, state_after_of, forwarded_err_of, answer_of, seen}
+use Rattle.rows.specs.Event.{request_of, ret_to_src_of, do_not_go_to_sd_of, excl_of, tag_of, channel_of, opcode_of, resp_of, fwd_state_of, tag_op_of, resp_err_of, forwarded_of, forwarded_resp_of, state_after_of, forwarded_err_of, seen}
 use Rattle.rows.specs.Rows.{Row, rows}
 use Rattle.rows.specs.Permitted.{asked, answered, tagged, some_tag, tags_allow, tag_ops, on_forward, rules_of}
 use Rattle.rows.proofs.Parts.{answered_so}
 use Rattle.steps.specs.Steps.{steps, duty}
-use Rattle.steps.specs.Code.{code_of, row_fits}
+use Rattle.steps.specs.Code.{row_fits}
 use Rattle.steps.proofs.Walk.{by, rows_steps}
 use Rattle.steps.proofs.Passing.{all_get_d}
 use Rattle.lookup.specs.Table.{keys, slots}

@@ -20,7 +20,7 @@ use Rattle.kinds.proofs.Lists.{and_right}
 use Rattle.fields.specs.Fields.{fields_of, fields_from, field_end}
 use Rattle.fields.proofs.Laws.{end_from, end_within, fields_start, fields_none, fields_step}
 use Rattle.names.specs.Names.{unknown, columns, in_column, answer_at}
-use Rattle.names.specs.Columns.{request_code, ret_to_src_code, do_not_go_to_sd_code, excl_code, tag_code, response_code, tag_op_code, resp_err_code, forward_code, final_code}
+use Rattle.names.specs.Columns.{request_code, ret_to_src_code, do_not_go_to_sd_code, excl_code, tag_code, response_code, tag_op_code, resp_err_code, final_code}
 use Rattle.parser.specs.declared.Taken.{Taken}
 use Rattle.parser.specs.declared.Codes.{Codes}
 use Rattle.parser.specs.declared.Found.{Found}

@@ -1,4 +1,2 @@
 pub mod Laws
 pub mod Events
-pub mod Steps
-pub mod Reading

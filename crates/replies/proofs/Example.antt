@@ -2,7 +2,7 @@
 -- Assumes nothing.
 use mathlib.Core.Path.{◌≡◌, refl}
 use mathlib.Core.List.{◌++◌}
-use Prim.Native.Nat.{ℕ, ◌+◌}
+use Prim.Native.Nat.{ℕ}
 use Rattle.kinds.specs.Codes.{all_states}
 use Rattle.sets.specs.Sets.{bit}
 use Rattle.steps.specs.Steps.{no_duty, Home, Requester, lost, discarded}

@@ -69,8 +69,8 @@ fn places(n: u64) -> usize
 
 // Writes the k digits of a number at an offset, the last digit first. They must fit.
 fn spell(out: &mut [u8], at: usize, k: usize, n: u64)
-    requires k_value { k ≡ length (decimal_text n) }
-    requires k_in_bounds { at + k ≤ length out.old }
+    requires all_digits { k ≡ length (decimal_text n) }
+    requires has_room { at + k ≤ length out.old }
     ensures { out.new ≡ take at out.old ++ decimal_text n ++ drop (at + k) out.old }
 {
     let mut i = k;
@@ -141,8 +141,8 @@ fn put_duty(out: &mut [u8], at: usize, duty: Duty) -> usize
 
 // Writes a state's name if the state is in the set. `spaced` is the name after a space, which only the first state leaves out.
 fn put_state(out: &mut [u8], at: usize, states: u8, state: u8, spaced: &[u8]) -> usize
-    requires state_bound { state < 7 }
-    requires spaced_value { spaced.now ≡ space ∷ drop 1 spaced.now }
+    requires is_state { state < 7 }
+    requires is_spaced { spaced.now ≡ space ∷ drop 1 spaced.now }
     ensures { laid result out.new ≡
         lay (laid at out.old) (state_text states state (drop 1 spaced.now)) }
 {
@@ -170,8 +170,8 @@ fn put_states(out: &mut [u8], at: usize, states: u8) -> usize
 
 // Writes the two digits of a number below a hundred.
 fn lay_two(out: &mut [u8], at: usize, n: u32) -> usize
-    requires n_bound { n < 100 }
-    requires at_in_bounds { at + 2 ≤ length out.old }
+    requires few_digits { n < 100 }
+    requires has_room { at + 2 ≤ length out.old }
     ensures { laid result out.new ≡ lay (laid at out.old) (two_digits n) }
 {
     lay(out, at, &[ZERO + (n / 10) as u8, ZERO + (n % 10) as u8])
@@ -179,8 +179,8 @@ fn lay_two(out: &mut [u8], at: usize, n: u32) -> usize
 
 // Writes a number below a hundred in decimal.
 fn lay_upto_two(out: &mut [u8], at: usize, n: u32) -> usize
-    requires n_bound { n < 100 }
-    requires at_in_bounds { at + 2 ≤ length out.old }
+    requires few_digits { n < 100 }
+    requires has_room { at + 2 ≤ length out.old }
     ensures { laid result out.new ≡ lay (laid at out.old) (decimal_text n) }
 {
     if n < 10 {
@@ -191,8 +191,8 @@ fn lay_upto_two(out: &mut [u8], at: usize, n: u32) -> usize
 
 // Writes a number below ten thousand in decimal.
 fn lay_upto_four(out: &mut [u8], at: usize, n: u32) -> usize
-    requires n_bound { n < 10000 }
-    requires at_in_bounds { at + 4 ≤ length out.old }
+    requires few_digits { n < 10000 }
+    requires has_room { at + 4 ≤ length out.old }
     ensures { laid result out.new ≡ lay (laid at out.old) (decimal_text n) }
 {
     if n < 100 {
@@ -204,8 +204,8 @@ fn lay_upto_four(out: &mut [u8], at: usize, n: u32) -> usize
 
 // Writes a number below a million in decimal.
 fn lay_upto_six(out: &mut [u8], at: usize, n: u32) -> usize
-    requires n_bound { n < 1000000 }
-    requires at_in_bounds { at + 6 ≤ length out.old }
+    requires few_digits { n < 1000000 }
+    requires has_room { at + 6 ≤ length out.old }
     ensures { laid result out.new ≡ lay (laid at out.old) (decimal_text n) }
 {
     if n < 10_000 {

@@ -100,8 +100,8 @@ fn judge_parsed(
     at: usize,
 ) -> Answered
     requires roomy { Roomy out.old at }
-    requires lines_nonzero { 0 < lines }
-    requires lines_lt_most_lines { lines < most_lines }
+    requires not_header { 0 < lines }
+    requires not_too_many { lines < most_lines }
     requires no_fault { NoFault parsed }
     ensures { AnswersOn (on_parsed lines table.old parsed)
         out.old at result out.new table.new }

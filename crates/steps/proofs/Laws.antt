@@ -10,9 +10,9 @@ use native.Mathlib.Omega.{arith}
 use borrow.Author.Tests.{ne_eqb, ltb-true, ltb-false}
 use lib.Bits.{bit_and}
 use lib.Dec.{eqb, ltb}
-use lib.ListN.{length, get_or, set, take}
+use lib.ListN.{length, set, take}
 use lib.Seq.{take_all, take-suc-set}
-use Rattle.kinds.specs.Codes.{state_not_seen, all_states, OK, NDERR, SnpMakeInvalid, resp_pd, fwd_pd}
+use Rattle.kinds.specs.Codes.{state_not_seen, OK, NDERR, SnpMakeInvalid, resp_pd, fwd_pd}
 use Rattle.kinds.specs.Places.{event_length}
 use Rattle.kinds.specs.declared.Answer.{Answer}
 use Rattle.kinds.specs.declared.Answer.TheVariants.{SnpResp, SnpRespData, SnpRespDataPtl}

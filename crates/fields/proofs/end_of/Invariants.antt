@@ -1,10 +1,8 @@
 -- `fields::end_of` meets its contract: from the place reached the field ends where it does from the start. The measure is what is left of the line.
-use mathlib.Core.Path.{◌≡◌, refl, sym, ◌∙◌}
+use mathlib.Core.Path.{◌≡◌}
 use Prim.Native.Nat.{◌-◌}
-use native.Mathlib.Omega.{arith}
 use lib.ListN.{length}
 use Rattle.fields.specs.Fields.{field_end}
-use Rattle.fields.proofs.Laws.{end_at_end, end_at_comma, end_further}
 use Rattle.fields.proofs.end_of.Given as goal
 
 abbrev pub invariant-loop-end : goal.invariant-loop-end

@@ -1,7 +1,6 @@
 -- `lines::ends_line` meets its contract: fewer than two bytes are no CR LF.
 use mathlib.Core.Path.{sym}
-use native.Mathlib.Omega.{arith}
-use Rattle.lines.proofs.Laws.{none_past, none_last, crlf_at}
+use Rattle.lines.proofs.Laws.{none_last}
 use Rattle.lines.proofs.ends_line.Goals as goal
 
 pub returns-then-len-at-lt2 : goal.returns-then-len-at-lt2

@@ -1,7 +1,6 @@
 -- `lines::next_cr` meets its contract: no CR stands before the place that is looked at. The measure is what is left to look at.
 use Prim.Native.Nat.{◌-◌}
-use native.Mathlib.Omega.{arith}
-use Rattle.lines.proofs.Laws.{Sought, sought_start, sought_next, sought_here, sought_end}
+use Rattle.lines.proofs.Laws.{Sought}
 use Rattle.lines.proofs.next_cr.Given as goal
 
 abbrev pub invariant-loop-at : goal.invariant-loop-at

@@ -1,11 +1,8 @@
 -- `steps::event_bytes` meets its contract. The invariant: the first `i` bytes are read, and there is room for all. The measure is the bytes that are left.
-use mathlib.Core.Path.{◌≡◌, refl, ◌∙◌}
-use Prim.Native.Nat.{◌≤◌, ◌-◌}
+use mathlib.Core.Path.{◌∙◌}
 use native.Mathlib.Omega.{arith}
-use lib.ListN.{length, take, length-set}
-use Rattle.kinds.specs.Places.{event_length}
-use Rattle.steps.specs.Code.{bytes_from}
-use Rattle.steps.proofs.Laws.{bytes_turn, bytes_end}
+use lib.ListN.{length-set}
+use Rattle.steps.proofs.Laws.{bytes_turn}
 use Rattle.steps.proofs.event_bytes.Goals as goal
 
 pub loop-i-preserved : goal.loop-i-preserved

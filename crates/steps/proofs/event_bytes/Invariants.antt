@@ -1,11 +1,9 @@
 -- `steps::event_bytes` meets its contract. The invariant: the first `i` bytes are read, and there is room for all. The measure is the bytes that are left.
-use mathlib.Core.Path.{◌≡◌, refl, ◌∙◌}
+use mathlib.Core.Path.{◌≡◌}
 use Prim.Native.Nat.{◌≤◌, ◌-◌}
-use native.Mathlib.Omega.{arith}
-use lib.ListN.{length, take, length-set}
+use lib.ListN.{length, take}
 use Rattle.kinds.specs.Places.{event_length}
 use Rattle.steps.specs.Code.{bytes_from}
-use Rattle.steps.proofs.Laws.{bytes_turn, bytes_end}
 use Rattle.steps.proofs.event_bytes.Given as goal
 
 abbrev pub invariant-loop-i : goal.invariant-loop-i

@@ -1,14 +1,11 @@
 -- `steps::sets_after` meets its contract: the walk along the rows. The invariant: the words are the printed rows, and the sets are what the
 -- rows so far lead to; a row with other upper columns than the event's leads nowhere. The measure is the rows that are left.
-use native.Mathlib.Omega.{arith}
 use Prim.Native.Nat.{◌≤◌, ◌-◌}
-use mathlib.Core.Path.{◌≡◌, refl}
+use mathlib.Core.Path.{◌≡◌}
 use lib.ListN.{take}
-use Rattle.sets.specs.Sets.{set_of}
 use Rattle.rows.specs.Rows.{rows}
-use Rattle.steps.specs.Code.{row_count, row_at, event_bytes, wire_key}
-use Rattle.steps.proofs.Walk.{Printed, half, keyed, walked, walk_none, word_before, walk_end}
-use Rattle.steps.proofs.Passing.{pass_turn, add_turn}
+use Rattle.steps.specs.Code.{row_count, event_bytes}
+use Rattle.steps.proofs.Walk.{Printed, walked}
 use Rattle.steps.proofs.sets_after.Given as goal
 
 abbrev pub invariant-loop-i : goal.invariant-loop-i

@@ -1,5 +1,4 @@
 -- `trace::by_events` meets its contract: the first bad event, or none.
-use native.Mathlib.Omega.{arith}
 use Rattle.event.specs.Refusals.{issue_e}
 use Rattle.trace.proofs.Laws.{refused_event, no_event}
 use Rattle.trace.proofs.by_events.Goals as goal

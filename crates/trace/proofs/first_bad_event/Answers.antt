@@ -1,10 +1,7 @@
 -- `trace::first_bad_event` meets its contract: no event before k is bad. The measure is what is left of the pair numbers.
-use Prim.Native.Nat.{◌-◌}
-use native.Mathlib.Omega.{arith}
-use lib.ListN.{length}
 use Rattle.event.specs.Refusals.{issue_e}
-use Rattle.trace.specs.Refusals.{fault_at, bad_event}
-use Rattle.trace.proofs.Laws.{First, first_start, first_here, first_next, first_end, bad, good}
+use Rattle.trace.specs.Refusals.{fault_at}
+use Rattle.trace.proofs.Laws.{first_next, good}
 use Rattle.trace.proofs.first_bad_event.Goals as goal
 
 pub loop-k-preserved : goal.loop-k-preserved

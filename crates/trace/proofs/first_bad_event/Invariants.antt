@@ -1,10 +1,9 @@
 -- `trace::first_bad_event` meets its contract: no event before k is bad. The measure is what is left of the pair numbers.
 use Prim.Native.Nat.{◌-◌}
-use native.Mathlib.Omega.{arith}
 use lib.ListN.{length}
 use Rattle.event.specs.Refusals.{issue_e}
-use Rattle.trace.specs.Refusals.{fault_at, bad_event}
-use Rattle.trace.proofs.Laws.{First, first_start, first_here, first_next, first_end, bad, good}
+use Rattle.trace.specs.Refusals.{bad_event}
+use Rattle.trace.proofs.Laws.{First}
 use Rattle.trace.proofs.first_bad_event.Given as goal
 
 abbrev pub invariant-loop-k : goal.invariant-loop-k

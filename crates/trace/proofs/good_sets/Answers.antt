@@ -1,10 +1,6 @@
 -- `trace::good_sets` meets its contract: every set before p is good. The measure is what is left of the table.
 use mathlib.Core.Path.{◌∙◌}
-use Prim.Native.Nat.{◌-◌}
-use native.Mathlib.Omega.{arith}
-use lib.ListN.{length}
 use Rattle.words.proofs.Laws.{word_part}
-use Rattle.trace.specs.Code.{GoodBefore}
 use Rattle.trace.proofs.Laws.{good_more}
 use Rattle.trace.proofs.good_sets.Goals as goal
 

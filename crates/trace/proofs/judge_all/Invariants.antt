@@ -1,9 +1,7 @@
 -- `trace::judge_all` meets its contract: after k events each buffer holds what those k leave. The measure is what is left of the pair numbers.
-use mathlib.Core.Path.{sym, ◌∙◌}
 use Prim.Native.Nat.{◌-◌}
-use native.Mathlib.Omega.{arith}
 use lib.ListN.{length}
-use Rattle.trace.proofs.Loop.{one_ready, Going, going_start, going_next, going_end}
+use Rattle.trace.proofs.Loop.{Going}
 use Rattle.trace.proofs.judge_all.Given as goal
 
 abbrev pub invariant-loop-k : goal.invariant-loop-k

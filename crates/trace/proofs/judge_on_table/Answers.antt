@@ -1,5 +1,5 @@
 -- `trace::judge_on_table` meets its contract: the pair's set is judged, and the set after is put in its place.
-use Rattle.trace.proofs.Loop.{has_pair_at, on_table}
+use Rattle.trace.proofs.Loop.{on_table}
 use Rattle.trace.proofs.judge_on_table.Goals as goal
 
 pub returns : goal.returns

@@ -1,11 +1,9 @@
 -- `trace::lowest_bad_set` meets its contract: no set before p is bad, from those that `good_sets` found on. The measure is what is left of the table.
-use mathlib.Core.Bool.{true, false}
-use Prim.Native.Nat.{◌-◌}
-use native.Mathlib.Omega.{arith}
+use mathlib.Core.Bool.{false}
 use lib.ListN.{length}
 use Rattle.kinds.specs.Places.{set_in}
 use Rattle.trace.specs.Refusals.{bad_set_at}
-use Rattle.trace.proofs.Laws.{First, first_from_lem, first_here, first_next, first_end, set_tested}
+use Rattle.trace.proofs.Laws.{first_from_lem, first_next, set_tested}
 use Rattle.trace.proofs.lowest_bad_set.Goals as goal
 
 pub loop-p-init : goal.loop-p-init

@@ -1,0 +1,23 @@
+-- `first_line::in_place::data_pd` meets its contract: each name, where it stands.
+use mathlib.Core.Path.{refl}
+use Rattle.text.specs.Text.{bytes}
+use Rattle.names.specs.Names.{code_of, response_names, responses}
+use Rattle.first_line.proofs.Matching.{took_end, took_rest}
+use Rattle.first_line.proofs.in_place.data_pd.Goals as goal
+
+pub returns-then-i-gt0 : goal.returns-then-i-gt0
+returns-then-i-gt0 c =
+    let behind = c.behind-i in
+    took_rest (bytes "ata_I_PD") c.i_pd.ensures (behind.ensures c.if-i-gt0.true) refl
+
+pub returns-then-sc-gt0 : goal.returns-then-sc-gt0
+returns-then-sc-gt0 c =
+    let behind2 = c.behind-sc in
+    took_rest (bytes "ata_SC_P") c.sc_pd.ensures (behind2.ensures c.if-sc-gt0.true) refl
+
+pub returns-then-part-gt0 : goal.returns-then-part-gt0
+unfolding code_of response_names responses
+returns-then-part-gt0 c =
+    let if3 = c.if-part-gt0 in
+    let behind3 = c.behind-part in
+    took_rest (bytes "ataPtl_I") (took_end (bytes "_PD") c.ending.ensures refl refl refl) (behind3.ensures if3.true) refl
