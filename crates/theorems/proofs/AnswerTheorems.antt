@@ -20,7 +20,7 @@ use Rattle.answers.specs.declared.Question.{Question}
 use Rattle.answers.specs.Answers.{event_with, permits, answer_limits, answers_to}
 use Rattle.answers.specs.Ascending.{comes_before, ascending}
 use Rattle.answers.specs.Listed.{answer_length, most_answers, ListLeft, accepted_list, refused_list, listed}
-use Rattle.answers.specs.Given.{Good, Given, bad_byte, bad_request, short_room, accepted}
+use Rattle.answers.specs.Given.{Good, Given, short_room}
 use Rattle.theorems.specs.Alone.{set_from}
 use Rattle.theorems.specs.Listing.{InRange, is_listed, nderr_answer, no_such_tags, longest_question}
 -- their proofs

@@ -1,9 +1,9 @@
 -- Laws about the list of permitted answers: the event that a question and an answer make, and facts computed for every question.
 -- Assumes nothing.
 use mathlib.Core.Path.{◌≡◌, refl, sym, ◌∙◌, ap, ap₂, subst}
-use mathlib.Core.Bool.{Bool, true, false, cond, not, ◌&&◌, ◌||◌, false≢true}
-use mathlib.Core.List.{List, [], ◌∷◌, ◌++◌}
-use Prim.Native.Nat.{ℕ, zero, suc, ◌+◌, ◌%◌, ◌<◌, ◌≤◌}
+use mathlib.Core.Bool.{Bool, true, false, cond, ◌&&◌, ◌||◌, false≢true}
+use mathlib.Core.List.{List, [], ◌∷◌}
+use Prim.Native.Nat.{ℕ, zero, suc, ◌+◌, ◌<◌}
 use native.Mathlib.Nat.{le_of_suc-le-suc, add-zero}
 use native.Mathlib.Omega.{arith}
 use borrow.Author.Tests.{ltb-true, lt-ltb, leb-true, eqb-true, eq-eqb, ne_eqb}
@@ -13,13 +13,13 @@ use Rattle.kinds.specs.Tests.{any, all, same, ◌∈?◌}
 use Rattle.kinds.specs.Codes.{tags, tag_not_seen, state_not_seen}
 use Rattle.kinds.specs.Places.{event_length}
 use Rattle.kinds.proofs.Lists.{and_left, and_right, and_both, or_right}
-use Rattle.rows.specs.Event.{byte, tag_of, state_after_of, request_of, seen}
+use Rattle.rows.specs.Event.{byte, seen}
 use Rattle.rows.specs.Permitted.{permitted}
 use Rattle.steps.specs.Steps.{Step}
 use Rattle.event.specs.Refusals.{issue_e, below, fault, refusal_alone}
 use Rattle.answers.specs.declared.Question.{Question}
 use Rattle.answers.specs.Answers.{question_bytes, event_with, answer_limits, answers_to}
-use Rattle.answers.specs.Listed.{answer_length, asking}
+use Rattle.answers.specs.Listed.{asking}
 use Rattle.answers.specs.Given.{Good}
 use Rattle.answers.specs.Table.{spans, numbers}
 use Rattle.answers.specs.Code.{span_of, answer_at, answers_in}
