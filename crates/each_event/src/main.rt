@@ -6,7 +6,7 @@
 ghost use Rattle.std.specs.Prelude.{◌≤◌, length};
 
 use event::Judgment;
-use libc::{STDIN_FILENO, STDOUT_FILENO};
+use std::io::{Read, Stdin};
 
 // The records of a block, their bytes, and the bytes of their answers.
 const BLOCK: usize = 1024;
@@ -91,28 +91,43 @@ fn answer_block(block: &[u8], room: &mut [u8]) -> usize {
     k * 16
 }
 
+// Reads until the buffer is full, the input ends or a read fails, and returns the number of bytes that came.
+fn read_full(mut stdin: Stdin, room: &mut [u8]) -> usize
+    ensures { result ≤ length room.new }
+{
+    let mut done = 0;
+    while done < room.len() {
+        let came = stdin.read(&mut room[done..]).unwrap_or(0);
+        if came == 0 {
+            break;
+        }
+        done += came;
+    }
+    done
+}
+
 // Reads a block, and returns the bytes that came.
-fn read_block(block: &mut [u8]) -> &mut [u8] {
-    let came = io::read_full(STDIN_FILENO, block);
+fn read_block(stdin: Stdin, block: &mut [u8]) -> &mut [u8] {
+    let came = read_full(stdin, block);
     let got = least(came, block.len());
     &mut block[..got]
 }
 
 // Reads a block, answers it, and returns whether there may be more.
-fn next_block() -> bool {
+fn next_block(rt: &HostRuntime) -> bool {
     let mut block = [0u8; BLOCK_BYTES];
     let mut room = [0u8; ROOM_BYTES];
-    let came = read_block(&mut block);
+    let came = read_block(rt.stdin(), &mut block);
     let answered = answer_block(came, &mut room);
     let wrote = least(answered, ROOM_BYTES);
-    let written = io::write_all(STDOUT_FILENO, &room[..wrote]);
+    let written = rt.write_all(&room[..wrote]).is_ok();
     written & (came.len() == BLOCK_BYTES)
 }
 
 // Answers block by block. A proved loop must end, so this one counts down from a number that no run uses up.
-fn main() {
+fn main(rt: HostRuntime) {
     let mut turns = u64::MAX;
-    while turns > 0 && next_block() {
+    while turns > 0 && next_block(&rt) {
         turns -= 1;
     }
 }

@@ -4,10 +4,10 @@
 // refusal number in one byte, the place in 32 bits, and the last four buffers as left. A case that is cut off or too long ends the run.
 #![tactic(auto)]
 
-ghost use Rattle.std.specs.Prelude.{◌<◌, ◌≤◌};
+ghost use Rattle.std.specs.Prelude.{◌<◌, ◌≤◌, length};
 
 use kinds::{MOST_EVENTS, MOST_PAIRS};
-use libc::{STDIN_FILENO, STDOUT_FILENO};
+use std::io::{Read, Stdin, Stdout};
 use trace::Outcome;
 
 // The room for a case: bytes of events, twice the most sets of a table, twice the most events, and two bytes for each pair number.
@@ -65,10 +65,25 @@ fn least(a: usize, b: usize) -> usize
     if a < b { a } else { b }
 }
 
+// Reads until the buffer is full, the input ends or a read fails, and returns the number of bytes that came.
+fn read_full(mut stdin: Stdin, room: &mut [u8]) -> usize
+    ensures { result ≤ length room.new }
+{
+    let mut done = 0;
+    while done < room.len() {
+        let came = stdin.read(&mut room[done..]).unwrap_or(0);
+        if came == 0 {
+            break;
+        }
+        done += came;
+    }
+    done
+}
+
 // Reads a buffer of a case, and returns the bytes that came: fewer if there is no room for all.
-fn read_part(room: &mut [u8], len: usize) -> &mut [u8] {
+fn read_part(stdin: Stdin, room: &mut [u8], len: usize) -> &mut [u8] {
     let n = least(len, room.len());
-    let came = io::read_full(STDIN_FILENO, &mut room[..n]);
+    let came = read_full(stdin, &mut room[..n]);
     let got = least(came, room.len());
     &mut room[..got]
 }
@@ -87,9 +102,9 @@ fn lengths_of(header: &[u8]) -> Lengths {
 }
 
 // Reads the head of a case.
-fn read_lengths() -> Lengths {
+fn read_lengths(stdin: Stdin) -> Lengths {
     let mut header = [0u8; 24];
-    let came = read_part(&mut header, 24);
+    let came = read_part(stdin, &mut header, 24);
     lengths_of(came)
 }
 
@@ -107,17 +122,17 @@ fn set_pairs(bytes: &[u8], pairs: &mut [u16]) {
 }
 
 // Reads the pair numbers of a case, and returns those that came: fewer if there is no room for all.
-fn read_pairs(pairs: &mut [u16], count: usize) -> &mut [u16] {
+fn read_pairs(stdin: Stdin, pairs: &mut [u16], count: usize) -> &mut [u16] {
     let mut bytes = [0u8; PAIR_BYTES_ROOM];
     let n = least(count, pairs.len());
-    let came = read_part(&mut bytes, n * 2);
+    let came = read_part(stdin, &mut bytes, n * 2);
     let got = least(n, came.len() / 2);
     set_pairs(came, &mut pairs[..got]);
     &mut pairs[..got]
 }
 
 // Writes the refusal number and the place.
-fn write_outcome(outcome: Outcome) -> bool {
+fn write_outcome(stdout: Stdout, outcome: Outcome) -> bool {
     let place = outcome.place;
     let bytes = [
         outcome.refusal.0,
@@ -126,27 +141,29 @@ fn write_outcome(outcome: Outcome) -> bool {
         (place / 65536 % 256) as u8,
         (place / 16777216 % 256) as u8,
     ];
-    io::write_all(STDOUT_FILENO, &bytes)
+    stdout.write_all(&bytes).is_ok()
 }
 
 // Writes an answer, and returns whether that worked.
 fn write_answer(
+    stdout: Stdout,
     outcome: Outcome,
     table: &[u8],
     verdicts: &[u8],
     duties: &[u8],
     afters: &[u8],
 ) -> bool {
-    let o = write_outcome(outcome);
-    let t = io::write_all(STDOUT_FILENO, table);
-    let v = io::write_all(STDOUT_FILENO, verdicts);
-    let d = io::write_all(STDOUT_FILENO, duties);
-    let a = io::write_all(STDOUT_FILENO, afters);
+    let o = write_outcome(stdout, outcome);
+    let t = stdout.write_all(table).is_ok();
+    let v = stdout.write_all(verdicts).is_ok();
+    let d = stdout.write_all(duties).is_ok();
+    let a = stdout.write_all(afters).is_ok();
     o & t & v & d & a
 }
 
 // Judges a case and writes the answer, and returns whether the case was complete and the writing worked.
 fn answer(
+    stdout: Stdout,
     l: Lengths,
     events: &[u8],
     pairs: &[u16],
@@ -162,31 +179,32 @@ fn answer(
         return false;
     }
     let outcome = trace::judge_trace(events, pairs, table, verdicts, duties, afters);
-    write_answer(outcome, table, verdicts, duties, afters)
+    write_answer(stdout, outcome, table, verdicts, duties, afters)
 }
 
 // Reads a case, judges it, writes the answer, and returns whether there may be more.
-fn next_case() -> bool {
+fn next_case(rt: &HostRuntime) -> bool {
+    let stdin = rt.stdin();
     let mut events = [0u8; EVENTS_ROOM];
     let mut pairs = [0u16; EACH_ROOM];
     let mut table = [0u8; TABLE_ROOM];
     let mut verdicts = [0u8; EACH_ROOM];
     let mut duties = [0u8; EACH_ROOM];
     let mut afters = [0u8; EACH_ROOM];
-    let l = read_lengths();
-    let e = read_part(&mut events, l.events);
-    let p = read_pairs(&mut pairs, l.pairs);
-    let t = read_part(&mut table, l.table);
-    let v = read_part(&mut verdicts, l.verdicts);
-    let d = read_part(&mut duties, l.duties);
-    let a = read_part(&mut afters, l.afters);
-    answer(l, e, p, t, v, d, a)
+    let l = read_lengths(stdin);
+    let e = read_part(stdin, &mut events, l.events);
+    let p = read_pairs(stdin, &mut pairs, l.pairs);
+    let t = read_part(stdin, &mut table, l.table);
+    let v = read_part(stdin, &mut verdicts, l.verdicts);
+    let d = read_part(stdin, &mut duties, l.duties);
+    let a = read_part(stdin, &mut afters, l.afters);
+    answer(rt.stdout(), l, e, p, t, v, d, a)
 }
 
 // Answers case by case. A proved loop must end, so this one counts down from a number that no run uses up.
-fn main() {
+fn main(rt: HostRuntime) {
     let mut turns = u64::MAX;
-    while turns > 0 && next_case() {
+    while turns > 0 && next_case(&rt) {
         turns -= 1;
     }
 }

@@ -5,8 +5,9 @@
 ghost use Rattle.std.specs.Prelude.{◌≤◌, length};
 
 use kinds::MOST_PAIRS;
-use libc::{STDERR_FILENO, STDIN_FILENO, STDOUT_FILENO};
 use sheet::Turned;
+use std::io::{ErrorKind, Read};
+use std::process::ExitCode;
 
 // The size of the input buffer and of the output buffer.
 const SIZE: usize = 65536;
@@ -19,34 +20,33 @@ struct Got {
 }
 
 // Reports on standard error why the run ends early.
-fn complain(why: &[u8]) -> bool {
-    io::write_all(STDERR_FILENO, why)
+fn complain(rt: &HostRuntime, why: &[u8]) -> bool {
+    rt.stderr().write_all(why).is_ok()
 }
 
 // Reads once, behind the bytes that are still held. A read error is reported, and is not taken for the end of the input (definition 8.10).
-fn read_more(held: usize, piece: &mut [u8]) -> Got
+fn read_more(rt: &HostRuntime, held: usize, piece: &mut [u8]) -> Got
     requires { held ≤ length piece.old }
 {
-    let got = libc::read(STDIN_FILENO, &mut piece[held..]);
-    if got < 0 {
-        complain(b"judge_sheet: standard input can't be read\n");
+    let Ok(count) = rt.stdin().read(&mut piece[held..]) else {
+        complain(rt, b"judge_sheet: standard input can't be read\n");
         return Got {
             count: 0,
             failed: true,
         };
-    }
+    };
     Got {
-        count: io::count(got, &piece[held..]),
+        count,
         failed: false,
     }
 }
 
 // Reads if the run wants more input.
-fn read_wanted(run: Turned, piece: &mut [u8]) -> Got
+fn read_wanted(rt: &HostRuntime, run: Turned, piece: &mut [u8]) -> Got
     requires { run.carried.held ≤ length piece.old }
 {
     if run.wants {
-        return read_more(run.carried.held, piece);
+        return read_more(rt, run.carried.held, piece);
     }
     Got {
         count: 0,
@@ -54,40 +54,43 @@ fn read_wanted(run: Turned, piece: &mut [u8]) -> Got
     }
 }
 
-// Writes the first `put` bytes of the buffer. A failed write is reported (definition 8.10).
-fn write_out(out: &[u8], put: usize) -> bool
+// Writes the first `put` bytes of the buffer. A failed write is reported, unless the output is a closed pipe (definition 8.10).
+fn write_out(rt: &HostRuntime, out: &[u8], put: usize) -> bool
     requires { put ≤ length out.now }
 {
-    if io::write_all(STDOUT_FILENO, &out[..put]) {
+    let Err(error) = rt.write_all(&out[..put]) else {
         return true;
+    };
+    if error.kind() != ErrorKind::BrokenPipe {
+        complain(rt, b"judge_sheet: standard output can't be written\n");
     }
-    complain(b"judge_sheet: standard output can't be written\n");
     false
 }
 
 // Reads, judges and writes until the run is over or fails.
-fn main() {
+fn main(rt: HostRuntime) -> ExitCode {
     let mut piece = [0u8; SIZE];
     let mut table = [0u8; MOST_PAIRS];
     let mut out = [0u8; SIZE];
     let mut run = sheet::begin(&mut table, &mut out);
-    if !write_out(&out, run.put) {
-        return;
+    if !write_out(&rt, &out, run.put) {
+        return ExitCode::FAILURE;
     }
     let mut turns: u64 = 1_000_000_000_000;
     while turns > 0 {
-        let got = read_wanted(run, &mut piece);
+        let got = read_wanted(&rt, run, &mut piece);
         if got.failed {
-            return;
+            return ExitCode::FAILURE;
         }
         let next = sheet::turn(run.carried, got.count, &mut piece, &mut table, &mut out);
         run = next;
-        if !write_out(&out, run.put) {
-            return;
+        if !write_out(&rt, &out, run.put) {
+            return ExitCode::FAILURE;
         }
         if run.over {
-            return;
+            return ExitCode::SUCCESS;
         }
         turns -= 1;
     }
+    ExitCode::FAILURE
 }
