@@ -3,8 +3,8 @@
 
 usage: python3 tools/respell.py [FOLDER]
 
-It was run once, after the kit's port script. tools/respell.tsv has a line for each name: the old one, the new one, and, where a field of a
-record has the name, the field's new one. Functions of src/, exported C names and texts in quotes keep their names. A law that would have its
+It was run once, after the kit's port script. tools/respell.txt has a line for each name: the old one, the new one, and, where a field of a
+record has the name, the field's new one; - stands for none. Functions of src/, exported C names and texts in quotes keep their names. A law that would have its
 definition's name ends in _lem. Files are rewritten in place.
 """
 
@@ -18,9 +18,9 @@ TICKED = re.compile(r"`[^`]*`")
 
 
 def names():
-    with open(os.path.join(HERE, "respell.tsv"), encoding="utf-8") as f:
-        rows = [line.rstrip("\n").split("\t") for line in f]
-    return {r[0]: r[1] for r in rows if r[1]}, {r[0]: r[2] for r in rows if r[2]}
+    with open(os.path.join(HERE, "respell.txt"), encoding="utf-8") as f:
+        rows = [line.split() for line in f]
+    return {r[0]: r[1] for r in rows if r[1] != "-"}, {r[0]: r[2] for r in rows if r[2] != "-"}
 
 
 PLAIN, FIELD = names()
