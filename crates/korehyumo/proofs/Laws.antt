@@ -24,7 +24,7 @@ use Rattle.trace.proofs.Whole.{judged_outcome}
 use Rattle.answers.specs.declared.Question.{Question}
 use Rattle.answers.specs.declared.Listed.{Listed}
 use Rattle.answers.specs.Listed.{most_answers, ListLeft, list_left, listed}
-use Rattle.answers.proofs.Given.{Small, small}
+use Rattle.answers.proofs.Given.{small}
 use Rattle.korehyumo.specs.Calls.{places_end, in_one, with_more, event_call, event_told, trace_call, trace_told, answers_call, answers_told}
 
 -- the refusal number and the place, read back from the packed number

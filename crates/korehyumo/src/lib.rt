@@ -1,5 +1,5 @@
-// The judge for other languages: one event alone, a whole trace and the list of permitted answers, as functions for a C program to link
-// (definition 10). include/korehyumo.h says in words what these claims say.
+// The judge for other languages: one event alone, a whole trace and the list of permitted answers, as functions that korehyumo_c exports
+// to C (definition 10). include/korehyumo.h says in words what these claims say.
 #![tactic(auto)]
 
 ghost use Rattle.std.specs.Prelude.{◌<◌, ◌≤◌, ◌^◌, ◌≡◌};
@@ -37,8 +37,7 @@ fn with_more(packed: u64, more: usize) -> u64
 
 // Judges one event alone: for each of the seven states before, the set of states after and the duty. The result packs number and place.
 // A refused event leaves seven empty sets and seven duties 0.
-#[unsafe(no_mangle)]
-pub extern "C" fn korehyumo_event(event: &[u8], sets: &mut [u8; 7], duties: &mut [u8; 7]) -> u64
+pub fn korehyumo_event(event: &[u8], sets: &mut [u8; 7], duties: &mut [u8; 7]) -> u64
     ensures { event_call result sets.new duties.new ≡ event_told (judged_alone issue_e event.now) }
 {
     let judgment = event::judge_event(event);
@@ -50,8 +49,7 @@ pub extern "C" fn korehyumo_event(event: &[u8], sets: &mut [u8; 7], duties: &mut
 }
 
 // Judges a whole trace. The result packs number and place. A refused trace leaves all buffers as they were.
-#[unsafe(no_mangle)]
-pub extern "C" fn korehyumo_trace(
+pub fn korehyumo_trace(
     events: &[u8],
     pairs: &[u16],
     table: &mut [u8],
@@ -70,8 +68,7 @@ pub extern "C" fn korehyumo_trace(
 
 // Lists every permitted answer to a question in the room. The result packs number and place, and has the count in its upper half.
 // A refused question leaves the room as it was.
-#[unsafe(no_mangle)]
-pub extern "C" fn korehyumo_answers(
+pub fn korehyumo_answers(
     request: u8,
     ret_to_src: u8,
     do_not_go_to_sd: u8,
