@@ -2,9 +2,9 @@
  *
  * Two of the three functions below judge AMBA CHI snoop answers, the third lists those that are
  * permitted. Each is proved to return, for every input, and to leave exactly the result and the
- * bytes that its claim states (crates/korehyumo/src/lib.rt). This header says the same in words.
+ * bytes that its claim states (crates/korehyumo_c/src/lib.rt). This header says the same in words.
  *
- * LINKING. `rt staticlib korehyumo` writes target/staticlib/libkorehyumo.a, for x86-64:
+ * LINKING. `scripts/built korehyumo` writes target/staticlib/libkorehyumo.a, for x86-64:
  *
  *   cc -Iinclude program.c -Ltarget/staticlib -lkorehyumo
  *

@@ -3,12 +3,12 @@
 BEGIN {
     split("I UC UCE UD UDP SC SD", state_names, " ")
     for (n in state_names) state[state_names[n]] = n - 1
-    resps["I"] = 0; resps["SC"] = 1; resps["SD"] = 3; resps["I-PD"] = 4; resps["SC-PD"] = 5
-    forwards["none"] = 0; forwards["SC"] = 1; forwards["UC"] = 2; forwards["UD-PD"] = 6; forwards["SD-PD"] = 7
+    resps["I"] = 0; resps["SC"] = 1; resps["SD"] = 3; resps["I_PD"] = 4; resps["SC_PD"] = 5
+    forwards["none"] = 0; forwards["SC"] = 1; forwards["UC"] = 2; forwards["UD_PD"] = 6; forwards["SD_PD"] = 7
     channel["SnpResp"] = 0; channel["SnpRespData"] = 1; channel["SnpRespDataPtl"] = 1
     opcode["SnpResp", 0] = 1; opcode["SnpResp", 1] = 9; opcode["SnpRespData", 0] = 1; opcode["SnpRespData", 1] = 6
     opcode["SnpRespDataPtl", 0] = 5
-    after["to-I"] = "0"; after["to-SC"] = "5"; after["SC-or-I"] = "0 5"; after["to-SD"] = "6"
+    after["to_I"] = "0"; after["to_SC"] = "5"; after["SC_or_I"] = "0 5"; after["to_SD"] = "6"
 }
 
 # the TagOp values that a row permits, with Dirty tags or with other tags; none where the row is not for such tags

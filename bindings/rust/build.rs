@@ -23,7 +23,7 @@ fn main() {
     if !archive.is_file() {
         stop(&format!(
             "there is no archive {}\n\
-             korehyumo: `rt staticlib korehyumo` builds it; KOREHYUMO_LIB_DIR names another folder that has {ARCHIVE}",
+             korehyumo: `scripts/built korehyumo` builds it; KOREHYUMO_LIB_DIR names another folder that has {ARCHIVE}",
             archive.display()
         ));
     }
