@@ -1,4 +1,5 @@
 pub mod Tests
 pub mod Codes
+pub mod Refusals
 pub mod Answers
 pub mod Places

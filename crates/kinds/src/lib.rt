@@ -3,8 +3,10 @@
 
 ghost use Rattle.std.specs.Prelude.{◌≡◌, cond, ltb, length, set};
 ghost use Rattle.kinds.specs.Codes.{dirty, requests, resp_pd, fwd_pd};
+ghost use Rattle.kinds.specs.Refusals.{refusal_number};
 ghost use Rattle.kinds.specs.Tests.{◌∈?◌};
-ghost use Rattle.kinds.specs.Answers.{forward_at, forward_wire, present, forward_error, wire, has_data, forward_of, answer_resp, answer_fwd};
+ghost use Rattle.kinds.specs.Answers.{forward_at, forward_wire, present, forward_error};
+ghost use Rattle.kinds.specs.Answers.{wire, has_data, forward_of, answer_resp, answer_fwd};
 ghost use Rattle.kinds.specs.Places.{set_in, pair_in, event_in};
 
 pub mod place;
@@ -24,22 +26,15 @@ pub const HIGHEST_PAIR: u32 = 65535;
 // The set of all seven states, one bit each (definition 2.2). It is the highest set.
 pub const ALL_STATES: u8 = 127;
 
-// One byte where the test holds, else the other.
-pub fn choose_byte(test: bool, one: u8, other: u8) -> u8
+// One value where the test holds, else the other.
+pub fn choose<T: Copy>(test: bool, one: T, other: T) -> T
     ensures { result ≡ cond test one other }
 {
     if test { one } else { other }
 }
 
-// One truth value where the test holds, else the other.
-pub fn choose_bool(test: bool, this: bool, that: bool) -> bool
-    ensures { result ≡ cond test this that }
-{
-    if test { this } else { that }
-}
-
 // The state of a cache line (definition 2.1).
-#[derive(Clone, Copy)]
+#[derive(Clone, Copy, PartialEq, Eq)]
 pub struct LineState(pub u8);
 
 impl LineState {
@@ -63,13 +58,12 @@ impl LineState {
     pub fn dirty(self) -> bool
         ensures { result ≡ dirty self.0 }
     {
-        let s = self.0;
-        (s == LineState::UD.0) | (s == LineState::UDP.0) | (s == LineState::SD.0)
+        matches!(self, LineState::UD | LineState::UDP | LineState::SD)
     }
 }
 
 // The state of the line's memory tags (definition 2.3, byte 4).
-#[derive(Clone, Copy)]
+#[derive(Clone, Copy, PartialEq, Eq)]
 pub struct TagState(pub u8);
 
 impl TagState {
@@ -83,7 +77,7 @@ impl TagState {
 }
 
 // What an answer says about the tags it carries (definition 2.3, byte 9).
-#[derive(Clone, Copy)]
+#[derive(Clone, Copy, PartialEq, Eq)]
 pub struct TagOp(pub u8);
 
 impl TagOp {
@@ -97,7 +91,7 @@ impl TagOp {
 }
 
 // An error field: that of the answer to Home, or that of the forwarded data (definition 2.3, bytes 10 and 14).
-#[derive(Clone, Copy)]
+#[derive(Clone, Copy, PartialEq, Eq)]
 pub struct RespErr(pub u8);
 
 impl RespErr {
@@ -110,20 +104,8 @@ impl RespErr {
     pub const NDERR: RespErr = RespErr(3);
 }
 
-// The ten requests that are judged, one bit each: bit n is the request with code n (definition 2.4).
-const KNOWN: u32 = (1 << Request::SNP_SHARED.0)
-    + (1 << Request::SNP_CLEAN.0)
-    + (1 << Request::SNP_NOT_SHARED_DIRTY.0)
-    + (1 << Request::SNP_UNIQUE.0)
-    + (1 << Request::SNP_CLEAN_INVALID.0)
-    + (1 << Request::SNP_MAKE_INVALID.0)
-    + (1 << Request::SNP_CLEAN_FWD.0)
-    + (1 << Request::SNP_NOT_SHARED_DIRTY_FWD.0)
-    + (1 << Request::SNP_PREFER_UNIQUE.0)
-    + (1 << Request::SNP_PREFER_UNIQUE_FWD.0);
-
 // The snoop that Home sends (definition 2.4).
-#[derive(Clone, Copy)]
+#[derive(Clone, Copy, PartialEq, Eq)]
 pub struct Request(pub u8);
 
 impl Request {
@@ -151,13 +133,24 @@ impl Request {
     pub fn known(self) -> bool
         ensures { result ≡ self.0 ∈? requests }
     {
-        let n = self.0;
-        (n < 32) & ((KNOWN >> (n % 32)) % 2 == 1)
+        matches!(
+            self,
+            Request::SNP_SHARED
+                | Request::SNP_CLEAN
+                | Request::SNP_NOT_SHARED_DIRTY
+                | Request::SNP_UNIQUE
+                | Request::SNP_CLEAN_INVALID
+                | Request::SNP_MAKE_INVALID
+                | Request::SNP_CLEAN_FWD
+                | Request::SNP_NOT_SHARED_DIRTY_FWD
+                | Request::SNP_PREFER_UNIQUE
+                | Request::SNP_PREFER_UNIQUE_FWD
+        )
     }
 }
 
 // The channel that carries an answer.
-#[derive(Clone, Copy)]
+#[derive(Clone, Copy, PartialEq, Eq)]
 pub struct Channel(pub u8);
 
 impl Channel {
@@ -167,7 +160,7 @@ impl Channel {
 }
 
 // The message, among those of its channel (definition 2.5).
-#[derive(Clone, Copy)]
+#[derive(Clone, Copy, PartialEq, Eq)]
 pub struct Opcode(pub u8);
 
 impl Opcode {
@@ -183,7 +176,7 @@ impl Opcode {
 }
 
 // The state that an answer names, and whether it passes the duty to write back to Home (definition 2.6).
-#[derive(Clone, Copy)]
+#[derive(Clone, Copy, PartialEq, Eq)]
 pub struct Resp(pub u8);
 
 impl Resp {
@@ -201,13 +194,12 @@ impl Resp {
     pub fn passes_dirty(self) -> bool
         ensures { result ≡ resp_pd self.0 }
     {
-        let r = self.0;
-        (r == Resp::I_PD.0) | (r == Resp::SC_PD.0)
+        matches!(self, Resp::I_PD | Resp::SC_PD)
     }
 }
 
 // The state that forwarded data names, and whether it passes the duty to write back to the Requester (definition 2.6).
-#[derive(Clone, Copy)]
+#[derive(Clone, Copy, PartialEq, Eq)]
 pub struct FwdState(pub u8);
 
 impl FwdState {
@@ -225,13 +217,12 @@ impl FwdState {
     pub fn passes_dirty(self) -> bool
         ensures { result ≡ fwd_pd self.0 }
     {
-        let f = self.0;
-        (f == FwdState::UD_PD.0) | (f == FwdState::SD_PD.0)
+        matches!(self, FwdState::UD_PD | FwdState::SD_PD)
     }
 }
 
 // What the snoopee forwards to the Requester: data with its state and its own error field, or nothing (definition 2.7).
-#[derive(Clone, Copy)]
+#[derive(Clone, Copy, PartialEq, Eq)]
 pub enum Forward {
     NoForward,
     CompData(FwdState, RespErr),
@@ -242,8 +233,7 @@ impl Forward {
     pub fn from_state(state: FwdState, error: RespErr) -> Forward
         ensures { result ≡ forward_at state.0 error.0 }
     {
-        let n = state.0;
-        if n == FwdState::NONE.0 {
+        if state == FwdState::NONE {
             Forward::NoForward
         } else {
             Forward::CompData(state, error)
@@ -264,10 +254,7 @@ impl Forward {
     pub fn present(self) -> bool
         ensures { result ≡ present self }
     {
-        match self {
-            Forward::NoForward => false,
-            Forward::CompData(_, _) => true,
-        }
+        matches!(self, Forward::CompData(_, _))
     }
 
     // Byte 14 of the event: the error field of the forwarded data; OK without a forward.
@@ -282,7 +269,7 @@ impl Forward {
 }
 
 // The snoopee's answer to Home, together with what it forwarded to the Requester (definition 2.7).
-#[derive(Clone, Copy)]
+#[derive(Clone, Copy, PartialEq, Eq)]
 pub enum Answer {
     // Without data: SnpResp, or SnpRespFwded with a forward.
     SnpResp(Resp, Forward),
@@ -298,8 +285,25 @@ impl Answer {
         ensures { result ≡ wire self }
     {
         match self {
-            Answer::SnpResp(r, forward) => without_data(r, forward),
-            Answer::SnpRespData(r, forward) => with_data(r, forward),
+            Answer::SnpResp(r, Forward::NoForward) => {
+                [Channel::RSP.0, Opcode::SNP_RESP.0, r.0, 0, 0, 0]
+            }
+            Answer::SnpResp(r, Forward::CompData(f, _)) => {
+                [Channel::RSP.0, Opcode::SNP_RESP_FWDED.0, r.0, f.0, 1, f.0]
+            }
+            Answer::SnpRespData(r, Forward::NoForward) => {
+                [Channel::DAT.0, Opcode::SNP_RESP_DATA.0, r.0, 0, 0, 0]
+            }
+            Answer::SnpRespData(r, Forward::CompData(f, _)) => {
+                [
+                    Channel::DAT.0,
+                    Opcode::SNP_RESP_DATA_FWDED.0,
+                    r.0,
+                    f.0,
+                    1,
+                    f.0,
+                ]
+            }
             Answer::SnpRespDataPtl(r) => {
                 [Channel::DAT.0, Opcode::SNP_RESP_DATA_PTL.0, r.0, 0, 0, 0]
             }
@@ -310,11 +314,7 @@ impl Answer {
     pub fn has_data(self) -> bool
         ensures { result ≡ has_data self }
     {
-        match self {
-            Answer::SnpResp(_, _) => false,
-            Answer::SnpRespData(_, _) => true,
-            Answer::SnpRespDataPtl(_) => true,
-        }
+        matches!(self, Answer::SnpRespData(_, _) | Answer::SnpRespDataPtl(_))
     }
 
     // What it forwards.
@@ -322,8 +322,7 @@ impl Answer {
         ensures { result ≡ forward_of self }
     {
         match self {
-            Answer::SnpResp(_, sent) => sent,
-            Answer::SnpRespData(_, sent) => sent,
+            Answer::SnpResp(_, sent) | Answer::SnpRespData(_, sent) => sent,
             Answer::SnpRespDataPtl(_) => Forward::NoForward,
         }
     }
@@ -333,9 +332,7 @@ impl Answer {
         ensures { result.0 ≡ answer_resp self }
     {
         match self {
-            Answer::SnpResp(r, _) => r,
-            Answer::SnpRespData(r, _) => r,
-            Answer::SnpRespDataPtl(r) => r,
+            Answer::SnpResp(r, _) | Answer::SnpRespData(r, _) | Answer::SnpRespDataPtl(r) => r,
         }
     }
 
@@ -343,49 +340,15 @@ impl Answer {
     pub fn fwd_state(self) -> FwdState
         ensures { result.0 ≡ answer_fwd self }
     {
-        match self {
-            Answer::SnpResp(_, forward) => match forward {
-                Forward::NoForward => FwdState::NONE,
-                Forward::CompData(f, _) => f,
-            },
-            Answer::SnpRespData(_, forward) => match forward {
-                Forward::NoForward => FwdState::NONE,
-                Forward::CompData(f, _) => f,
-            },
-            Answer::SnpRespDataPtl(_) => FwdState::NONE,
+        match self.forward() {
+            Forward::NoForward => FwdState::NONE,
+            Forward::CompData(f, _) => f,
         }
     }
 }
 
-// The event bytes of SnpResp or SnpRespFwded.
-fn without_data(r: Resp, forward: Forward) -> [u8; 6]
-    ensures { result ≡ wire (Answer.SnpResp r forward) }
-{
-    match forward {
-        Forward::NoForward => [Channel::RSP.0, Opcode::SNP_RESP.0, r.0, 0, 0, 0],
-        Forward::CompData(f, _) => [Channel::RSP.0, Opcode::SNP_RESP_FWDED.0, r.0, f.0, 1, f.0],
-    }
-}
-
-// The event bytes of SnpRespData or SnpRespDataFwded.
-fn with_data(r: Resp, forward: Forward) -> [u8; 6]
-    ensures { result ≡ wire (Answer.SnpRespData r forward) }
-{
-    match forward {
-        Forward::NoForward => [Channel::DAT.0, Opcode::SNP_RESP_DATA.0, r.0, 0, 0, 0],
-        Forward::CompData(f, _) => [
-            Channel::DAT.0,
-            Opcode::SNP_RESP_DATA_FWDED.0,
-            r.0,
-            f.0,
-            1,
-            f.0,
-        ],
-    }
-}
-
 // What the judge says about an event (definition 2.9, 7.3).
-#[derive(Clone, Copy)]
+#[derive(Clone, Copy, PartialEq, Eq)]
 pub struct Verdict(pub u8);
 
 impl Verdict {
@@ -397,7 +360,7 @@ impl Verdict {
 }
 
 // Who has to write the line back after an explained event (definition 2.9, 6.3).
-#[derive(Clone, Copy)]
+#[derive(Clone, Copy, PartialEq, Eq)]
 pub struct Duty(pub u8);
 
 impl Duty {
@@ -412,34 +375,41 @@ impl Duty {
     pub const DISCARDED: Duty = Duty(4);
 }
 
-// Why a call is refused, or that it is accepted (definition 4.1, 8.7, 11.5).
-#[derive(Clone, Copy)]
-pub struct Refusal(pub u8);
+// Why a call is refused (definition 4.1, 8.7, 11.5).
+#[derive(Clone, Copy, PartialEq, Eq)]
+pub enum Refusal {
+    Lengths,
+    Set,
+    Pair,
+    Range,
+    Request,
+    Header,
+    Line,
+    Fields,
+    Room,
+}
 
-impl Refusal {
-    pub const ACCEPTED: Refusal = Refusal(0);
+impl From<Refusal> for u8 {
+    ghost from_gives = { λ refusal number. number ≡ refusal_number refusal };
 
-    pub const LENGTHS: Refusal = Refusal(1);
-
-    pub const SET: Refusal = Refusal(2);
-
-    pub const PAIR: Refusal = Refusal(3);
-
-    pub const RANGE: Refusal = Refusal(4);
-
-    pub const REQUEST: Refusal = Refusal(5);
-
-    pub const HEADER: Refusal = Refusal(6);
-
-    pub const LINE: Refusal = Refusal(7);
-
-    pub const FIELDS: Refusal = Refusal(8);
-
-    pub const ROOM: Refusal = Refusal(9);
+    // The refusal's number. An accepted call has 0.
+    fn from(refusal: Refusal) -> u8 {
+        match refusal {
+            Refusal::Lengths => 1,
+            Refusal::Set => 2,
+            Refusal::Pair => 3,
+            Refusal::Range => 4,
+            Refusal::Request => 5,
+            Refusal::Header => 6,
+            Refusal::Line => 7,
+            Refusal::Fields => 8,
+            Refusal::Room => 9,
+        }
+    }
 }
 
 // The number of a pair, which is one line in one cache. Only this number looks up the table of sets (definition 1.3).
-#[derive(Clone, Copy)]
+#[derive(Clone, Copy, PartialEq, Eq)]
 pub struct PairNumber(pub u16);
 
 impl PairNumber {
@@ -447,25 +417,21 @@ impl PairNumber {
     pub fn set_in(self, table: &[u8]) -> u8
         ensures { result ≡ set_in table.now self.0 }
     {
-        let pair = self.0;
-        let at = pair as usize;
-        if at < table.len() { table[at] } else { 0 }
+        table.get(self.0 as usize).copied().unwrap_or(0)
     }
 
     // Whether the table has the pair.
     pub fn within(self, table: &[u8]) -> bool
         ensures { result ≡ ltb self.0 (length table.now) }
     {
-        let pair = self.0;
-        (pair as usize) < table.len()
+        (self.0 as usize) < table.len()
     }
 
     // Writes the pair's set into the table, if the table has the pair.
     pub fn put_in(self, table: &mut [u8], states: u8)
         ensures { table.new ≡ set table.old self.0 states }
     {
-        let pair = self.0;
-        let at = pair as usize;
+        let at = self.0 as usize;
         if at < table.len() {
             table[at] = states;
         }
@@ -473,7 +439,7 @@ impl PairNumber {
 }
 
 // The number of an event in its trace, counted from 0.
-#[derive(Clone, Copy)]
+#[derive(Clone, Copy, PartialEq, Eq)]
 pub struct EventNumber(pub u32);
 
 impl EventNumber {
@@ -481,8 +447,7 @@ impl EventNumber {
     pub fn event_in(self, events: &[u8]) -> &[u8]
         ensures { result.now ≡ event_in events.now self.0 }
     {
-        let number = self.0;
-        let start = (number as usize) * EVENT_BYTES;
+        let start = (self.0 as usize) * EVENT_BYTES;
         let len = events.len();
         if len <= start {
             return &events[..0];
@@ -497,12 +462,9 @@ impl EventNumber {
     pub fn pair_in(self, pairs: &[u16]) -> PairNumber
         ensures { result.0 ≡ pair_in pairs.now self.0 }
     {
-        let number = self.0;
-        let at = number as usize;
-        if at < pairs.len() {
-            PairNumber(pairs[at])
-        } else {
-            PairNumber(0)
+        match pairs.get(self.0 as usize) {
+            Some(&pair) => PairNumber(pair),
+            None => PairNumber(0),
         }
     }
 
@@ -510,8 +472,7 @@ impl EventNumber {
     pub fn put_in(self, bytes: &mut [u8], byte: u8)
         ensures { bytes.new ≡ set bytes.old self.0 byte }
     {
-        let number = self.0;
-        let at = number as usize;
+        let at = self.0 as usize;
         if at < bytes.len() {
             bytes[at] = byte;
         }
