@@ -17,9 +17,8 @@ use Rattle.fields.specs.Fields.{fields_of}
 use Rattle.names.specs.Names.{unknown, columns}
 use Rattle.names.specs.Columns.{pair_code}
 use Rattle.names.proofs.Names.{pair_limit, limits, Limited, AllLimited, none_more, one_more, columns_limited}
-use Rattle.parser.specs.declared.ParsedLine.{ParsedLine}
 use Rattle.parser.specs.declared.Found.{Found}
-use Rattle.parser.specs.Parsed.{codes_of, line_codes, known, dashes_agree, well_formed, event_of, parsed_as, refused_parse, parsed}
+use Rattle.parser.specs.Parsed.{Parsed, codes_of, line_codes, known, dashes_agree, well_formed, event_of, parsed_as, refused_parse, parsed}
 use Rattle.parser.specs.Code.{codes_in, as_byte, line_of}
 
 -- as many numbers as limits, each below its own
@@ -75,7 +74,7 @@ event_kept (pair ∷ codes) h =
 
 -- A PARSED LINE, case by case
 module _ (line : List ℕ) where
-  saying : Bool → Bool → ParsedLine
+  saying : Bool → Bool → Parsed
   saying good high = cond good (cond high (refused_parse 3) (parsed_as (pair_code (line_codes line)) (event_of (line_codes line)))) (refused_parse 8)
 
   pub parsed_ill : well_formed line ≡ false → parsed line ≡ refused_parse 8
@@ -105,7 +104,7 @@ pub line_well : (line : List ℕ) → well_formed line ≡ true → line_of (lin
 unfolding parsed
 line_well line w =
     let high : Bool = ltb highest_pair (pair_code (line_codes line)) in
-    let saying : List ℕ → ParsedLine = λ event. cond high (refused_parse 3) (parsed_as (pair_code (line_codes line)) event) in
+    let saying : List ℕ → Parsed = λ event. cond high (refused_parse 3) (parsed_as (pair_code (line_codes line)) event) in
     ap saying (event_kept (line_codes line) (codes_under line w)) ∙ sym (ap (λ (b : Bool). cond b (saying (event_of (line_codes line))) (refused_parse 8)) w)
 
 -- the same from what `codes_of` finds

@@ -7,8 +7,7 @@ use Rattle.names.specs.Columns.{pair_code}
 use Rattle.parser.specs.declared.Taken.{Taken}
 use Rattle.parser.specs.declared.Codes.{Codes}
 use Rattle.parser.specs.declared.Found.{Found}
-use Rattle.parser.specs.declared.ParsedLine.{ParsedLine}
-use Rattle.parser.specs.Parsed.{line_codes, well_formed, event_of, parsed_as, refused_parse}
+use Rattle.parser.specs.Parsed.{Parsed, line_codes, well_formed, event_of, parsed_as, refused_parse}
 
 -- the field at an offset, read by a column, and the offset behind its comma; past the end of the line unknown, and the same offset
 unfoldable pub taken_by : (List ℕ → ℕ) → List ℕ → ℕ → Taken
@@ -54,5 +53,5 @@ abbrev pub as_byte : ℕ → ℕ
 as_byte code = code % 256
 
 -- the line that codes stand for: 3 for a pair above 65,535, else the pair, and the event of the codes as bytes
-abbrev pub line_of : List ℕ → ParsedLine
+abbrev pub line_of : List ℕ → Parsed
 line_of codes = cond (ltb highest_pair (pair_code codes)) (refused_parse 3) (parsed_as (pair_code codes) (event_of (map as_byte codes)))

@@ -3,17 +3,16 @@
 
 ghost use Rattle.std.specs.Prelude.{◌≡◌, map};
 ghost use Rattle.kinds.specs.Tests.{all};
-ghost use Rattle.parser.specs.Parsed.{known, dashes_agree, event_of, parsed, refused_parse};
+ghost use Rattle.parser.specs.Parsed.{known, dashes_agree, event_of, in_numbers, parsed};
 ghost use Rattle.parser.specs.Code.{taken_at, gathered_of, all_taken, codes_in, as_byte, line_of};
 
 use kinds::{EVENT_BYTES, Forward, FwdState, HIGHEST_PAIR, PairNumber, Refusal, RespErr};
 use names::columns;
 use names::columns::COLUMNS;
 
-// A parsed line: its pair and its event with refusal 0, or the refusal number.
-#[derive(Clone, Copy)]
-pub struct ParsedLine {
-    pub refusal: Refusal,
+// A line that is not refused: its pair and its event.
+#[derive(Clone, Copy, PartialEq, Eq)]
+pub struct Line {
     pub pair: PairNumber,
     pub event: [u8; EVENT_BYTES],
 }
@@ -153,7 +152,7 @@ pub fn dashes_agree(codes: [u32; COLUMNS]) -> bool
 {
     let no_forward = codes[columns::FORWARD] == FwdState::NONE.0 as u32;
     let no_error = codes[columns::FWD_ERR] == names::NO_FWD_ERR as u32;
-    kinds::choose_bool(no_forward, no_error, !no_error)
+    kinds::choose(no_forward, no_error, !no_error)
 }
 
 // The codes of a line's fields, and whether it is well formed: twelve fields, each known in its column, and the dashes agree.
@@ -210,41 +209,29 @@ fn event_of(codes: [u8; COLUMNS]) -> [u8; EVENT_BYTES]
     ]
 }
 
-// A refused line: pair 0 and an event of zeros.
-pub fn refused(refusal: Refusal) -> ParsedLine
-    ensures { result ≡ refused_parse refusal.0 }
-{
-    ParsedLine {
-        refusal,
-        pair: PairNumber(0),
-        event: [0u8; EVENT_BYTES],
-    }
-}
-
 // The line that the codes of its fields stand for, if it is well formed: refused for its pair, or its pair and its event.
-pub fn line_of(codes: [u32; COLUMNS]) -> ParsedLine
-    ensures { result ≡ line_of codes }
+pub fn line_of(codes: [u32; COLUMNS]) -> Result<Line, Refusal>
+    ensures { in_numbers result ≡ line_of codes }
 {
     let pair = codes[columns::PAIR];
     if pair > HIGHEST_PAIR {
-        return refused(Refusal::PAIR);
+        return Err(Refusal::Pair);
     }
-    ParsedLine {
-        refusal: Refusal::ACCEPTED,
+    Ok(Line {
         pair: PairNumber(pair as u16),
         event: event_of(as_bytes(codes)),
-    }
+    })
 }
 
 // Parses a line.
-pub fn parse_line(line: &[u8]) -> ParsedLine
-    ensures { result ≡ parsed line.now }
+pub fn parse_line(line: &[u8]) -> Result<Line, Refusal>
+    ensures { in_numbers result ≡ parsed line.now }
 {
     let found = codes_of(line);
     let good = found.good;
     let codes = found.codes;
     if !good {
-        return refused(Refusal::FIELDS);
+        return Err(Refusal::Fields);
     }
     line_of(codes)
 }

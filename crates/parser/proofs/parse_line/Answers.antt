@@ -6,7 +6,7 @@ use Rattle.parser.proofs.parse_line.Goals as goal
 pub returns-then-not-good : goal.returns-then-not-good
 returns-then-not-good c =
     let codes-of = c.codes_of-found in
-    c.refused.ensures ∙ found_ill c.args.line.now codes-of.result codes-of.ensures c.if-not-good.true
+    found_ill c.args.line.now codes-of.result codes-of.ensures c.if-not-good.true
 
 pub returns : goal.returns
 returns c =
