@@ -4,8 +4,9 @@
 ghost use Rattle.std.specs.Prelude.{◌≡◌, cond, map, eqb};
 ghost use Rattle.steps.specs.Steps.{no_duty, sets_after, duty_alone};
 ghost use Rattle.kinds.specs.Codes.{states};
+ghost use Rattle.kinds.specs.Refusals.{number_of};
 ghost use Rattle.event.specs.Refusals.{issue_e, below, fault, refusal_alone};
-ghost use Rattle.event.specs.Alone.{judged_alone};
+ghost use Rattle.event.specs.Alone.{in_numbers, judged_alone};
 
 use kinds::{Duty, EVENT_BYTES, LineState, Refusal, Request, place};
 
@@ -17,11 +18,9 @@ const FRONT: u64 = 0xF8_E0_FE_FC_FE_FE_FE_00;
 // forwarded data's Resp below 8 and presence below 2, RespErr and TagOp below 4, FwdState below 8; byte 7 is free.
 const BACK: u64 = 0xFC_F8_F8_FE_FC_FC_F8_00;
 
-// The answer to one event alone: for each of the seven states before, a set of states after and a duty.
+// The answer to an accepted event: for each of the seven states before, a set of states after and a duty.
 #[derive(Clone, Copy)]
 pub struct Judgment {
-    pub refusal: Refusal,
-    pub place: usize,
     pub sets: [u8; 7],
     pub duties: [u8; 7],
 }
@@ -33,30 +32,36 @@ fn in_range(event: &[u8]) -> bool
     (words::word_at(event, 0) & FRONT == 0) & (words::word_at(event, 7) & BACK == 0)
 }
 
-// The refusal number for an event's bytes: 4, then 5 (definition 4.1).
-pub fn fault(event: &[u8]) -> Refusal
-    ensures { result.0 ≡ fault issue_e event.now }
+// Refuses an event for its bytes: with 4, then with 5 (definition 4.1).
+#[tactic(auto, unfolding(crate::specs::Refusals::fault))]
+pub fn fault(event: &[u8]) -> Result<(), Refusal>
+    ensures { number_of result ≡ fault issue_e event.now }
 {
-    let fine = in_range(event);
-    let known = Request(rows::byte_at(event, place::REQUEST)).known();
-    let request = kinds::choose_byte(known, Refusal::ACCEPTED.0, Refusal::REQUEST.0);
-    Refusal(kinds::choose_byte(fine, request, Refusal::RANGE.0))
+    if !in_range(event) {
+        return Err(Refusal::Range);
+    }
+    if !Request(rows::byte_at(event, place::REQUEST)).known() {
+        return Err(Refusal::Request);
+    }
+    Ok(())
 }
 
-// The refusal number of one event alone: 1, then 4, then 5 (definition 4.3).
-fn refusal_alone(event: &[u8]) -> Refusal
-    ensures { result.0 ≡ refusal_alone issue_e event.now }
+// Refuses one event alone: with 1, then with 4, then with 5 (definition 4.3).
+#[tactic(auto, unfolding(crate::specs::Refusals::refusal_alone))]
+fn refusal_alone(event: &[u8]) -> Result<(), Refusal>
+    ensures { number_of result ≡ refusal_alone issue_e event.now }
 {
-    let whole = event.len() == EVENT_BYTES;
-    let refusal = fault(event);
-    Refusal(kinds::choose_byte(whole, refusal.0, Refusal::LENGTHS.0))
+    if event.len() != EVENT_BYTES {
+        return Err(Refusal::Lengths);
+    }
+    fault(event)
 }
 
 // The duty from one state, given its set of states after: 0 if that is empty.
-fn duty_from(duty: u8, after: u8) -> u8
-    ensures { result ≡ cond (eqb after 0) no_duty duty }
+fn duty_from(duty: Duty, after: u8) -> u8
+    ensures { result ≡ cond (eqb after 0) no_duty duty.0 }
 {
-    kinds::choose_byte(after == 0, Duty::NONE.0, duty)
+    if after == 0 { Duty::NONE.0 } else { duty.0 }
 }
 
 // The seven duties, each judged from its own state (definition 6.5). Of the state only Dirty or not matters: UD and I stand for all.
@@ -64,10 +69,8 @@ fn duties_alone(event: &[u8], sets: [u8; 7]) -> [u8; 7]
     requires { sets ≡ sets_after event.now }
     ensures { result ≡ map (duty_alone event.now) states }
 {
-    let from_ud = steps::duty(event, 1 << LineState::UD.0);
-    let from_i = steps::duty(event, 1 << LineState::I.0);
-    let dirty = from_ud.0;
-    let clean = from_i.0;
+    let dirty = steps::duty(event, 1 << LineState::UD.0);
+    let clean = steps::duty(event, 1 << LineState::I.0);
     [
         duty_from(clean, sets[0]),
         duty_from(clean, sets[1]),
@@ -80,25 +83,12 @@ fn duties_alone(event: &[u8], sets: [u8; 7]) -> [u8; 7]
 }
 
 // Judges one event alone.
-pub fn judge_event(event: &[u8]) -> Judgment
-    ensures { result ≡ judged_alone issue_e event.now }
+#[tactic(auto, using(crate::proofs::Ranges::looked_alone), unfolding(crate::specs::Alone::judged_alone))]
+pub fn judge_event(event: &[u8]) -> Result<Judgment, Refusal>
+    ensures { in_numbers result ≡ judged_alone issue_e event.now }
 {
-    let refusal = refusal_alone(event);
-    let number = refusal.0;
-    if number != Refusal::ACCEPTED.0 {
-        return Judgment {
-            refusal,
-            place: 0,
-            sets: [0; 7],
-            duties: [0; 7],
-        };
-    }
+    refusal_alone(event)?;
     let sets = lookup::sets_after(event);
     let duties = duties_alone(event, sets);
-    Judgment {
-        refusal,
-        place: 1,
-        sets: sets,
-        duties: duties,
-    }
+    Ok(Judgment { sets, duties })
 }

@@ -13,10 +13,10 @@ returns c =
     let e = c.args.event.now in
     seven (duty_alone e) c.duty_from.result c.duty_from-2.result c.duty_from-3.result c.duty_from-4.result
     c.duty_from-5.result c.duty_from-6.result c.duty_from-7.result
-    (duty_at_lem e c.args.sets 0 c.duty-from_i.result.0 c.duty_from.result c.requires refl c.duty-from_i.ensures c.duty_from.ensures)
-    (duty_at_lem e c.args.sets 1 c.duty-from_i.result.0 c.duty_from-2.result c.requires refl (c.duty-from_i.ensures ∙ duty_like e 1 2 refl) c.duty_from-2.ensures)
-    (duty_at_lem e c.args.sets 2 c.duty-from_i.result.0 c.duty_from-3.result c.requires refl (c.duty-from_i.ensures ∙ duty_like e 1 4 refl) c.duty_from-3.ensures)
-    (duty_at_lem e c.args.sets 3 c.duty-from_ud.result.0 c.duty_from-4.result c.requires refl c.duty-from_ud.ensures c.duty_from-4.ensures)
-    (duty_at_lem e c.args.sets 4 c.duty-from_ud.result.0 c.duty_from-5.result c.requires refl (c.duty-from_ud.ensures ∙ duty_like e 8 16 refl) c.duty_from-5.ensures)
-    (duty_at_lem e c.args.sets 5 c.duty-from_i.result.0 c.duty_from-6.result c.requires refl (c.duty-from_i.ensures ∙ duty_like e 1 32 refl) c.duty_from-6.ensures)
-    (duty_at_lem e c.args.sets 6 c.duty-from_ud.result.0 c.duty_from-7.result c.requires refl (c.duty-from_ud.ensures ∙ duty_like e 8 64 refl) c.duty_from-7.ensures)
+    (duty_at_lem e c.args.sets 0 c.duty-clean.result.0 c.duty_from.result c.requires refl c.duty-clean.ensures c.duty_from.ensures)
+    (duty_at_lem e c.args.sets 1 c.duty-clean.result.0 c.duty_from-2.result c.requires refl (c.duty-clean.ensures ∙ duty_like e 1 2 refl) c.duty_from-2.ensures)
+    (duty_at_lem e c.args.sets 2 c.duty-clean.result.0 c.duty_from-3.result c.requires refl (c.duty-clean.ensures ∙ duty_like e 1 4 refl) c.duty_from-3.ensures)
+    (duty_at_lem e c.args.sets 3 c.duty-dirty.result.0 c.duty_from-4.result c.requires refl c.duty-dirty.ensures c.duty_from-4.ensures)
+    (duty_at_lem e c.args.sets 4 c.duty-dirty.result.0 c.duty_from-5.result c.requires refl (c.duty-dirty.ensures ∙ duty_like e 8 16 refl) c.duty_from-5.ensures)
+    (duty_at_lem e c.args.sets 5 c.duty-clean.result.0 c.duty_from-6.result c.requires refl (c.duty-clean.ensures ∙ duty_like e 1 32 refl) c.duty_from-6.ensures)
+    (duty_at_lem e c.args.sets 6 c.duty-dirty.result.0 c.duty_from-7.result c.requires refl (c.duty-dirty.ensures ∙ duty_like e 8 64 refl) c.duty_from-7.ensures)
