@@ -5,7 +5,7 @@ ghost use Rattle.std.specs.Prelude.{◌≡◌};
 ghost use Rattle.verdicts.specs.Verdicts.{finding};
 ghost use Rattle.verdicts.specs.Looked.{no_step, duty_kept, found_by};
 
-use kinds::{Duty, Refusal, Verdict};
+use kinds::{Duty, Verdict};
 
 // What an event does to its pair: the set after, the verdict, and the duty byte.
 #[derive(Clone, Copy)]
@@ -16,28 +16,34 @@ pub struct Finding {
 }
 
 // What is found where no state of the set before makes a step.
+#[tactic(auto, unfolding(crate::specs::Looked::no_step))]
 fn no_step(before: u8) -> Finding
     ensures { result ≡ no_step before }
 {
-    let verdict = kinds::choose_byte(before == 0, Verdict::NOT_JUDGED.0, Verdict::UNEXPLAINED.0);
+    let verdict = if before == 0 {
+        Verdict::NOT_JUDGED
+    } else {
+        Verdict::UNEXPLAINED
+    };
     Finding {
         after: 0,
-        verdict: Verdict(verdict),
+        verdict,
         duty: Duty::NONE,
     }
 }
 
-// The duty byte of a step: nothing is lost or discarded where the set before holds no Dirty state.
-fn duty_kept(told: u8, before: u8) -> u8
-    ensures { result ≡ duty_kept told before }
+// The duty of a step: nothing is lost or discarded where the set before holds no Dirty state.
+fn duty_kept(told: Duty, before: u8) -> Duty
+    ensures { result.0 ≡ duty_kept told.0 before }
 {
-    if (told == Duty::LOST.0) | (told == Duty::DISCARDED.0) {
-        return kinds::choose_byte(sets::holds_dirty(before), told, Duty::NONE.0);
+    if matches!(told, Duty::LOST | Duty::DISCARDED) && !sets::holds_dirty(before) {
+        return Duty::NONE;
     }
     told
 }
 
 // Judges an event by one lookup, for all states of the set before at once. It is the finding for every event that is not refused.
+#[tactic(auto, unfolding(crate::specs::Looked::found_by))]
 pub fn found(event: &[u8], before: u8) -> Finding
     ensures { result ≡ found_by event.now before }
 {
@@ -46,38 +52,46 @@ pub fn found(event: &[u8], before: u8) -> Finding
     if (effect.from() & before == 0) | (after == 0) {
         return no_step(before);
     }
-    let duty = duty_kept(effect.told(), before);
     Finding {
         after,
         verdict: Verdict::EXPLAINED,
-        duty: Duty(duty),
+        duty: duty_kept(Duty(effect.told()), before),
     }
 }
 
 // Judges an event by the walk along the rows, whatever its bytes.
+#[tactic(auto, using(crate::proofs::Laws::apply_after), unfolding(crate::specs::Verdicts::verdict, crate::specs::Verdicts::duty_byte))]
 fn by_rows(event: &[u8], before: u8) -> Finding
     ensures { result ≡ finding event.now before }
 {
     let after = sets::apply(steps::sets_after(event), before);
-    let stepped = kinds::choose_byte(after == 0, Verdict::UNEXPLAINED.0, Verdict::EXPLAINED.0);
-    let verdict = kinds::choose_byte(before == 0, Verdict::NOT_JUDGED.0, stepped);
-    let told = steps::duty(event, before);
-    let duty = kinds::choose_byte(verdict == Verdict::EXPLAINED.0, told.0, Duty::NONE.0);
+    let verdict = if before == 0 {
+        Verdict::NOT_JUDGED
+    } else if after == 0 {
+        Verdict::UNEXPLAINED
+    } else {
+        Verdict::EXPLAINED
+    };
+    let duty = if verdict == Verdict::EXPLAINED {
+        steps::duty(event, before)
+    } else {
+        Duty::NONE
+    };
     Finding {
         after,
-        verdict: Verdict(verdict),
-        duty: Duty(duty),
+        verdict,
+        duty,
     }
 }
 
 // Judges an event, given the set of its pair before it. Only an event that would be refused needs the walk along the rows.
+#[tactic(auto, using(crate::proofs::Looked::good_finding))]
 pub fn judge(event: &[u8], before: u8) -> Finding
     ensures { result ≡ finding event.now before }
 {
-    let refusal = event::fault(event);
-    let number = refusal.0;
-    if number == Refusal::ACCEPTED.0 {
-        return found(event, before);
+    if event::fault(event).is_ok() {
+        found(event, before)
+    } else {
+        by_rows(event, before)
     }
-    by_rows(event, before)
 }
