@@ -2,7 +2,7 @@
 -- Assumes nothing.
 use mathlib.Core.Path.{◌≡◌, refl, sym, ◌∙◌, ap, ap₂, subst}
 use mathlib.Core.Bool.{Bool, true, false, ◌&&◌, false≢true}
-use mathlib.Core.List.{List, [], ◌∷◌, map}
+use mathlib.Core.List.{List, [], ◌∷◌, ◌++◌, map}
 use Prim.Native.Nat.{ℕ, zero, suc, ◌+◌, ◌-◌, ◌*◌, ◌%◌, ◌^◌, ◌<◌, ◌≤◌}
 use native.Mathlib.Nat.{zero-add, add-zero, pow-suc, mod-lt, mod-eq_of_lt, sub-add_cancel, sub-eq-zero_of_le}
 use native.Mathlib.Omega.{arith}
@@ -10,7 +10,8 @@ use borrow.Author.Tests.{ltb-true, ltb-false, leb-true, leb-false, eq-eqb, ne_eq
 use lib.Bits.{bit_and, and_zero_r, and_block, and_high}
 use lib.Dec.{eqb, ltb, leb}
 use lib.ListN.{replicate, get_or-replicate, length, get_or, take, drop, length-drop, drop_of_length-le, get_or-eq_default}
-use lib.Seq.{take_all, drop-cons, get_or-drop}
+use lib.Seq.{take_all, drop-cons, get_or-drop, drop-append_seam}
+use Rattle.std.proofs.lemmas.List.{length-append}
 use lib.Pow.{pow_pos, pow-lt, mod-pow-add}
 use Rattle.words.specs.Words.{half, word, word_of}
 
@@ -44,6 +45,17 @@ word_of_lem b at =
 
     sum_of : (x₀ x₁ x₂ x₃ y : ℕ) → word_of (x₀ ∷ x₁ ∷ x₂ ∷ x₃ ∷ []) + y * 4294967296 ≡ (((y * 256 + x₃) * 256 + x₂) * 256 + x₁) * 256 + x₀
     sum_of x₀ x₁ x₂ x₃ y = omega arith
+
+-- eight bytes, each times its weight
+pub word_sum : (b : List ℕ) (at : ℕ)
+    → get_or b at 0 + get_or b (at + 1) 0 * 256 + get_or b (at + 2) 0 * 65536 + get_or b (at + 3) 0 * 16777216 + get_or b (at + 4) 0 * 4294967296
+    + get_or b (at + 5) 0 * 1099511627776 + get_or b (at + 6) 0 * 281474976710656 + get_or b (at + 7) 0 * 72057594037927936 ≡ word b at
+unfolding half word
+word_sum b at =
+    let i₅ : at + 4 + 1 ≡ at + 5 = omega arith in
+    let i₆ : at + 4 + 2 ≡ at + 6 = omega arith in
+    let i₇ : at + 4 + 3 ≡ at + 7 = omega arith in
+    rw (i₅, i₆, i₇) (omega arith)
 
 -- the bytes of a part are bytes of the whole
 bytes_drop : (b : List ℕ) (at i n : ℕ) → bytes_from (drop at b) i n ≡ bytes_from b (at + i) n
@@ -80,27 +92,6 @@ half_last b at h = from_drop b 4 at h ∙ sym (half_of b at)
 
 pub word_last : (b : List ℕ) (at : ℕ) → length b ≤ at + 8 → word_of (drop at b) ≡ word b at
 word_last b at h = from_drop b 8 at h ∙ sym (word_of_lem b at)
-
--- one iteration of `last`
-pub last_turn : (b : List ℕ) (i n : ℕ) → 0 < i → i ≤ length b → n ≡ word_of (drop i b) → n * 256 + get_or b (i - 1) 0 ≡ word_of (drop (i - 1) b)
-last_turn b i n h k e =
-    let next : suc (i - 1) ≡ i = omega arith in
-    ap (λ (x : ℕ). x * 256 + get_or b (i - 1) 0) (e ∙ ap (λ (j : ℕ). word_of (drop j b)) (sym next))
-    ∙ sym (ap word_of (drop-cons b (i - 1) 0 (omega arith)))
-
--- the end of `last`, which starts at the length
-pub last_end : (b : List ℕ) (at i : ℕ) → i ≤ at → (i < length b → at ≤ i) → word_of (drop i b) ≡ word_of (drop at b)
-last_end b at i h k = go (ltb i (length b)) refl
-  where
-    go : (t : Bool) → ltb i (length b) ≡ t → word_of (drop i b) ≡ word_of (drop at b)
-    go true e =
-        let l = k (ltb-true i (length b) e) in
-        let m : i ≡ at = omega arith in
-        ap (λ (j : ℕ). word_of (drop j b)) m
-    go false e =
-        let l = ltb-false i (length b) e in
-        let m : length b ≤ at = omega arith in
-        ap word_of (drop_of_length-le b l ∙ sym (drop_of_length-le b m))
 
 -- each number of the list is a byte
 pub data Bytes : List ℕ → Type 0 where
@@ -224,3 +215,13 @@ module _ (b : List ℕ) (bytes : (i : ℕ) → get_or b i 0 < 256) where
       subst (λ (n : ℕ). get_or b (at + i) 0 < n) (get_or-replicate 8 i (2 ^ k) 0 l)
       (under_each b at (powers (replicate 8 k))
       (sym (word_under at (replicate 8 k) refl) ∙ eq-eqb (bit_and (word b at) (word_of (masks (powers (replicate 8 k))))) 0 h) i l)
+
+-- what `last` has read before one more of at most eight bytes is below 2 ^ 56
+pub read_small : (b : List ℕ) (at n : ℕ) (rest front read : List ℕ) (x : ℕ) → ((k : ℕ) → get_or b k 0 < 256) → length b ≤ at + 8
+    → rest ≡ front ++ x ∷ [] → drop at b ≡ rest ++ read → n ≡ word_of read → n < 72057594037927936
+read_small b at n rest front read x bytes h r e m =
+    let l : length rest ≡ length front + 1 = ap length r ∙ length-append front (x ∷ []) in
+    let w : length (drop at b) ≤ length rest + 7 = simp length-drop (omega arith) in
+    let d : drop (length rest) (drop at b) ≡ read = ap (drop (length rest)) e ∙ drop-append_seam rest read in
+    subst (λ (y : ℕ). y < 72057594037927936) (ap word_of d ∙ sym m)
+    (last_small (drop at b) (λ k. subst (λ (y : ℕ). y < 256) (sym (get_or-drop at b k 0)) (bytes (at + k))) (length rest) w)

@@ -1,20 +1,15 @@
--- `words::last` meets its contract. The invariant: the bytes from i to the end are read. The measure is how far i is from the offset.
-use Rattle.std.proofs.Common.{ℕ, List, ◌+◌, ◌-◌, ◌≤◌, ◌<◌, ◌≡◌, length, drop, get_or, sym, subst, arith}
-use Rattle.words.specs.Words.{word_of}
-use Rattle.words.proofs.Laws.{last_small}
+-- `words::last` meets its contract: before one more of at most eight bytes the number is below 2 ^ 56.
+use Rattle.std.proofs.Common.{◌<◌, arith}
+use Rattle.words.proofs.Laws.{read_small}
 use Rattle.words.proofs.last.Goals as goal
 
--- what is read so far is below 2 ^ 56
-small : (bytes : List ℕ) (i number : ℕ) → ((k : ℕ) → get_or bytes k 0 < 256) → length bytes ≤ i + 7 → number ≡ word_of (drop i bytes)
-    → number < 72057594037927936
-small bytes i number each h e = subst (λ (n : ℕ). n < 72057594037927936) (sym e) (last_small bytes each i h)
+small : (c : goal.After-row_known-1) → c.loop-byte.number < 72057594037927936
+small c =
+    read_small c.args.bytes.now c.args.at c.loop-byte.number c.loop-byte.byte-iterator.iter.rest.now c.next.new.self.iter.rest.now
+    c.loop-byte.invariant.0 c.in-Some.field-0.now (λ k. (c.type_inv.bytes k).fits) c.requires c.in-Some.ensures.steps c.loop-byte.invariant.1 c.loop-byte.invariant.2
 
 pub overflow_mul-number : goal.overflow_mul-number
-overflow_mul-number c =
-    let l = c.loop-i in
-    omega (arith, small c.args.bytes.now l.i l.number (λ k. (c.type_inv.bytes k).fits) (omega arith) l.invariant.2)
+overflow_mul-number c = omega (arith, small c)
 
 pub overflow_add-number : goal.overflow_add-number
-overflow_add-number c =
-    let l = c.loop-i in
-    omega (arith, small c.args.bytes.now l.i l.number (λ k. (c.type_inv.bytes k).fits) (omega arith) l.invariant.2, c.type_inv.bytes (l.i - 1))
+overflow_add-number c = omega (arith, small c)
