@@ -1,15 +1,19 @@
 -- Laws about the fields of a line, over plain variables: where a field ends, and the fields one after another.
 -- Assumes nothing.
 use mathlib.Core.Path.{◌≡◌, refl, sym, ◌∙◌, ap, ap₂}
-use mathlib.Core.Bool.{Bool, true, false, cond}
+use mathlib.Core.Bool.{Bool, true, false, cond, not}
 use mathlib.Core.List.{List, [], ◌∷◌}
 use Prim.Native.Nat.{ℕ, suc, ◌+◌, ◌-◌, ◌<◌, ◌≤◌}
-use native.Mathlib.Numerals.{add-one}
 use native.Mathlib.Omega.{arith}
-use borrow.Author.Tests.{le-leb, lt-leb, leb-true, leb-false, eq-eqb, ne_eqb}
-use lib.Dec.{eqb, leb, leb-zero, leb-suc-suc}
-use lib.ListN.{length, take, drop, get_or, length-drop, drop_of_length-le}
-use lib.Seq.{drop-cons, drop-drop}
+use borrow.Author.Tests.{le-leb, lt-leb, leb-true, leb-false, ltb-false}
+use lib.Dec.{eqb, leb, ltb, leb-zero, leb-suc-suc}
+use lib.ListN.{length, take, drop, length-drop, drop_of_length-le}
+use lib.Seq.{drop-drop}
+use Rattle.std.specs.List.{position, position_or_len}
+use Rattle.std.specs.Prelude.{Option, Some, None}
+use Rattle.std.specs.Option.{unwrap_or}
+use Rattle.std.proofs.lemmas.List.Recursion.{is_position_or_len}
+use Rattle.std.proofs.lemmas.List.Sums.{prefix_len-le-length}
 use Rattle.text.specs.Text.{comma, on_first}
 use Rattle.fields.specs.Fields.{field, fields_of, fields_from, field_end}
 
@@ -18,24 +22,37 @@ pub end_at_end : (line : List ℕ) (at : ℕ) → length line ≤ at → field_e
 unfolding field_end
 end_at_end line at h = ap (λ (s : List ℕ). at + length (field s)) (drop_of_length-le line h) ∙ omega arith
 
--- the rest of the line begins with the byte at this offset
-ahead : (line : List ℕ) (at : ℕ) → at < length line → field (drop at line) ≡ cond (eqb (get_or line at 0) comma) [] (get_or line at 0 ∷ field (drop (suc at) line))
-ahead line at h = ap field (drop-cons line at 0 h)
+-- a byte is a comma
+abbrev pub is_comma : ℕ → Bool
+is_comma b = eqb b comma
 
--- a field ends at a comma
-pub end_at_comma : (line : List ℕ) (at : ℕ) → at < length line → get_or line at 0 ≡ comma → field_end line at ≡ at
-unfolding field_end
-end_at_comma line at h e =
-    ap (λ (s : List ℕ). at + length s) (ahead line at h ∙ ap (λ (b : Bool). cond b [] (get_or line at 0 ∷ field (drop (suc at) line))) (eq-eqb (get_or line at 0) comma e))
-    ∙ omega arith
+-- a field is as long as the bytes before the first comma
+field_upto : (s : List ℕ) → length (field s) ≡ position_or_len is_comma s
+field_upto = is_position_or_len (λ (s : List ℕ). length (field s)) is_comma refl by_first
+  where
+    by_first : (x : ℕ) (s : List ℕ) → length (field (x ∷ s)) ≡ cond (is_comma x) 0 (1 + length (field s))
+    by_first x s = go (eqb x comma)
+      where
+        go : (b : Bool) → length (cond b [] (x ∷ field s)) ≡ cond b 0 (1 + length (field s))
+        go true = refl
+        go false = omega arith
 
--- any other byte belongs to the field
-pub end_further : (line : List ℕ) (at : ℕ) → at < length line → (get_or line at 0 ≡ comma → ⊥) → field_end line (at + 1) ≡ field_end line at
+-- a field ends where a search for its comma stops, else at the end of the line
+pub end_found : (line : List ℕ) (at : ℕ) (rest : List ℕ) (r : Option ℕ) → rest ≡ drop at line → r ≡ position is_comma rest
+    → at + unwrap_or r (length rest) ≡ field_end line at
 unfolding field_end
-end_further line at h n =
-    let on : length (field (drop at line)) ≡ suc (length (field (drop (suc at) line))) =
-    ap length (ahead line at h ∙ ap (λ (b : Bool). cond b [] (get_or line at 0 ∷ field (drop (suc at) line))) (ne_eqb (get_or line at 0) comma n)) in
-    ap (λ (i : ℕ). i + length (field (drop i line))) (add-one at) ∙ omega (arith, on)
+end_found line at rest r k e =
+    ap (λ (f : Option ℕ). at + unwrap_or f (length rest)) e
+    ∙ go (ltb p (length rest)) refl
+    ∙ ap (λ (n : ℕ). at + n) (sym (field_upto rest))
+    ∙ ap (λ (s : List ℕ). at + length (field s)) k
+  where
+    p : ℕ
+    p = position_or_len is_comma rest
+
+    go : (b : Bool) → ltb p (length rest) ≡ b → at + unwrap_or (cond b (Some p) None) (length rest) ≡ at + p
+    go true h = refl
+    go false h = omega (arith, ltb-false p (length rest) h, prefix_len-le-length (λ (b : ℕ). not (is_comma b)) rest)
 
 -- a field does not end before it starts
 pub end_from : (line : List ℕ) (at : ℕ) → at ≤ field_end line at

@@ -11,12 +11,9 @@ const COMMA: u8 = 44;
 pub fn end_of(line: &[u8], at: usize) -> usize
     ensures { result ≡ field_end line.now at }
 {
-    let mut end = at;
-    while end < line.len() {
-        if line[end] == COMMA {
-            return end;
-        }
-        end += 1;
-    }
-    end
+    let Some(rest) = line.get(at..) else {
+        return at;
+    };
+    let comma = rest.iter().position(|&byte| byte == COMMA);
+    at + comma.unwrap_or(rest.len())
 }

@@ -1,13 +1,23 @@
--- `fields::end_of` meets its contract: from the place reached the field ends where it does from the start. The measure is what is left of the line.
-use mathlib.Core.Path.{sym, ◌∙◌}
-use Rattle.fields.proofs.Laws.{end_at_end, end_at_comma, end_further}
+-- `fields::end_of` meets its contract: past the end of the line, and where the search for a comma stops.
+use Rattle.std.proofs.Common.{◌≡◌, ap, sym, ◌∙◌, rules, tests, arith, ℕ, ◌+◌, drop}
+use Rattle.std.proofs.lemmas.Iterator.{YieldsList-from_slice}
+use Rattle.std.proofs.lemmas.Iterator.Search.{position_from_yields_List}
+use lib.Seq.{take_all}
+use lib.ListN.{length-drop}
+use Rattle.std.specs.List.{position}
+use Rattle.fields.proofs.Laws.{end_at_end, is_comma, end_found}
 use Rattle.fields.proofs.end_of.Goals as goal
 
-pub returns-then-line-end-eq-COMMA : goal.returns-then-line-end-eq-COMMA
-returns-then-line-end-eq-COMMA c = sym (end_at_comma c.args.line.now c.loop-end.end c.loop-end-test.true c.if-line-end-eq-COMMA.true) ∙ c.loop-end.invariant
-
-pub loop-end-preserved : goal.loop-end-preserved
-loop-end-preserved c = end_further c.args.line.now c.loop-end.end c.loop-end-test.true c.if-line-end-eq-COMMA.false ∙ c.loop-end.invariant
+pub returns-in_default : goal.returns-in_default
+returns-in_default c = sym (end_at_end c.args.line.now c.args.at (grind arith))
 
 pub returns : goal.returns
-returns c = sym (end_at_end c.args.line.now c.loop-end.end c.loop-end-test.false) ∙ c.loop-end.invariant
+returns c =
+    let line = c.args.line.now in
+    let at = c.args.at in
+    let rest = c.in-Some.rest.now in
+    let behind : rest ≡ drop at line = c.in-Some.ensures.lookup.0.2 ∙ take_all _ (drop at line) (omega (arith, length-drop {A = ℕ})) in
+    let found : c.position-comma.result ≡ position is_comma rest =
+    position_from_yields_List is_comma _ _ c.position-comma.result c.position-comma.ensures.ran (YieldsList-from_slice _ c.iter.ensures.rest)
+    (λ x b q k. search (rules, tests)) in
+    ap (λ n. at + n) c.unwrap_or.ensures ∙ end_found line at rest c.position-comma.result behind found
