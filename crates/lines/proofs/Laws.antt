@@ -1,37 +1,24 @@
 -- Laws about the end of a line: where CR and CR LF stand, and where the search for them stops.
 -- Assumes nothing.
 use mathlib.Core.Path.{◌≡◌, refl, sym, ◌∙◌, ap, ap₂, subst}
-use mathlib.Core.Bool.{Bool, true, false, cond, ◌&&◌}
+use mathlib.Core.Bool.{Bool, true, false, cond, not, ◌&&◌}
 use mathlib.Core.List.{List, [], ◌∷◌}
 use Prim.Native.Nat.{ℕ, zero, suc, ◌+◌, ◌-◌, ◌≤◌, ◌<◌, min}
 use native.Mathlib.Nat.{add-zero, zero-add, add_assoc, add-suc, suc-add, sub-zero, suc-min-suc, zero-min, min-zero}
 use native.Mathlib.Numerals.{add-one}
 use native.Mathlib.Omega.{arith}
-use borrow.Author.Tests.{eq-eqb, ne_eqb}
-use lib.ListN.{length, get_or, drop, drop_of_length-le, length-drop}
+use borrow.Author.Tests.{ltb-false}
+use lib.ListN.{length, take, drop, drop_of_length-le, length-drop}
 use lib.Seq.{drop-cons, drop-drop}
-use lib.Dec.{eqb}
+use lib.Dec.{eqb, ltb}
+use Rattle.std.specs.Prelude.{Option, Some, None}
+use Rattle.std.specs.Option.{unwrap_or}
+use Rattle.std.specs.List.{position, position_or_len}
+use Rattle.std.proofs.lemmas.List.Sums.{prefix_len-le-length}
 use Rattle.text.specs.Text.{CR, LF}
 use Rattle.lines.specs.Lines.{crlf}
 use Rattle.lines.specs.Seen.{too_long, reach, line_end}
 use Rattle.lines.specs.Code.{before_cr}
-
--- fewer than two bytes do not begin with CR LF
-short_none : (s : List ℕ) → length s < 2 → crlf s ≡ false
-short_none [] h = refl
-short_none (x ∷ []) h = refl
-short_none (x ∷ y ∷ s) h = absurd (omega arith)
-
-pub none_past : (s : List ℕ) (i : ℕ) → length s ≤ i → crlf (drop i s) ≡ false
-none_past s i h = ap crlf (drop_of_length-le s h)
-
-pub none_last : (s : List ℕ) (i : ℕ) → length s - i < 2 → crlf (drop i s) ≡ false
-none_last s i h = short_none (drop i s) (subst (λ n. n < 2) (sym (length-drop i s)) h)
-
-pub crlf_at : (s : List ℕ) (i : ℕ) → i + 1 < length s → eqb (get_or s i 0) CR && eqb (get_or s (i + 1) 0) LF ≡ crlf (drop i s)
-crlf_at s i h =
-    sym (ap crlf (drop-cons s i 0 (omega (arith, h)) ∙ ap (λ r. get_or s i 0 ∷ r) (drop-cons s (suc i) 0 (omega (arith, h))))
-    ∙ ap (λ n. eqb (get_or s i 0) CR && eqb (get_or s n 0) LF) (sym (add-one i)))
 
 -- bytes that do not begin with CR do not begin with CR LF
 pub first_CR : (x : ℕ) (s : List ℕ) → eqb x CR ≡ false → crlf (x ∷ s) ≡ false
@@ -46,41 +33,30 @@ one_left last at h = omega (arith, h)
 one_on : (count : ℕ → ℕ) (at : ℕ) → at + suc (count (suc at)) ≡ at + 1 + count (at + 1)
 one_on count at = add-suc at (count (suc at)) ∙ sym (suc-add at (count (suc at))) ∙ ap (λ n. n + count n) (sym (add-one at))
 
--- the next CR has been searched for up to `at`
-pub record Sought (s : List ℕ) (start last at : ℕ) : Type 0 where
-  pub so : start + before_cr (last - start) (drop start s) ≡ at + before_cr (last - at) (drop at s)
-  pub below : at ≤ last
-  pub inside : last ≤ length s
+-- a byte is CR
+abbrev pub is_CR : ℕ → Bool
+is_CR b = eqb b CR
 
-pub sought_start : (s : List ℕ) (start last : ℕ) → start ≤ last → last ≤ length s → Sought s start last start
-sought_start s start last h k = record { so = refl; below = h; inside = k }
+-- as many bytes stand before the first CR as a search passes
+before_upto : (n : ℕ) (s : List ℕ) → before_cr n s ≡ position_or_len is_CR (take n s)
+before_upto zero s = refl
+before_upto (suc n) [] = refl
+before_upto (suc n) (x ∷ s) = go (eqb x CR) (before_upto n s)
+  where
+    go : (b : Bool) → before_cr n s ≡ position_or_len is_CR (take n s) → cond b 0 (suc (before_cr n s)) ≡ cond (not b) (1 + position_or_len is_CR (take n s)) 0
+    go true h = refl
+    go false h = omega (arith, h)
 
-module _ {s : List ℕ} {start last at : ℕ} (l : Sought s start last at) where
-  pub sought_end : last ≤ at → at ≡ start + before_cr (last - start) (drop start s)
-  sought_end h = sym (l.so ∙ ap (λ n. at + before_cr n (drop at s)) gap ∙ add-zero at)
-    where
-      gap : last - at ≡ 0
-      gap = omega (arith, h)
+-- they are where the search stops, else all
+pub found_CR : (n : ℕ) (s : List ℕ) (r : Option ℕ) → r ≡ position is_CR (take n s) → unwrap_or r (length (take n s)) ≡ before_cr n s
+found_CR n s r e = ap (λ (f : Option ℕ). unwrap_or f (length (take n s))) e ∙ go (ltb p (length (take n s))) refl ∙ sym (before_upto n s)
+  where
+    p : ℕ
+    p = position_or_len is_CR (take n s)
 
-  looking : at < last → before_cr (last - at) (drop at s) ≡ cond (eqb (get_or s at 0) CR) 0 (suc (before_cr (last - (at + 1)) (drop (suc at) s)))
-  looking h =
-      ap (λ n. before_cr n (drop at s)) (one_left last at h)
-      ∙ ap (before_cr (suc (last - (at + 1)))) (drop-cons s at 0 (omega (arith, h, l.inside)))
-
-  pub sought_here : at < last → get_or s at 0 ≡ CR → at ≡ start + before_cr (last - start) (drop start s)
-  sought_here h e =
-      sym (l.so
-      ∙ ap (λ n. at + n) (looking h ∙ ap (λ b. cond b 0 (suc (before_cr (last - (at + 1)) (drop (suc at) s)))) (eq-eqb (get_or s at 0) CR e))
-      ∙ add-zero at)
-
-  pub sought_next : at < last → (get_or s at 0 ≡ CR → ⊥) → Sought s start last (at + 1)
-  sought_next h f = record {
-    so = l.so
-        ∙ ap (λ n. at + n) (looking h ∙ ap (λ b. cond b 0 (suc (before_cr (last - (at + 1)) (drop (suc at) s)))) (ne_eqb (get_or s at 0) CR f))
-        ∙ one_on (λ n. before_cr (last - (at + 1)) (drop n s)) at;
-    below = omega (arith, h);
-    inside = l.inside;
-  }
+    go : (b : Bool) → ltb p (length (take n s)) ≡ b → unwrap_or (cond b (Some p) None) (length (take n s)) ≡ p
+    go true h = refl
+    go false h = omega (arith, ltb-false p (length (take n s)) h, prefix_len-le-length (λ (b : ℕ). not (is_CR b)) (take n s))
 
 before_most : (n : ℕ) (s : List ℕ) → before_cr n s ≤ n
 before_most zero s = omega arith
@@ -183,9 +159,3 @@ looked_end {s} {start} {last} {at} l h = sym (l.so ∙ ap (λ n. at + reach n (d
 pub past_end : (s : List ℕ) (start : ℕ) → length s ≤ start → start ≡ line_end s start
 unfolding line_end
 past_end s start h = sym (ap (λ r. start + reach too_long r) (drop_of_length-le s h) ∙ add-zero start)
-
-pub last_short : (s : List ℕ) (start : ℕ) → length s - start < too_long → start + (length s - start) ≡ start + min (length (drop start s)) too_long
-last_short s start h = subst (λ n. start + (length s - start) ≡ start + min n too_long) (sym (length-drop start s)) (omega (arith, h))
-
-pub last_long : (s : List ℕ) (start : ℕ) → too_long ≤ length s - start → start + too_long ≡ start + min (length (drop start s)) too_long
-last_long s start h = subst (λ n. start + too_long ≡ start + min n too_long) (sym (length-drop start s)) (omega (arith, h))

@@ -22,25 +22,14 @@ fn last_seen(text: &[u8], start: usize) -> usize
     requires { start ≤ length text.now }
     ensures { result ≡ start + min (length (drop start text.now)) too_long }
 {
-    let left = text.len() - start;
-    if left < TOO_LONG {
-        return start + left;
-    }
-    start + TOO_LONG
+    start + (text.len() - start).min(TOO_LONG)
 }
 
 // Whether CR LF stands at an offset.
 pub fn ends_line(text: &[u8], at: usize) -> bool
     ensures { result ≡ crlf (drop at text.now) }
 {
-    let len = text.len();
-    if len <= at {
-        return false;
-    }
-    if len - at < 2 {
-        return false;
-    }
-    (text[at] == CR) & (text[at + 1] == LF)
+    matches!(text.get(at..), Some([CR, LF, ..]))
 }
 
 // The offset of the next CR from an offset on, or `last`.
@@ -49,14 +38,9 @@ fn next_cr(text: &[u8], start: usize, last: usize) -> usize
     requires inside { last ≤ length text.now }
     ensures { result ≡ start + before_cr (last - start) (drop start text.now) }
 {
-    let mut at = start;
-    while at < last {
-        if text[at] == CR {
-            break;
-        }
-        at += 1;
-    }
-    at
+    let rest = &text[start..last];
+    let cr = rest.iter().position(|&byte| byte == CR);
+    start + cr.unwrap_or(rest.len())
 }
 
 // The offset at which a line ends: at its CR LF, where it is certainly too long, or at the end of the text.
