@@ -7,7 +7,7 @@ use Prim.Native.Nat.{ℕ, zero, suc, ◌+◌, ◌-◌, ◌≤◌}
 use native.Mathlib.Nat.{zero-add}
 use native.Mathlib.Omega.{arith}
 use borrow.Author.Tests.{not-true, not-false, le-leb, ne_eqb}
-use lib.Dec.{eqb, leb}
+use lib.Dec.{eqb}
 use lib.ListN.{length, take, drop, length-append, length-take, take-append-drop}
 use lib.Seq.{drop-drop, drop_at, take_at}
 use Rattle.kinds.specs.Tests.{all}
@@ -22,12 +22,10 @@ use Rattle.names.specs.Names.{unknown, code_of, pair_of, request_names, flag_nam
 use Rattle.names.specs.Columns.{fwd_err_code}
 use Rattle.parser.specs.declared.Taken.{Taken}
 use Rattle.parser.specs.declared.Codes.{Codes}
-use Rattle.parser.specs.declared.ParsedLine.{ParsedLine}
-use Rattle.parser.specs.Parsed.{codes_of, known, dashes_agree, well_formed, refused_parse, parsed}
+use Rattle.parser.specs.Parsed.{Parsed, codes_of, known, dashes_agree, well_formed, refused_parse, parsed}
 use Rattle.parser.specs.Code.{gathered_of, line_of}
 use Rattle.parser.proofs.Events.{line_well}
-use Rattle.first_line.specs.declared.FirstLine.{FirstLine}
-use Rattle.first_line.specs.First.{line_to, first_line}
+use Rattle.first_line.specs.First.{First, line_to, first_line}
 use Rattle.first_line.specs.InPlace.{plain, Met, Takes, took, left, MetAll, last, more, no_cr, Leads}
 use Rattle.first_line.proofs.Matching.{passed_within}
 
@@ -156,7 +154,7 @@ reach_line (suc n) (b ∷ line) rest h k =
     (reach_line n line rest (and_right (no_cr b) (all no_cr line) h) (omega arith))
 
 -- a text that begins with a line in a window of it
-pub first_good : (text : List ℕ) (n : ℕ) (r : FirstLine) (ended : Bool) → n ≤ longest + 2 → Leads (take n text) r → r ≡ first_line true ended text
+pub first_good : (text : List ℕ) (n : ℕ) (r : First) (ended : Bool) → n ≤ longest + 2 → Leads (take n text) r → r ≡ first_line true ended text
 unfolding first_line
 first_good text n r ended few l =
     l.r_so
@@ -191,7 +189,7 @@ pub last_known : {code : ℕ} → (code ≡ unknown → ⊥) → known code ≡ 
 last_known {code} h = ap not (ne_eqb code unknown h)
 
 -- what `good_line` sees: the last code is known, and the dashes agree
-pub good_leads : {text : List ℕ} (t : Codes) {d : Bool} {line : ParsedLine} → MetAll columns text 0 t.codes t.end → d ≡ dashes_agree t.codes → not d ≡ false
+pub good_leads : {text : List ℕ} (t : Codes) {d : Bool} {line : Parsed} → MetAll columns text 0 t.codes t.end → d ≡ dashes_agree t.codes → not d ≡ false
     → line ≡ line_of t.codes → Leads text (record { line = line; end = t.end - 2; whole = true })
 unfolding well_formed columns
 good_leads {text} t {d} {line} m f g e =
@@ -206,7 +204,7 @@ good_leads {text} t {d} {line} m f g e =
       starts_so = l.starts_so;
       no_cr = l.no_cr;
       r_so =
-          ap₂ (λ (p : ParsedLine) (n : ℕ). record { line = p; end = n; whole = true })
+          ap₂ (λ (p : Parsed) (n : ℕ). record { line = p; end = n; whole = true })
           (e ∙ ap line_of (sym l.codes_so) ∙ line_well l.line well) end;
     }
 
@@ -215,20 +213,13 @@ pub met_end : {text : List ℕ} (t : Codes) → MetAll columns text 0 t.codes t.
 met_end t m = omega (arith, (line_met m).end_so)
 
 -- the first line, read the general way
-pub any_first : (asked ended : Bool) (text : List ℕ) {line : ParsedLine} {end : ℕ} {whole : Bool} → end ≡ line_end text 0 → whole ≡ crlf (drop end text)
+pub any_first : (asked ended : Bool) (text : List ℕ) {line : Parsed} {end : ℕ} {whole : Bool} → end ≡ line_end text 0 → whole ≡ crlf (drop end text)
     → line ≡ line_to (asked && (whole || ended)) end text → record { line = line; end = end; whole = whole } ≡ first_line asked ended text
 unfolding first_line line_end
 any_first asked ended text {line} {end} {whole} e w p =
     let at : end ≡ reach too_long text = e ∙ zero-add (reach too_long text) in
-    ap₂ (λ (l : ParsedLine) (b : Bool). record { line = l; end = end; whole = b }) (p ∙ ap (λ (b : Bool). line_to (asked && (b || ended)) end text) w) w
+    ap₂ (λ (l : Parsed) (b : Bool). record { line = l; end = end; whole = b }) (p ∙ ap (λ (b : Bool). line_to (asked && (b || ended)) end text) w) w
     ∙ ap (λ (n : ℕ). record { line = line_to (asked && (crlf (drop n text) || ended)) n text; end = n; whole = crlf (drop n text) }) at
-
--- a line that is parsed, and one that is not
-pub line_told : (parse : Bool) (end : ℕ) (text : List ℕ) → not (parse && leb end longest) ≡ false → parsed (take end text) ≡ line_to parse end text
-line_told parse end text h = sym (ap (λ (b : Bool). cond b (parsed (take end text)) (refused_parse 8)) (not-false (parse && leb end longest) h))
-
-pub line_untold : (parse : Bool) (end : ℕ) (text : List ℕ) → not (parse && leb end longest) ≡ true → refused_parse 8 ≡ line_to parse end text
-line_untold parse end text h = sym (ap (λ (b : Bool). cond b (parsed (take end text)) (refused_parse 8)) (not-true (parse && leb end longest) h))
 
 pub end_inside : (text : List ℕ) {end : ℕ} → end ≡ line_end text 0 → end ≤ length text
 unfolding line_end

@@ -6,7 +6,7 @@ use Rattle.names.specs.Names.{unknown, most_digits, is_digit, read_decimal}
 use Rattle.parser.specs.declared.Taken.{Taken}
 use Rattle.parser.specs.Parsed.{known, parsed}
 use Rattle.first_line.specs.declared.in_place.Digits.{Digits}
-use Rattle.first_line.specs.declared.FirstLine.{FirstLine}
+use Rattle.first_line.specs.First.{First}
 
 -- the number of bytes that are matched together
 abbrev pub word_length : ℕ
@@ -72,7 +72,7 @@ abbrev pub no_cr : ℕ → Bool
 no_cr b = not (eqb b CR)
 
 -- the text begins with a line and its CR LF, and r is this line
-pub record Leads (text : List ℕ) (r : FirstLine) : Type 0 where
+pub record Leads (text : List ℕ) (r : First) : Type 0 where
   pub line : List ℕ
   pub rest : List ℕ
   pub starts_so : text ≡ line ++ (eol ++ rest)

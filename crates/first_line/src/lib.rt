@@ -2,17 +2,17 @@
 // line goes the general way, and both ways give the same.
 #![tactic(auto)]
 
-ghost use Rattle.std.specs.Prelude.{◌≡◌, true, false};
+ghost use Rattle.std.specs.Prelude.{◌≡◌, true, IfSome};
 ghost use Rattle.names.specs.Names.{columns};
 ghost use Rattle.names.specs.Columns.{fwd_err_code};
 ghost use Rattle.parser.specs.Parsed.{known};
-ghost use Rattle.first_line.specs.First.{first_line};
+ghost use Rattle.first_line.specs.First.{first_line, in_numbers};
 ghost use Rattle.first_line.specs.InPlace.{MetAll, Leads};
 
 use kinds::Refusal;
 use lines::LONGEST;
 use names::columns;
-use parser::{Codes, Fields, ParsedLine};
+use parser::{Codes, Fields, Line};
 
 mod in_place;
 
@@ -20,9 +20,9 @@ mod in_place;
 const WINDOW: usize = LONGEST + 2;
 
 // The first line of a text: parsed, the offset at which it ends, and whether its CR LF is there.
-#[derive(Clone, Copy)]
+#[derive(Clone, Copy, PartialEq, Eq)]
 pub struct FirstLine {
-    pub line: ParsedLine,
+    pub line: Result<Line, Refusal>,
     pub end: usize,
     pub whole: bool,
 }
@@ -60,64 +60,43 @@ fn meet_all(text: &[u8]) -> Codes
     )
 }
 
-// No good line is seen.
-fn none_seen() -> FirstLine
-    ensures { result.whole ≡ false }
-{
-    FirstLine {
-        line: parser::refused(Refusal::FIELDS),
-        end: 0,
-        whole: false,
-    }
-}
-
 // The well-formed line at the front of a text, if its fields are taken in place.
-fn good_line(text: &[u8]) -> FirstLine
-    ensures { result.whole ≡ true → Leads text.now result }
+fn good_line(text: &[u8]) -> Option<FirstLine>
+    ensures { IfSome result (λ line. Leads text.now (in_numbers line)) }
 {
     let met = meet_all(text);
     let codes = met.codes;
-    if codes[columns::FWD_ERR] == names::UNKNOWN {
-        return none_seen();
+    if codes[columns::FWD_ERR] == names::UNKNOWN || !parser::dashes_agree(codes) {
+        return None;
     }
-    if !parser::dashes_agree(codes) {
-        return none_seen();
-    }
-    FirstLine {
+    Some(FirstLine {
         line: parser::line_of(codes),
         end: met.end - 2,
         whole: true,
-    }
+    })
 }
 
 // The first line of a text, whatever it is. It is parsed if that is asked for, its end is known and it is not too long.
 fn any_line(text: &[u8], ended: bool, asked: bool) -> FirstLine
-    ensures { result ≡ first_line asked ended text.now }
+    ensures { in_numbers result ≡ first_line asked ended text.now }
 {
     let end = lines::line_end(text, 0);
     let whole = lines::ends_line(text, end);
-    if !((asked & (whole | ended)) & (end <= LONGEST)) {
-        return FirstLine {
-            line: parser::refused(Refusal::FIELDS),
-            end,
-            whole,
-        };
-    }
-    FirstLine {
-        line: parser::parse_line(&text[..end]),
-        end,
-        whole,
-    }
+    let line = if asked & (whole | ended) & (end <= LONGEST) {
+        parser::parse_line(&text[..end])
+    } else {
+        Err(Refusal::Fields)
+    };
+    FirstLine { line, end, whole }
 }
 
 // Finds the first line of a text, and parses it if that is asked for. If `ended`, nothing follows the text. Fields are taken in place if as
 // many bytes are at hand as a line has at most.
 pub fn parse(text: &[u8], ended: bool, asked: bool) -> FirstLine
-    ensures { result ≡ first_line asked ended text.now }
+    ensures { in_numbers result ≡ first_line asked ended text.now }
 {
-    if asked & (WINDOW <= text.len()) {
-        let good = good_line(&text[..WINDOW]);
-        if good.whole {
+    if asked && WINDOW <= text.len() {
+        if let Some(good) = good_line(&text[..WINDOW]) {
             return good;
         }
     }
