@@ -10,13 +10,15 @@ use lib.Pow.{pow_mono}
 use native.Mathlib.Omega.{arith}
 use borrow.Author.Tests.{ltb-true, ltb-false, eqb-true, eqb-false}
 use lib.Dec.{eqb, ltb}
-use lib.Bits.{bit_and, bit_or, and_shr, and_mod, and_le_l, and_step, or_step, and_zero_l, or_zero_l, or_zero_r}
-use Rattle.kinds.specs.Codes.{I, UC, UCE, UD, UDP, SC, SD, states, dirty}
-use Rattle.kinds.proofs.Laws.{or_7}
+use lib.Bits.{bit_and, bit_or, and_shr, and_mod, and_le_l, and_step, or_step, and_zero_l, or_zero_l}
+use Rattle.kinds.specs.Codes.{I, UC, UCE, UD, UDP, SC, SD, states}
 use Rattle.kinds.proofs.Lists.{any_found, found_any, state_in, and_left, and_right, and_both}
 use Rattle.kinds.specs.Tests.{any}
-use lib.ListN.{get_or}
-use Rattle.sets.specs.Sets.{one, set_of, bit, holds_dirty, union, apply}
+use lib.ListN.{length}
+use mathlib.Core.Logic.{◌⊎◌, inl, inr}
+use Rattle.std.proofs.lemmas.Nat.Bits.{same_from_bits, bit_at_or}
+use Rattle.kinds.specs.declared.LineState.{LineState}
+use Rattle.sets.specs.Sets.{one, set_of, bit, union, apply}
 
 -- the number whose n binary digits, lowest first, are the test's values at k, k + 1, ..
 digits : (ℕ → Bool) → ℕ → ℕ → ℕ
@@ -130,15 +132,6 @@ pub cond-set_of : (b : Bool) (p : ℕ → Bool) → cond b (set_of p) 0 ≡ set_
 cond-set_of true p = refl
 cond-set_of false p = sym none
 
--- looking for a Dirty state one by one computes holds_dirty
-pub dirty_chain : (m : ℕ) (x₀ x₁ x₂ x₃ x₄ x₅ x₆ : Bool)
-    → x₀ ≡ dirty I && bit m I → x₁ ≡ dirty UC && bit m UC → x₂ ≡ dirty UCE && bit m UCE → x₃ ≡ dirty UD && bit m UD
-    → x₄ ≡ dirty UDP && bit m UDP → x₅ ≡ dirty SC && bit m SC → x₆ ≡ dirty SD && bit m SD
-    → x₀ || x₁ || x₂ || x₃ || x₄ || x₅ || x₆ ≡ holds_dirty m
-dirty_chain m x₀ x₁ x₂ x₃ x₄ x₅ x₆ h₀ h₁ h₂ h₃ h₄ h₅ h₆ =
-    ap₂ ◌||◌ (ap₂ ◌||◌ (ap₂ ◌||◌ (ap₂ ◌||◌ (ap₂ ◌||◌ (ap₂ ◌||◌ h₀ h₁) h₂) h₃) h₄) h₅) h₆
-    ∙ or_7 (dirty I && bit m I) (dirty UC && bit m UC) (dirty UCE && bit m UCE) (dirty UD && bit m UD) (dirty UDP && bit m UDP) (dirty SC && bit m SC) (dirty SD && bit m SD)
-
 -- a set is empty exactly when no state passes its test
 pub set_of-empty : (p : ℕ → Bool) → ((n : ℕ) → p n ≡ false) → set_of p ≡ 0
 set_of-empty p h = set_of-ext p (λ n. false) h ∙ none
@@ -180,14 +173,46 @@ pub apply-set_of : (f : ℕ → ℕ → Bool) (m : ℕ) → apply (map (λ s. se
 unfolding apply
 apply-set_of f m = simp cond-set_of (union-set_of (λ s n. bit m s && f s n) states)
 
--- the union of the seven sets one by one computes `apply`
-pub apply_chain : (sets : List ℕ) (m x₀ x₁ x₂ x₃ x₄ x₅ x₆ : ℕ)
-    → x₀ ≡ cond (bit m I) (get_or sets I 0) 0 → x₁ ≡ cond (bit m UC) (get_or sets UC 0) 0 → x₂ ≡ cond (bit m UCE) (get_or sets UCE 0) 0
-    → x₃ ≡ cond (bit m UD) (get_or sets UD 0) 0 → x₄ ≡ cond (bit m UDP) (get_or sets UDP 0) 0 → x₅ ≡ cond (bit m SC) (get_or sets SC 0) 0
-    → x₆ ≡ cond (bit m SD) (get_or sets SD 0) 0 → bit_or x₀ (bit_or x₁ (bit_or x₂ (bit_or x₃ (bit_or x₄ (bit_or x₅ x₆))))) ≡ apply sets m
+-- the union of a set, a second and a third
+pub or_assoc : (a b c : ℕ) → bit_or (bit_or a b) c ≡ bit_or a (bit_or b c)
+or_assoc a b c = same_from_bits (bit_or (bit_or a b) c) (bit_or a (bit_or b c)) (λ i. simp (bit_at_or) (omega arith))
+
+-- the union of the sets of the states that are left to ask
+abbrev pub left : List LineState → List ℕ → ℕ → ℕ
+left [] ms m = 0
+left (s ∷ ss) [] m = 0
+left (s ∷ ss) (n ∷ ns) m = bit_or (cond (bit m s.0) n 0) (left ss ns m)
+
+-- the seven states as the code has them
+abbrev seven : List LineState
+seven = map (λ (s : ℕ). record { 0 = s }) states
+
+pub left_all : (ms : List ℕ) (m : ℕ) → length ms ≡ 7 → left seven ms m ≡ apply ms m
 unfolding apply
-apply_chain sets m x₀ x₁ x₂ x₃ x₄ x₅ x₆ h₀ h₁ h₂ h₃ h₄ h₅ h₆ =
-    ap₂ bit_or h₀ (ap₂ bit_or h₁ (ap₂ bit_or h₂ (ap₂ bit_or h₃ (ap₂ bit_or h₄ (ap₂ bit_or h₅ (h₆ ∙ sym (or_zero_r (cond (bit m SD) (get_or sets SD 0) 0))))))))
+left_all ([]) m h = absurd (omega arith)
+left_all (x₀ ∷ []) m h = absurd (omega arith)
+left_all (x₀ ∷ x₁ ∷ []) m h = absurd (omega arith)
+left_all (x₀ ∷ x₁ ∷ x₂ ∷ []) m h = absurd (omega arith)
+left_all (x₀ ∷ x₁ ∷ x₂ ∷ x₃ ∷ []) m h = absurd (omega arith)
+left_all (x₀ ∷ x₁ ∷ x₂ ∷ x₃ ∷ x₄ ∷ []) m h = absurd (omega arith)
+left_all (x₀ ∷ x₁ ∷ x₂ ∷ x₃ ∷ x₄ ∷ x₅ ∷ []) m h = absurd (omega arith)
+left_all (x₀ ∷ x₁ ∷ x₂ ∷ x₃ ∷ x₄ ∷ x₅ ∷ x₆ ∷ xs) m h = refl
+
+-- one iteration of `apply`
+pub left_turn : (u x m n r : ℕ) (s : LineState) (ss ss' : List LineState) (ms ms' : List ℕ) → ss ≡ s ∷ ss' → ms ≡ n ∷ ms' → x ≡ cond (bit m s.0) n 0
+    → bit_or u (left ss ms m) ≡ r → bit_or (bit_or u x) (left ss' ms' m) ≡ r
+left_turn u x m n r s ss ss' ms ms' hs hm hx h =
+    or_assoc u x (left ss' ms' m)
+    ∙ ap (λ (y : ℕ). bit_or u (bit_or y (left ss' ms' m))) hx
+    ∙ sym (ap₂ (λ (a : List LineState) (b : List ℕ). bit_or u (left a b m)) hs hm)
+    ∙ h
+
+-- where one of the two runs out, nothing is left
+pub left_none : (ss : List LineState) (ms : List ℕ) (m : ℕ) → (length ss ≡ 0) ⊎ (length ms ≡ 0) → left ss ms m ≡ 0
+left_none [] ms m h = refl
+left_none (s ∷ ss) [] m h = refl
+left_none (s ∷ ss) (n ∷ ms) m (inl h) = absurd (omega arith)
+left_none (s ∷ ss) (n ∷ ms) m (inr h) = absurd (omega arith)
 
 -- a byte below 128 is the set of the states that are in it
 one_odd : (x : ℕ) → one (eqb (x % 2) 1) ≡ x % 2
