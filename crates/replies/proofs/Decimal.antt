@@ -1,6 +1,6 @@
 -- Laws about numbers in decimal, and about the loops that count and write their digits.
 -- Assumes nothing.
-use mathlib.Core.Path.{◌≡◌, refl, sym, ◌∙◌, ap, ap₂}
+use mathlib.Core.Path.{◌≡◌, sym, ◌∙◌, ap, ap₂}
 use mathlib.Core.Bool.{Bool, true, false, cond}
 use mathlib.Core.List.{List, [], ◌∷◌, ◌++◌, append_assoc}
 use Prim.Native.Nat.{ℕ, zero, suc, ◌+◌, ◌-◌, ◌/◌, ◌%◌, ◌^◌, ◌≤◌, ◌<◌}
@@ -8,8 +8,8 @@ use native.Mathlib.Nat.{mod-eq_of_lt, pow-succ'}
 use native.Mathlib.Omega.{arith}
 use borrow.Author.Tests.{lt-ltb, le-ltb}
 use lib.Dec.{ltb}
-use lib.ListN.{length, take, drop, set, length-append, length-set}
-use lib.Seq.{take-set-le, drop-cons, drop-set-lt, get_or-set_same, set_split, append_snoc}
+use lib.ListN.{length, take, drop, set, length-append, length-set, length-drop}
+use lib.Seq.{take_all, drop-cons, drop-set-lt, get_or-set_same}
 use Rattle.replies.specs.Replies.{digit, decimal_text_in, decimal_text}
 use Rattle.replies.specs.Code.{two_digits}
 
@@ -32,6 +32,10 @@ unfolding decimal_text
 decimal_small n h =
     ap (λ (b : Bool). cond b (digit n ∷ []) (decimal_text_in 18 (n / 10) ++ digit (n % 10) ∷ [])) (lt-ltb n 10 h)
     ∙ ap (λ (d : ℕ). digit d ∷ []) (sym (mod-eq_of_lt h))
+
+-- the same, with the number itself as its digit
+pub decimal_digit : (n : ℕ) → n < 10 → decimal_text n ≡ digit n ∷ []
+decimal_digit n h = decimal_small n h ∙ ap (λ (d : ℕ). digit d ∷ []) (mod-eq_of_lt h)
 
 -- any other number: the digits of its tens, then its last digit
 pub decimal_step : (n : ℕ) → 9 < n → n < most → decimal_text n ≡ decimal_text (n / 10) ++ digit (n % 10) ∷ []
@@ -87,93 +91,51 @@ pub decimal_short : (k n : ℕ) → n < 10 ^ suc k → length (decimal_text n) �
 unfolding decimal_text
 decimal_short k n h = short_in k 19 n h
 
--- The loop that counts digits: those counted, and those of the rest.
+-- The loop that writes digits from the last to the first: those of the rest, put before those written, are the whole number.
 
--- k is one more than the number of digits cut off, and `rest` is what is left
-pub record Counting (n k rest : ℕ) : Type 0 where
-  pub counted : k + length (decimal_text rest) ≡ 1 + length (decimal_text n)
-  pub few : rest < most
-  pub room : k ≤ 20
+pub record Spelling (n : ℕ) (digits : List ℕ) (first rest : ℕ) : Type 0 where
+  pub long : length digits ≡ 20
+  pub small : rest < most
+  pub few : rest < 10 ^ suc first
+  pub last : first < 20
+  pub so : decimal_text n ≡ decimal_text rest ++ drop (suc first) digits
 
-pub counting_start : (n : ℕ) → n < most → Counting n 1 n
-counting_start n h = record { counted = refl; few = h; room = omega arith }
+-- where more than one digit is left, there is a place before
+pub spelling_place : {n first rest : ℕ} {digits : List ℕ} → Spelling n digits first rest → 9 < rest → 1 ≤ first
+spelling_place {first = zero} c h = absurd (omega (arith, c.few))
+spelling_place {first = suc k} c h = omega arith
 
-pub counting_next : {n k rest : ℕ} → n < most → Counting n k rest → 9 < rest → Counting n (k + 1) (rest / 10)
-counting_next {n} {k} {rest} small c h =
-    let e : length (decimal_text rest) ≡ length (decimal_text (rest / 10)) + 1 =
-    ap length (decimal_step rest h c.few) ∙ length-append (decimal_text (rest / 10)) (digit (rest % 10) ∷ []) in
-    let counted : k + 1 + length (decimal_text (rest / 10)) ≡ 1 + length (decimal_text n) = omega (arith, c.counted) in
-    let few : rest / 10 < most = omega (arith, c.few) in
-    record { counted = counted; few = few; room = omega (arith, decimal_one (rest / 10), decimal_short 19 n small) }
+-- a digit stored at a place, and what stands behind it
+stored : (digits : List ℕ) (first d : ℕ) → first < length digits → drop first (set digits first d) ≡ d ∷ drop (suc first) digits
+stored digits first d h =
+    drop-cons (set digits first d) first 0 (simp length-set (omega arith))
+    ∙ ap₂ (λ (a : ℕ) (b : List ℕ). a ∷ b) (get_or-set_same digits first d 0 h) (drop-set-lt (suc first) digits first d (omega arith))
 
-pub counting_end : {n k rest : ℕ} → Counting n k rest → rest ≤ 9 → k ≡ length (decimal_text n)
-counting_end {n} {k} {rest} c h =
-    let e : length (decimal_text rest) ≡ 1 = ap length (decimal_small rest (omega arith)) in
-    omega (arith, c.counted)
-
--- The loop that writes digits: those of the rest, put before those written, are the whole number.
-
-pub record Spelling (out₀ : List ℕ) (at k n : ℕ) (out : List ℕ) (i rest : ℕ) : Type 0 where
-  pub few : rest < most
-  pub left : i ≡ length (decimal_text rest)
-  pub fits : at + i ≤ length out
-  pub long : length out ≡ length out₀
-  pub so : take at out ++ decimal_text rest ++ drop (at + i) out ≡ take at out₀ ++ decimal_text n ++ drop (at + k) out₀
-
-pub spelling_start : (out : List ℕ) (at k n : ℕ) → n < most → k ≡ length (decimal_text n) → at + k ≤ length out → Spelling out at k n out k n
-spelling_start out at k n small e h = record { few = small; left = e; fits = h; long = refl; so = refl }
-
--- a byte stored behind a text is the text's next byte
-stored : (at j d : ℕ) (out s : List ℕ) → at + j < length out
-    → take at (set out (at + j) d) ++ s ++ drop (at + j) (set out (at + j) d) ≡ take at out ++ (s ++ d ∷ []) ++ drop (at + (j + 1)) out
-stored at j d out s h =
-    let next : suc (at + j) ≡ at + (j + 1) = omega arith in
-    let behind : drop (at + j) (set out (at + j) d) ≡ d ∷ drop (at + (j + 1)) out =
-    drop-cons (set out (at + j) d) (at + j) 0 (simp length-set (omega arith))
-    ∙ ap₂ (λ (a : ℕ) (b : List ℕ). a ∷ b) (get_or-set_same out (at + j) d 0 h)
-    (drop-set-lt (suc (at + j)) out (at + j) d (omega arith) ∙ ap (λ (m : ℕ). drop m out) next) in
-    ap₂ (λ (a b : List ℕ). a ++ s ++ b) (take-set-le at out (at + j) d (omega arith)) behind
-    ∙ append_assoc (take at out) s (d ∷ drop (at + (j + 1)) out)
-    ∙ ap (λ (b : List ℕ). take at out ++ b) (sym (append_assoc s (d ∷ []) (drop (at + (j + 1)) out)))
-    ∙ sym (append_assoc (take at out) (s ++ d ∷ []) (drop (at + (j + 1)) out))
-
-pub spelling_next : {out₀ out : List ℕ} {at k n i rest : ℕ} → Spelling out₀ at k n out i rest → 9 < rest
-    → Spelling out₀ at k n (set out (at + (i - 1)) (digit (rest % 10))) (i - 1) (rest / 10)
-spelling_next {out₀} {out} {at} {k} {n} {i} {rest} c h =
+pub spelling_next : {n first rest : ℕ} {digits : List ℕ} → Spelling n digits first rest → 9 < rest
+    → Spelling n (set digits first (digit (rest % 10))) (first - 1) (rest / 10)
+spelling_next {n} {first} {rest} {digits} c h =
     let d : ℕ = digit (rest % 10) in
-    let j : ℕ = i - 1 in
-    let step : decimal_text rest ≡ decimal_text (rest / 10) ++ d ∷ [] = decimal_step rest h c.few in
-    let e : length (decimal_text rest) ≡ length (decimal_text (rest / 10)) + 1 = ap length step ∙ length-append (decimal_text (rest / 10)) (d ∷ []) in
-    let i-is : i ≡ length (decimal_text rest) = c.left in
-    let fits : at + i ≤ length out = c.fits in
-    let few : rest < most = c.few in
-    let back : j + 1 ≡ i = omega (arith, decimal_one rest) in
-    let kept : length (set out (at + j) d) ≡ length out = length-set out (at + j) d in
+    let place : 1 ≤ first = spelling_place c h in
+    let back : suc (first - 1) ≡ first = omega arith in
+    let few : rest / 10 < 10 ^ first = omega (arith, c.few, pow-succ' 10 first) in
     record {
-      few = omega arith;
-      left = omega arith;
-      fits = omega (arith, decimal_one rest);
-      long = kept ∙ c.long;
+      long = length-set digits first d ∙ c.long;
+      small = omega (arith, c.small);
+      few = rw back few;
+      last = omega (arith, c.last);
       so =
-          stored at j d out (decimal_text (rest / 10)) (omega (arith, decimal_one rest))
-          ∙ ap₂ (λ (s : List ℕ) (m : ℕ). take at out ++ s ++ drop (at + m) out) (sym step) back
-          ∙ c.so;
+          c.so
+          ∙ ap (λ (s : List ℕ). s ++ drop (suc first) digits) (decimal_step rest h c.small)
+          ∙ append_assoc (decimal_text (rest / 10)) (d ∷ []) (drop (suc first) digits)
+          ∙ ap (λ (s : List ℕ). decimal_text (rest / 10) ++ s) (sym (stored digits first d (omega (arith, c.last, c.long))))
+          ∙ ap (λ (k : ℕ). decimal_text (rest / 10) ++ drop k (set digits first d)) (sym back);
     }
 
 -- the first digit is written last
-pub spelling_end : {out₀ out : List ℕ} {at k n i rest : ℕ} → Spelling out₀ at k n out i rest → rest ≤ 9
-    → set out at (digit (rest % 10)) ≡ take at out₀ ++ decimal_text n ++ drop (at + k) out₀
-spelling_end {out₀} {out} {at} {k} {n} {i} {rest} c h =
-    let d : ℕ = digit (rest % 10) in
-    let one : decimal_text rest ≡ d ∷ [] = decimal_small rest (omega arith) in
-    let i-is : i ≡ 1 = c.left ∙ ap length one in
-    let fits : at + i ≤ length out = c.fits in
-    let next : suc at ≡ at + i = omega arith in
-    set_split out at d (omega arith)
-    ∙ sym (append_snoc (take at out) d (drop (suc at) out))
-    ∙ ap₂ (λ (s : List ℕ) (m : ℕ). take at out ++ s ++ drop m out) (sym one) next
-    ∙ c.so
-
--- there is room for the first digit
-pub spelling_first : {out₀ out : List ℕ} {at k n i rest : ℕ} → Spelling out₀ at k n out i rest → at < length out
-spelling_first {rest} c = omega (arith, decimal_one rest, c.left, c.fits)
+pub spelling_end : {n first rest : ℕ} {digits : List ℕ} (k : ℕ) → Spelling n digits first rest → rest ≤ 9 → 20 ≤ k + first
+    → take k (drop first (set digits first (digit rest))) ≡ decimal_text n
+spelling_end {n} {first} {rest} {digits} k c h long =
+    take_all k (drop first (set digits first (digit rest))) (simp (length-drop, length-set) (omega (arith, c.long)))
+    ∙ stored digits first (digit rest) (omega (arith, c.last, c.long))
+    ∙ ap (λ (s : List ℕ). s ++ drop (suc first) digits) (sym (decimal_digit rest (omega arith)))
+    ∙ sym c.so

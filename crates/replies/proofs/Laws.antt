@@ -18,7 +18,7 @@ use Rattle.text.specs.Text.{bytes, comma, eol}
 use Rattle.replies.specs.Laid.{laid, lay, lay_all, concat}
 use Rattle.replies.specs.Replies.{room, space, decimal_text, Word, word_for, verdict_names, duty_names, verdict_text, duty_text}
 use Rattle.replies.specs.Replies.{states_text, header_line, answer_line, refused_line, state_text, states_texts, answer_texts, refusal_texts}
-use Rattle.replies.specs.Code.{explained_texts}
+use Rattle.replies.specs.Code.{explained_text}
 pub use Rattle.replies.proofs.Laying.{lay_fits, lay_short, lay_nothing, lay_lay, lay_all_lem, lay_all_append, length_in, length_lay, length_lay_all}
 pub use Rattle.replies.proofs.Decimal.{decimal_one, decimal_small, decimal_step, decimal_short}
 pub use Rattle.replies.proofs.States.{concat_states}
@@ -71,10 +71,10 @@ unfolding duty_text
 duty_short d = word_short 9 duty_names d refl (omega arith)
 
 -- verdict and duty of an explained event
-pub explained_short : (d : ℕ) → length (concat (explained_texts d)) ≤ 21
+pub explained_short : (d : ℕ) → length (explained_text d) ≤ 21
 unfolding verdict_text
 explained_short d =
-    omega (arith, length-append (duty_text d) (comma ∷ []), length-append (duty_text d ++ comma ∷ []) [], duty_short d)
+    omega (arith, length-append (duty_text d) (comma ∷ []), duty_short d)
 
 state_short : (m n : ℕ) (name : List ℕ) → length (state_text m n name) ≤ 1 + length name
 state_short m n name =

@@ -4,13 +4,14 @@ use mathlib.Core.Path.{◌≡◌, refl, sym, ◌∙◌, ap, ap₂}
 use mathlib.Core.Bool.{Bool, true, false, cond}
 use mathlib.Core.List.{List, [], ◌∷◌, ◌++◌, append_assoc, append-nil}
 use Prim.Native.Nat.{ℕ, ◌+◌, ◌≤◌, ◌<◌}
-use native.Mathlib.Nat.{add-zero, le_antisymm, le_of_eq}
-use native.Mathlib.Numerals.{add-one}
+use native.Mathlib.Nat.{add-zero, le_of_eq}
 use native.Mathlib.Omega.{arith}
 use borrow.Author.Tests.{le-leb, lt-leb, leb-true, leb-false}
 use lib.Dec.{leb}
-use lib.ListN.{length, take, drop, get_or, set, take-append-drop, length-append, length-drop}
-use lib.Seq.{length-take-le, take_at, drop_at, drop-drop, take-length, paste, paste-zero, paste-suc, length-paste}
+use lib.ListN.{length, take, drop, take-append-drop, length-append, length-drop}
+use lib.Seq.{length-take-le, take_at, drop_at, drop-drop, take-length}
+use borrow.Rule.Slice.PartMut.{put_mid}
+use Rattle.std.proofs.lemmas.Slice.{put_mid-paste}
 use Rattle.replies.specs.Laid.{Laid, laid, lay, lay_all, concat}
 
 -- a text that fits
@@ -114,51 +115,17 @@ behind_by false l s e = let same : (lay l s).at ≡ l.at = ap (λ (k : Laid). k.
 pub behind : {r : Laid} (l : Laid) (s : List ℕ) → r ≡ lay l s → r.at ≤ l.at + length s
 behind l s e = let same = ap (λ (k : Laid). k.at) e in omega (arith, same, behind_by _ l s refl)
 
-pub behind_all : {r : Laid} (l : Laid) (ss : List (List ℕ)) → r ≡ lay_all l ss → r.at ≤ l.at + length (concat ss)
-behind_all l [] e = let same = ap (λ (k : Laid). k.at) e in omega (arith, same)
-behind_all l (s ∷ ss) e = omega (arith, behind_all (lay l s) ss e, behind l s refl, length-append s (concat ss))
+-- What `lay` and `put` leave.
 
--- The loop of `copy`, and what `put` and `put_number` leave.
-
--- after i bytes: those stand in the buffer, and the rest of it is as it was
-pub record Copying (out₀ : List ℕ) (at : ℕ) (text out : List ℕ) (i : ℕ) : Type 0 where
-  pub within : i ≤ length text
-  pub so : out ≡ paste out₀ at text i
-
-pub copying_start : (out : List ℕ) (at : ℕ) (text : List ℕ) → Copying out at text out 0
-copying_start out at text = record { within = omega arith; so = paste-zero out at text }
-
-pub copying_next : {out₀ text out : List ℕ} {at i : ℕ} → at + length text ≤ length out₀ → Copying out₀ at text out i → i < length text
-    → Copying out₀ at text (set out (at + i) (get_or text i 0)) (i + 1)
-copying_next {out₀} {text} {out} {at} {i} room c h =
-    record {
-      within = omega arith;
-      so =
-          ap (λ (o : List ℕ). set o (at + i) (get_or text i 0)) c.so
-          ∙ paste-suc out₀ at text i 0 (omega arith) h
-          ∙ ap (paste out₀ at text) (sym (add-one i));
-    }
-
-pub copying_length : {out₀ text out : List ℕ} {at i : ℕ} → at + length text ≤ length out₀ → Copying out₀ at text out i → length out ≡ length out₀
-copying_length {out₀} {text} {out} {at} {i} room c =
-    let w : i ≤ length text = c.within in
-    ap length c.so ∙ length-paste out₀ at text i (omega arith) w
-
-pub copying_end : {out₀ text out : List ℕ} {at i : ℕ} → Copying out₀ at text out i → length text ≤ i
-    → out ≡ take at out₀ ++ text ++ drop (at + length text) out₀
-copying_end {out₀} {text} {out} {at} {i} c h =
-    let e : i ≡ length text = le_antisymm c.within h in
-    c.so ∙ ap (paste out₀ at text) e
-    ∙ ap (λ (s : List ℕ). take at out₀ ++ s ++ drop (at + length text) out₀) (take-length text)
+-- a text copied where there is room for it
+pub copied : (at k : ℕ) (out text new : List ℕ) → at + length text ≤ length out → new ≡ text → length text ≡ k
+    → laid (at + length text) (put_mid at k out new) ≡ lay (laid at out) text
+copied at k out text new h e f =
+    ap (laid (at + length text))
+    (put_mid-paste at k out new text (length text) e f refl
+    ∙ ap (λ (s : List ℕ). take at out ++ s ++ drop (at + length text) out) (take-length text))
+    ∙ sym (lay_fits (laid at out) text h)
 
 -- nothing is written without room
-pub put_short : (at : ℕ) (out s : List ℕ) → length out < at + length s → laid at out ≡ lay (laid at out) s
-put_short at out s h = sym (lay_short (laid at out) s h)
-
--- a text is written if there is room
-pub put_fits : (at n : ℕ) (out out' s : List ℕ) → n ≡ length s → at + n ≤ length out → out' ≡ take at out ++ s ++ drop (at + n) out
-    → laid (at + n) out' ≡ lay (laid at out) s
-put_fits at n out out' s e h f =
-    ap (laid (at + n)) f
-    ∙ ap (λ (k : ℕ). laid (at + k) (take at out ++ s ++ drop (at + k) out)) e
-    ∙ sym (lay_fits (laid at out) s (omega arith))
+pub put_short : (at : ℕ) (out s : List ℕ) → (at + length s ≤ length out → ⊥) → laid at out ≡ lay (laid at out) s
+put_short at out s h = sym (lay_short (laid at out) s (omega (arith, h)))

@@ -18,8 +18,8 @@ abbrev pub duty_part : ℕ → List ℕ
 duty_part d = duty_text d ++ comma ∷ []
 
 -- verdict and duty of an explained event
-abbrev pub explained_texts : ℕ → List (List ℕ)
-explained_texts d = verdict_part explained ∷ duty_part d ∷ []
+abbrev pub explained_text : ℕ → List ℕ
+explained_text d = verdict_part explained ++ duty_part d
 
 -- the states of a set and the end of the line
 abbrev pub last_texts : ℕ → List (List ℕ)

@@ -1,14 +1,14 @@
 // Writes the output of the bench sheet into a buffer, byte for byte (definition 8.6, 8.7).
 #![tactic(auto)]
 
-ghost use Rattle.std.specs.Prelude.{◌+◌, ◌≤◌, ◌<◌, ◌≡◌, [], ◌∷◌, ◌++◌, length, take, drop};
+ghost use Rattle.std.specs.Prelude.{◌+◌, ◌≤◌, ◌<◌, ◌≡◌, ◌↔◌, IsTrue, [], ◌∷◌, ◌++◌, length, take, drop};
 ghost use Rattle.text.specs.Text.{comma};
 ghost use Rattle.replies.specs.Laid.{laid, lay, lay_all};
 ghost use Rattle.replies.specs.Replies.{space, decimal_text, verdict_text, duty_text, state_text, states_texts};
 ghost use Rattle.replies.specs.Replies.{header_line, answer_texts, refusal_texts};
-ghost use Rattle.replies.specs.Code.{two_digits, explained_texts, last_texts, judged_texts};
+ghost use Rattle.replies.specs.Code.{two_digits, explained_text, last_texts, judged_texts};
 
-use kinds::{Duty, EventNumber, LineState, Refusal, Verdict};
+use kinds::{Duty, EventNumber, LineState, Verdict};
 use verdicts::Finding;
 
 // Every output line fits into this many bytes.
@@ -17,17 +17,22 @@ pub const ROOM: usize = 64;
 // The byte of the digit 0; the other digits follow it.
 const ZERO: u8 = b'0';
 
-// Copies a text into the buffer at an offset. The text must fit.
-fn copy(out: &mut [u8], at: usize, text: &[u8])
-    requires { at + length text.now ≤ length out.old }
-    ensures { out.new ≡
-        take at out.old ++ text.now ++ drop (at + length text.now) out.old }
+// The states in their order, each with its name after a space (definition 2.1).
+const STATES: [(LineState, &[u8]); 7] = [
+    (LineState::I, b" I"),
+    (LineState::UC, b" UC"),
+    (LineState::UCE, b" UCE"),
+    (LineState::UD, b" UD"),
+    (LineState::UDP, b" UDP"),
+    (LineState::SC, b" SC"),
+    (LineState::SD, b" SD"),
+];
+
+// Whether so many bytes fit into the buffer at an offset.
+fn has_room(out: &[u8], at: usize, count: usize) -> bool
+    ensures { IsTrue result ↔ (at + count ≤ length out.now) }
 {
-    let mut i = 0;
-    while i < text.len() {
-        out[at + i] = text[i];
-        i += 1;
-    }
+    at.checked_add(count).is_some_and(|end| end <= out.len())
 }
 
 // Writes a text at an offset, and returns the offset behind it. The text must fit.
@@ -35,137 +40,94 @@ fn lay(out: &mut [u8], at: usize, text: &[u8]) -> usize
     requires { at + length text.now ≤ length out.old }
     ensures { laid result out.new ≡ lay (laid at out.old) text.now }
 {
-    let len = text.len();
-    copy(out, at, text);
-    at + len
+    let behind = at + text.len();
+    out[at..behind].copy_from_slice(text);
+    behind
 }
 
 // Writes a text at an offset, and returns the offset behind it. A text that does not fit is left out.
 pub fn put(out: &mut [u8], at: usize, text: &[u8]) -> usize
     ensures { laid result out.new ≡ lay (laid at out.old) text.now }
 {
-    let len = text.len();
-    if out.len() < len {
-        return at;
+    if has_room(out, at, text.len()) {
+        lay(out, at, text)
+    } else {
+        at
     }
-    if out.len() - len < at {
-        return at;
-    }
-    lay(out, at, text)
-}
-
-// The number of digits of a number.
-fn places(n: u64) -> usize
-    ensures { result ≡ length (decimal_text n) }
-{
-    let mut k: usize = 1;
-    let mut rest = n;
-    while rest > 9 {
-        rest /= 10;
-        k += 1;
-    }
-    k
-}
-
-// Writes the k digits of a number at an offset, the last digit first. They must fit.
-fn spell(out: &mut [u8], at: usize, k: usize, n: u64)
-    requires all_digits { k ≡ length (decimal_text n) }
-    requires has_room { at + k ≤ length out.old }
-    ensures { out.new ≡ take at out.old ++ decimal_text n ++ drop (at + k) out.old }
-{
-    let mut i = k;
-    let mut rest = n;
-    while rest > 9 {
-        i -= 1;
-        out[at + i] = ZERO + (rest % 10) as u8;
-        rest /= 10;
-    }
-    out[at] = ZERO + (rest % 10) as u8;
 }
 
 // Writes a number in decimal.
 fn put_number(out: &mut [u8], at: usize, n: u64) -> usize
     ensures { laid result out.new ≡ lay (laid at out.old) (decimal_text n) }
 {
-    let k = places(n);
-    if out.len() < k {
-        return at;
+    let mut digits = [ZERO; 20];
+    let mut first = 19;
+    let mut rest = n;
+    while rest > 9 {
+        digits[first] = ZERO + (rest % 10) as u8;
+        first -= 1;
+        rest /= 10;
     }
-    if out.len() - k < at {
-        return at;
-    }
-    spell(out, at, k, n);
-    at + k
+    digits[first] = ZERO + rest as u8;
+    put(out, at, &digits[first..])
 }
 
 // Writes a verdict's name between two commas; `unknown` for a code without a name.
+#[tactic(auto, unfolding(crate::specs::Replies::verdict_text))]
 fn put_verdict(out: &mut [u8], at: usize, verdict: Verdict) -> usize
     ensures { laid result out.new ≡
         lay (laid at out.old) (comma ∷ verdict_text verdict.0 ++ comma ∷ []) }
 {
-    let code = verdict.0;
-    if code == Verdict::EXPLAINED.0 {
-        return put(out, at, b",explained,");
-    }
-    if code == Verdict::UNEXPLAINED.0 {
-        return put(out, at, b",unexplained,");
-    }
-    if code == Verdict::NOT_JUDGED.0 {
-        return put(out, at, b",not judged,");
-    }
-    put(out, at, b",unknown,")
+    let text: &[u8] = match verdict {
+        Verdict::EXPLAINED => b",explained,",
+        Verdict::UNEXPLAINED => b",unexplained,",
+        Verdict::NOT_JUDGED => b",not judged,",
+        _ => b",unknown,",
+    };
+    put(out, at, text)
 }
 
 // Writes a duty's name and a comma; `unknown` for a code without a name.
+#[tactic(auto, unfolding(crate::specs::Replies::duty_text))]
 fn put_duty(out: &mut [u8], at: usize, duty: Duty) -> usize
     ensures { laid result out.new ≡ lay (laid at out.old) (duty_text duty.0 ++ comma ∷ []) }
 {
-    let code = duty.0;
-    if code == Duty::NONE.0 {
-        return put(out, at, b"none,");
-    }
-    if code == Duty::HOME.0 {
-        return put(out, at, b"Home,");
-    }
-    if code == Duty::REQUESTER.0 {
-        return put(out, at, b"Requester,");
-    }
-    if code == Duty::LOST.0 {
-        return put(out, at, b"lost,");
-    }
-    if code == Duty::DISCARDED.0 {
-        return put(out, at, b"discarded,");
-    }
-    put(out, at, b"unknown,")
+    let text: &[u8] = match duty {
+        Duty::NONE => b"none,",
+        Duty::HOME => b"Home,",
+        Duty::REQUESTER => b"Requester,",
+        Duty::LOST => b"lost,",
+        Duty::DISCARDED => b"discarded,",
+        _ => b"unknown,",
+    };
+    put(out, at, text)
 }
 
 // Writes a state's name if the state is in the set. `spaced` is the name after a space, which only the first state leaves out.
-fn put_state(out: &mut [u8], at: usize, states: u8, state: u8, spaced: &[u8]) -> usize
-    requires is_state { state < 7 }
+fn put_state(out: &mut [u8], at: usize, states: u8, state: LineState, spaced: &[u8]) -> usize
+    requires is_state { state.0 < 7 }
     requires is_spaced { spaced.now ≡ space ∷ drop 1 spaced.now }
     ensures { laid result out.new ≡
-        lay (laid at out.old) (state_text states state (drop 1 spaced.now)) }
+        lay (laid at out.old) (state_text states state.0 (drop 1 spaced.now)) }
 {
-    if (states >> state) % 2 != 1 {
-        return at;
+    if !sets::has(states, state) {
+        at
+    } else if states % (1 << state.0) == 0 {
+        put(out, at, &spaced[1..])
+    } else {
+        put(out, at, spaced)
     }
-    if states % (1 << state) == 0 {
-        return put(out, at, &spaced[1..]);
-    }
-    put(out, at, spaced)
 }
 
 // Writes the names of the states of a set, with spaces between them.
 fn put_states(out: &mut [u8], at: usize, states: u8) -> usize
     ensures { laid result out.new ≡ lay_all (laid at out.old) (states_texts states) }
 {
-    let i = put_state(out, at, states, LineState::I.0, b" I");
-    let uc = put_state(out, i, states, LineState::UC.0, b" UC");
-    let uce = put_state(out, uc, states, LineState::UCE.0, b" UCE");
-    let ud = put_state(out, uce, states, LineState::UD.0, b" UD");
-    let udp = put_state(out, ud, states, LineState::UDP.0, b" UDP");
-    let sc = put_state(out, udp, states, LineState::SC.0, b" SC");
-    put_state(out, sc, states, LineState::SD.0, b" SD")
+    let mut behind = at;
+    for (state, spaced) in STATES {
+        behind = put_state(out, behind, states, state, spaced);
+    }
+    behind
 }
 
 // Writes the two digits of a number below a hundred.
@@ -184,7 +146,7 @@ fn lay_upto_two(out: &mut [u8], at: usize, n: u32) -> usize
     ensures { laid result out.new ≡ lay (laid at out.old) (decimal_text n) }
 {
     if n < 10 {
-        return lay(out, at, &[ZERO + (n % 10) as u8]);
+        return lay(out, at, &[ZERO + n as u8]);
     }
     lay_two(out, at, n)
 }
@@ -216,27 +178,20 @@ fn lay_upto_six(out: &mut [u8], at: usize, n: u32) -> usize
 }
 
 // Writes the verdict and the duty of an explained event; `unknown` for a duty without a name.
+#[tactic(auto, unfolding(crate::specs::Replies::verdict_text, crate::specs::Replies::duty_text))]
 fn lay_explained(out: &mut [u8], at: usize, duty: Duty) -> usize
     requires { at + 21 ≤ length out.old }
-    ensures { laid result out.new ≡ lay_all (laid at out.old) (explained_texts duty.0) }
+    ensures { laid result out.new ≡ lay (laid at out.old) (explained_text duty.0) }
 {
-    let code = duty.0;
-    if code == Duty::NONE.0 {
-        return lay(out, at, b",explained,none,");
-    }
-    if code == Duty::HOME.0 {
-        return lay(out, at, b",explained,Home,");
-    }
-    if code == Duty::REQUESTER.0 {
-        return lay(out, at, b",explained,Requester,");
-    }
-    if code == Duty::LOST.0 {
-        return lay(out, at, b",explained,lost,");
-    }
-    if code == Duty::DISCARDED.0 {
-        return lay(out, at, b",explained,discarded,");
-    }
-    lay(out, at, b",explained,unknown,")
+    let text: &[u8] = match duty {
+        Duty::NONE => b",explained,none,",
+        Duty::HOME => b",explained,Home,",
+        Duty::REQUESTER => b",explained,Requester,",
+        Duty::LOST => b",explained,lost,",
+        Duty::DISCARDED => b",explained,discarded,",
+        _ => b",explained,unknown,",
+    };
+    lay(out, at, text)
 }
 
 // Writes the names of the states of a set and the end of the line, each part where it fits.
@@ -252,19 +207,13 @@ fn lay_states(out: &mut [u8], at: usize, states: u8) -> usize
     requires { at + 6 ≤ length out.old }
     ensures { laid result out.new ≡ lay_all (laid at out.old) (last_texts states) }
 {
-    if states == 1 {
-        return lay(out, at, b"I\r\n");
+    match states {
+        1 => lay(out, at, b"I\r\n"),
+        32 => lay(out, at, b"SC\r\n"),
+        33 => lay(out, at, b"I SC\r\n"),
+        64 => lay(out, at, b"SD\r\n"),
+        _ => put_last(out, at, states),
     }
-    if states == 32 {
-        return lay(out, at, b"SC\r\n");
-    }
-    if states == 33 {
-        return lay(out, at, b"I SC\r\n");
-    }
-    if states == 64 {
-        return lay(out, at, b"SD\r\n");
-    }
-    put_last(out, at, states)
 }
 
 // Writes what stands behind the number in an event's output line, each part where it fits.
@@ -276,46 +225,27 @@ fn put_judged(out: &mut [u8], at: usize, found: Finding) -> usize
     put_last(out, owed, found.after)
 }
 
-// Writes what stands behind the number of an event that is not explained.
-fn lay_unexplained(out: &mut [u8], at: usize, found: Finding) -> usize
-    requires { at + 20 ≤ length out.old }
-    ensures { laid result out.new ≡ lay_all (laid at out.old) (judged_texts found) }
-{
-    let verdict = found.verdict.0;
-    let duty = found.duty.0;
-    let states = found.after;
-    if duty == Duty::NONE.0 {
-        if states == 0 {
-            if verdict == Verdict::UNEXPLAINED.0 {
-                return lay(out, at, b",unexplained,none,\r\n");
-            }
-            if verdict == Verdict::NOT_JUDGED.0 {
-                return lay(out, at, b",not judged,none,\r\n");
-            }
-        }
-    }
-    put_judged(out, at, found)
-}
-
 // Writes what stands behind the number in an event's output line.
 fn lay_judged(out: &mut [u8], at: usize, found: Finding) -> usize
     requires { at + 58 ≤ length out.old }
     ensures { laid result out.new ≡ lay_all (laid at out.old) (judged_texts found) }
 {
-    let verdict = found.verdict.0;
-    if verdict == Verdict::EXPLAINED.0 {
-        let owed = lay_explained(out, at, found.duty);
-        return lay_states(out, owed, found.after);
+    match (found.verdict, found.duty, found.after) {
+        (Verdict::EXPLAINED, duty, states) => {
+            let owed = lay_explained(out, at, duty);
+            lay_states(out, owed, states)
+        }
+        (Verdict::UNEXPLAINED, Duty::NONE, 0) => lay(out, at, b",unexplained,none,\r\n"),
+        (Verdict::NOT_JUDGED, Duty::NONE, 0) => lay(out, at, b",not judged,none,\r\n"),
+        _ => put_judged(out, at, found),
     }
-    lay_unexplained(out, at, found)
 }
 
 // Writes the output line of an event, each part where it fits.
 fn put_parts(out: &mut [u8], at: usize, event: EventNumber, found: Finding) -> usize
     ensures { laid result out.new ≡ lay_all (laid at out.old) (answer_texts event.0 found) }
 {
-    let number = event.0;
-    let numbered = put_number(out, at, number as u64);
+    let numbered = put_number(out, at, event.0 as u64);
     put_judged(out, numbered, found)
 }
 
@@ -323,26 +253,20 @@ fn put_parts(out: &mut [u8], at: usize, event: EventNumber, found: Finding) -> u
 pub fn put_answer(out: &mut [u8], at: usize, event: EventNumber, found: Finding) -> usize
     ensures { laid result out.new ≡ lay_all (laid at out.old) (answer_texts event.0 found) }
 {
-    let number = event.0;
-    if number < 1_000_000 {
-        if ROOM <= out.len() {
-            if at <= out.len() - ROOM {
-                let numbered = lay_upto_six(out, at, number);
-                return lay_judged(out, numbered, found);
-            }
-        }
+    if event.0 < 1_000_000 && has_room(out, at, ROOM) {
+        let numbered = lay_upto_six(out, at, event.0);
+        lay_judged(out, numbered, found)
+    } else {
+        put_parts(out, at, event, found)
     }
-    put_parts(out, at, event, found)
 }
 
 // Writes the line that ends a refused run: the refusal number and the bad line (definition 8.7).
-pub fn put_refusal(out: &mut [u8], at: usize, refusal: Refusal, line: u64) -> usize
-    ensures { laid result out.new ≡ lay_all (laid at out.old) (refusal_texts refusal.0 line) }
+pub fn put_refusal(out: &mut [u8], at: usize, number: u8, line: u64) -> usize
+    ensures { laid result out.new ≡ lay_all (laid at out.old) (refusal_texts number line) }
 {
-    let code = refusal.0;
-    let number = code as u64;
     let opened = put(out, at, b"refused,");
-    let numbered = put_number(out, opened, number);
+    let numbered = put_number(out, opened, number as u64);
     let parted = put(out, numbered, b",");
     let placed = put_number(out, parted, line);
     put(out, placed, b"\r\n")

@@ -1,8 +1,7 @@
 -- `replies::lay` meets its contract: the text is copied.
-use Rattle.replies.proofs.Laying.{put_fits}
-use mathlib.Core.Path.{refl}
+use Rattle.replies.proofs.Laying.{copied}
+use native.Mathlib.Omega.{arith}
 use Rattle.replies.proofs.lay.Goals as goal
 
 pub returns : goal.returns
-returns c =
-    put_fits _ _ _ _ c.args.text.now refl (c.requires) c.copy.ensures
+returns c = copied _ _ c.args.out.now c.args.text.now _ c.requires c.copy_from_slice.ensures.after (omega arith)

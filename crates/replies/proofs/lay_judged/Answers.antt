@@ -1,8 +1,13 @@
--- `replies::lay_judged` meets its contract: an explained event has its duty and its states.
+-- `replies::lay_judged` meets its contract: an explained event has its duty and its states, and one without a duty and a set has one text.
 use Rattle.replies.proofs.Laws.{explained_short}
-use Rattle.replies.proofs.Laying.{behind_all}
+use Rattle.replies.proofs.Laying.{behind}
+use Rattle.replies.proofs.Parts.{judged_explained, judged_plain}
 use Rattle.replies.specs.Laid.{laid}
-use Rattle.replies.specs.Code.{explained_texts}
+use Rattle.replies.specs.Replies.{verdict_text, duty_text, states_texts}
+use Rattle.replies.specs.Code.{explained_text}
+use Rattle.sets.specs.Sets.{bit}
+use Rattle.verdicts.specs.Verdicts.{unexplained, not_judged}
+use mathlib.Core.Path.{refl}
 use native.Mathlib.Omega.{arith}
 use Rattle.replies.proofs.lay_judged.Goals as goal
 
@@ -10,6 +15,20 @@ pub lay_states-requires : goal.lay_states-requires
 lay_states-requires c =
     omega (
       arith,
-      behind_all (laid c.args.at c.args.out.now) (explained_texts c.args.found.duty.0) c.lay_explained-owed.ensures,
+      behind (laid c.args.at c.args.out.now) (explained_text c.args.found.duty.0) c.lay_explained-owed.ensures,
       explained_short c.args.found.duty.0,
     )
+
+pub returns-in-EXPLAINED-default-default : goal.returns-in-EXPLAINED-default-default
+returns-in-EXPLAINED-default-default c =
+    judged_explained _ c.args.found (omega arith) (omega (arith, explained_short c.args.found.duty.0)) c.lay_explained-owed.ensures c.lay_states.ensures
+
+pub returns-in-UNEXPLAINED-NONE-eq0 : goal.returns-in-UNEXPLAINED-NONE-eq0
+unfolding verdict_text duty_text states_texts bit
+returns-in-UNEXPLAINED-NONE-eq0 c =
+    judged_plain _ c.args.found unexplained _ (omega arith) (omega arith) (omega arith) refl (omega arith) c.lay.ensures
+
+pub returns-in-NOT_JUDGED-NONE-eq0 : goal.returns-in-NOT_JUDGED-NONE-eq0
+unfolding verdict_text duty_text states_texts bit
+returns-in-NOT_JUDGED-NONE-eq0 c =
+    judged_plain _ c.args.found not_judged _ (omega arith) (omega arith) (omega arith) refl (omega arith) c.lay-in-NOT_JUDGED-NONE-eq0.ensures

@@ -7,18 +7,18 @@ use mathlib.Core.Path.{refl}
 use native.Mathlib.Omega.{arith}
 use Rattle.replies.proofs.lay_states.Goals as goal
 
-pub returns-then-states-eq1 : goal.returns-then-states-eq1
+pub returns-in-1 : goal.returns-in-1
 unfolding states_texts bit
-returns-then-states-eq1 c = one_text _ last_texts 1 _ c.if-states-eq1.true refl (omega arith) c.lay.ensures
+returns-in-1 c = one_text _ last_texts 1 _ c.in-1.is refl (omega arith) c.lay.ensures
 
-pub returns-then-states-eq32 : goal.returns-then-states-eq32
+pub returns-in-32 : goal.returns-in-32
 unfolding states_texts bit
-returns-then-states-eq32 c = one_text _ last_texts 32 _ c.if-states-eq32.true refl (omega arith) c.lay-then-states-eq32.ensures
+returns-in-32 c = one_text _ last_texts 32 _ c.in-32.is refl (omega arith) c.lay-in-32.ensures
 
-pub returns-then-states-eq33 : goal.returns-then-states-eq33
+pub returns-in-33 : goal.returns-in-33
 unfolding states_texts bit
-returns-then-states-eq33 c = one_text _ last_texts 33 _ c.if-states-eq33.true refl (omega arith) c.lay-then-states-eq33.ensures
+returns-in-33 c = one_text _ last_texts 33 _ c.in-33.is refl (omega arith) c.lay-in-33.ensures
 
-pub returns-then-states-eq64 : goal.returns-then-states-eq64
+pub returns-in-64 : goal.returns-in-64
 unfolding states_texts bit
-returns-then-states-eq64 c = one_text _ last_texts 64 _ c.if-states-eq64.true refl (omega arith) c.lay-then-states-eq64.ensures
+returns-in-64 c = one_text _ last_texts 64 _ c.in-64.is refl (omega arith) c.lay-in-64.ensures

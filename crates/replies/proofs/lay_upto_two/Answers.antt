@@ -1,5 +1,5 @@
 -- `replies::lay_upto_two` meets its contract: one digit or two.
-use Rattle.replies.proofs.Decimal.{decimal_small, decimal_two}
+use Rattle.replies.proofs.Decimal.{decimal_digit, decimal_two}
 use Rattle.replies.specs.Laid.{lay}
 use mathlib.Core.Path.{sym, ◌∙◌, ap}
 use native.Mathlib.Omega.{arith}
@@ -7,7 +7,7 @@ use Rattle.replies.proofs.lay_upto_two.Goals as goal
 
 pub returns-then-n-lt10 : goal.returns-then-n-lt10
 returns-then-n-lt10 c =
-    c.lay.ensures ∙ ap (lay _) (sym (decimal_small c.args.n c.if-n-lt10.true))
+    c.lay.ensures ∙ ap (lay _) (sym (decimal_digit c.args.n c.if-n-lt10.true))
 
 pub returns : goal.returns
 returns c =

@@ -7,8 +7,8 @@ use Rattle.replies.proofs.put_answer.Goals as goal
 
 pub lay_judged-requires : goal.lay_judged-requires
 lay_judged-requires c =
-    omega (arith, behind _ _ c.lay_upto_six-numbered.ensures, decimal_short 5 c.args.event.0 c.if-number-lt1000000.true)
+    omega (arith, behind _ _ c.lay_upto_six-numbered.ensures, decimal_short 5 c.args.event.0 c.if-event-lt1000000.true)
 
-pub returns-then-at-out : goal.returns-then-at-out
-returns-then-at-out c =
+pub returns-then-has_room : goal.returns-then-has_room
+returns-then-has_room c =
     answered _ c.args.event.0 c.args.found c.lay_upto_six-numbered.ensures c.lay_judged.ensures

@@ -4,4 +4,4 @@ use Rattle.replies.proofs.put_refusal.Goals as goal
 
 pub returns : goal.returns
 returns c =
-    refused _ c.args.refusal.0 c.args.line c.put-opened.ensures c.put_number-numbered.ensures c.put-parted.ensures c.put_number-placed.ensures c.put.ensures
+    refused _ c.args.number c.args.line c.put-opened.ensures c.put_number-numbered.ensures c.put-parted.ensures c.put_number-placed.ensures c.put.ensures
