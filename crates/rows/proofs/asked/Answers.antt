@@ -1,8 +1,13 @@
--- `rows::asked` meets its contract: each part is a callee's own words.
-use Rattle.rows.proofs.Laws.{asked_by}
+-- `rows::asked` meets its contract: its parts are the callees' own words.
+use Rattle.std.proofs.Common.{rules}
+use borrow.Author.Tests.{tests}
+use Rattle.rows.specs.Permitted.{asked}
 use Rattle.rows.proofs.asked.Goals as goal
 
-pub returns : goal.returns
-returns c =
-    asked_by c.args.e.now c.args.table c.args.ret c.args.marked c.excl.result c.asks.result c.fits.result c.fits-2.result
-    c.asks.ensures c.excl.ensures c.fits.ensures c.fits-2.ensures
+pub returns-after-marked : goal.returns-after-marked
+unfolding asked
+returns-after-marked c = search (rules, tests)
+
+pub returns-else-fits-2 : goal.returns-else-fits-2
+unfolding asked
+returns-else-fits-2 c = search (rules, tests)
