@@ -13,8 +13,7 @@ use Rattle.kinds.specs.Codes.{all_states}
 use Rattle.kinds.specs.Places.{set_in, pair_in, event_in}
 use Rattle.rows.specs.Event.{request_of}
 use Rattle.event.specs.Refusals.{Issue, below, fault}
-use Rattle.trace.specs.declared.Outcome.{Outcome}
-use Rattle.trace.specs.Lent.{Lent, count}
+use Rattle.trace.specs.Lent.{Lent, count, Outcome}
 use Rattle.trace.specs.Refusals.{outcome, lengths_fit, first_from, bad_set_at, lowest_bad_set, fault_at, bad_event, first_bad_event, outcome_of}
 use Rattle.trace.specs.Given.{Fits, SetGood, EventGood, GoodSoFar, Given, accepted, bad_lengths, bad_set, bad_pair, bad_byte, bad_request}
 use Rattle.trace.proofs.Laws.{fits, fit, refused_lengths, refused_set, left_to_events, refused_event, no_event}
@@ -136,11 +135,11 @@ module _ (issue : Issue) (l : Lent) where
   set_of_lem p h = ltb-false all_states (set_in l.table p) h
 
   -- THE ROW OF THE OUTCOME is given.
-  pub given : Given issue l (outcome_of issue l).refusal.0 (outcome_of issue l).place
+  pub given : Given issue l (outcome_of issue l).number (outcome_of issue l).place
   given = go (lengths_fit l) (ltb (lowest_bad_set l.table) (length l.table)) (ltb first_bad (length l.pairs)) refl refl refl
     where
-      at : (o : Outcome) → o ≡ outcome_of issue l → Given issue l o.refusal.0 o.place → Given issue l (outcome_of issue l).refusal.0 (outcome_of issue l).place
-      at o h g = subst (λ (x : Outcome). Given issue l x.refusal.0 x.place) h g
+      at : (o : Outcome) → o ≡ outcome_of issue l → Given issue l o.number o.place → Given issue l (outcome_of issue l).number (outcome_of issue l).place
+      at o h g = subst (λ (x : Outcome). Given issue l x.number x.place) h g
 
       sets : (a : ltb (lowest_bad_set l.table) (length l.table) ≡ false) → (p : ℕ) → p < length l.table → SetGood l p
       sets a p k = set_of_lem p (before_first (bad_set_at l.table) 0 (length l.table) p (omega arith) (omega (arith, ltb-false (lowest_bad_set l.table) (length l.table) a)))
@@ -150,12 +149,12 @@ module _ (issue : Issue) (l : Lent) where
           record { fits = f; sets_good = sets a; events_good = λ j b. good_of j (before_first bad 0 (length l.pairs) j (omega arith) (omega arith)) }
 
       go : (a b c : Bool) → lengths_fit l ≡ a → ltb (lowest_bad_set l.table) (length l.table) ≡ b → ltb first_bad (length l.pairs) ≡ c
-          → Given issue l (outcome_of issue l).refusal.0 (outcome_of issue l).place
-      go false b c p q r = at (outcome 1 0) (refused_lengths issue l false (sym p) refl) (bad_lengths (λ f. true≢false (sym (fit l f) ∙ p)))
+          → Given issue l (outcome_of issue l).number (outcome_of issue l).place
+      go false b c p q r = at (outcome 1 0) (refused_lengths issue l p) (bad_lengths (λ f. true≢false (sym (fit l f) ∙ p)))
       go true true c p q r =
           let low = lowest_bad_set l.table in
           let k = ltb-true low (length l.table) q in
-          at (outcome 2 low) (refused_set issue l true low (sym p) refl refl k)
+          at (outcome 2 low) (refused_set issue l low p refl k)
           (bad_set (fits l p)
           (λ i h. set_of_lem i (before_first (bad_set_at l.table) 0 (length l.table) i (omega arith) h))
           k
@@ -164,7 +163,7 @@ module _ (issue : Issue) (l : Lent) where
           let f = fits l p in
           let k = ltb-true first_bad (length l.pairs) r in
           at (outcome (fault_of issue l first_bad) first_bad)
-          (left_to_events issue l true (lowest_bad_set l.table) (outcome (fault_of issue l first_bad) first_bad) (sym p) refl refl (ltb-false (lowest_bad_set l.table) (length l.table) q)
+          (left_to_events issue l (lowest_bad_set l.table) (outcome (fault_of issue l first_bad) first_bad) p refl (ltb-false (lowest_bad_set l.table) (length l.table) q)
           (refused_event issue l.events l.pairs l.table first_bad (fault_of issue l first_bad) refl k refl))
           (bad_row issue l first_bad (first_passes bad 0 (length l.pairs) (omega arith)) (reached first_bad f q (omega arith)) (omega (arith, f.pairs_fit)))
       go true false false p q r =
@@ -172,7 +171,7 @@ module _ (issue : Issue) (l : Lent) where
           let k = ltb-false first_bad (length l.pairs) r in
           at (outcome 0 (count l))
           (ap (outcome 0) (sym f.pairs_fit)
-          ∙ left_to_events issue l true (lowest_bad_set l.table) (outcome 0 (length l.pairs)) (sym p) refl refl (ltb-false (lowest_bad_set l.table) (length l.table) q)
+          ∙ left_to_events issue l (lowest_bad_set l.table) (outcome 0 (length l.pairs)) p refl (ltb-false (lowest_bad_set l.table) (length l.table) q)
           (no_event issue l.events l.pairs l.table first_bad refl k))
           (accepted (reached (count l) f q (omega (arith, f.pairs_fit))))
 
@@ -187,7 +186,7 @@ module _ (issue : Issue) (l : Lent) where
   event_row k number r h e n =
       let is : first_bad ≡ k =
       first_is bad 0 (length l.pairs) k (omega arith) (omega (arith, r.fits.pairs_fit)) (λ j a b. good_not_bad j (r.events_good j b)) (ap (λ (x : ℕ). not (eqb x 0)) e ∙ n) in
-      left_to_events issue l true (length l.table) (outcome number k) (sym (fit l r.fits)) refl (sym (table_good r)) (omega arith)
+      left_to_events issue l (length l.table) (outcome number k) (fit l r.fits) (sym (table_good r)) (omega arith)
       (refused_event issue l.events l.pairs l.table k number (sym is) (omega (arith, r.fits.pairs_fit)) (sym e))
 
   -- EACH ROW THAT IS GIVEN is the outcome.
@@ -196,15 +195,15 @@ module _ (issue : Issue) (l : Lent) where
       let is : first_bad ≡ length l.pairs =
       first_none bad 0 (length l.pairs) (λ j a b. good_not_bad j (r.events_good j (omega (arith, r.fits.pairs_fit)))) ∙ zero-add (length l.pairs) in
       ap (outcome 0) (sym r.fits.pairs_fit)
-      ∙ left_to_events issue l true (length l.table) (outcome 0 (length l.pairs)) (sym (fit l r.fits)) refl (sym (table_good r)) (omega arith)
+      ∙ left_to_events issue l (length l.table) (outcome 0 (length l.pairs)) (fit l r.fits) (sym (table_good r)) (omega arith)
       (no_event issue l.events l.pairs l.table (length l.pairs) (sym is) (omega arith))
   gives (bad_lengths n) = go (lengths_fit l) refl
     where
       go : (b : Bool) → lengths_fit l ≡ b → outcome 1 0 ≡ outcome_of issue l
       go true h = absurd (n (fits l h))
-      go false h = refused_lengths issue l false (sym h) refl
+      go false h = refused_lengths issue l h
   gives (bad_set {p} f least h n) =
-      refused_set issue l true p (sym (fit l f)) refl
+      refused_set issue l p (fit l f)
       (sym (first_is (bad_set_at l.table) 0 (length l.table) p (omega arith) (omega arith) (λ j a b. le-ltb all_states (set_in l.table j) (least j b)) (above (bad_set_at l.table p) refl)))
       h
     where

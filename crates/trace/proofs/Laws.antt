@@ -10,20 +10,28 @@ use native.Mathlib.Omega.{arith}
 use borrow.Author.Tests.{ltb-true, ltb-false, lt-ltb, le-ltb, le-leb, leb-true, eqb-true, eq-eqb, ne_eqb, not-true, not-false}
 use lib.Bits.{bit_and}
 use lib.Dec.{eqb, leb, ltb}
-use lib.ListN.{length, get_or, replicate}
+use lib.ListN.{length, get_or, take, drop, length-drop, replicate}
+use lib.Seq.{take_all}
 use Rattle.words.specs.Words.{word, word_of}
 use Rattle.words.proofs.Laws.{powers, masks, each_under}
-use Rattle.kinds.specs.Places.{event_length, most_events, most_pairs, pair_in, event_in}
+use Rattle.kinds.specs.Places.{event_length, most_events, most_pairs}
+use Rattle.kinds.specs.Refusals.{refusal_number}
+use Rattle.kinds.specs.declared.Refusal.{Refusal}
+use Rattle.kinds.proofs.Refusals.{not_accepted}
 use Rattle.kinds.proofs.Lists.{and_left, and_right, and_both}
-use Rattle.event.specs.Refusals.{Issue, fault}
-use Rattle.trace.specs.declared.Outcome.{Outcome}
+use Rattle.event.specs.Refusals.{Issue}
 use Rattle.verdicts.specs.Verdicts.{after_set, verdict, duty_byte}
 use Rattle.trace.specs.Events.{TraceEvent, events_from, run, outputs}
-use Rattle.trace.specs.Lent.{Left, Lent, left, count}
+use Rattle.trace.specs.declared.Refused.{Refused}
+use Rattle.trace.specs.Lent.{Outcome, Left, Lent, in_numbers, left, count}
+use Rattle.std.specs.Prelude.{Some, None, Result, Ok, Err, IsErr}
+use Rattle.std.specs.List.{position, position_or_len}
+use Rattle.std.proofs.lemmas.List.{get_or-drop}
+use Rattle.std.proofs.lemmas.List.Sums.{prefix_len_passes, prefix_len_stops}
 use Rattle.trace.specs.Given.{Fits}
 use Rattle.trace.specs.Judged.{accepts, accepted_left, refused_left, judged}
 use Rattle.trace.specs.Code.{GoodBefore, WholeEvents, AllJudged}
-use Rattle.trace.specs.Refusals.{outcome, lengths_fit, first_from, is_bad_set, lowest_bad_set, fault_at, first_bad_event, by_events, outcome_of}
+use Rattle.trace.specs.Refusals.{outcome, lengths_fit, first_from, is_bad_set, bad_set_at, lowest_bad_set, fault_at, bad_event, first_bad_event, by_events, outcome_of}
 
 -- k below n: one number fewer is left after k
 pub minus_suc : (n k : ℕ) → k < n → n - k ≡ suc (n - suc k)
@@ -86,6 +94,59 @@ good_more table bytes p w g room h k = record { within = omega arith; good = λ 
         let here : p + (q - p) ≡ q = omega arith in
         good_set (get_or table q 0) (subst (λ (i : ℕ). get_or table i 0 < 2 ^ 7) here (low (q - p) (omega arith)))
 
+-- behind the sets that are good, the first bad one is the lowest of the table, and if there is none, all sets are good
+module _ {table : List ℕ} {p : ℕ} (g : GoodBefore table p) where
+  first_behind : (q : ℕ) → p + q ≤ length table → ((i : ℕ) → i < q → bad_set_at table (p + i) ≡ false) → First (bad_set_at table) (length table) (p + q)
+  first_behind q l before = first_from_lem (bad_set_at table) (length table) (p + q) l (λ i m. go i m (ltb i p) refl)
+    where
+      go : (i : ℕ) → i < p + q → (t : Bool) → ltb i p ≡ t → bad_set_at table i ≡ false
+      go i m true e = g.good i (ltb-true i p e)
+      go i m false e =
+          let n : p ≤ i = ltb-false i p e in
+          let here : p + (i - p) ≡ i = omega arith in
+          subst (λ (j : ℕ). bad_set_at table j ≡ false) here (before (i - p) (omega arith))
+
+  -- what the search behind them passes, and where it stops
+  abbrev rest : List ℕ
+  rest = drop p table
+
+  rest_is : take (length table - p) (drop p table) ≡ rest
+  rest_is = take_all (length table - p) (drop p table) (simp length-drop (omega arith))
+
+  abbrev passed : ℕ
+  passed = position_or_len is_bad_set rest
+
+  good_passed : (i : ℕ) → i < passed → bad_set_at table (p + i) ≡ false
+  good_passed i l =
+      ap is_bad_set (sym (get_or-drop p table i 0)) ∙ not-true (is_bad_set (get_or rest i 0)) (prefix_len_passes (λ x. not (is_bad_set x)) rest i 0 l)
+
+  bad_stop : passed < length rest → bad_set_at table (p + passed) ≡ true
+  bad_stop l =
+      ap is_bad_set (sym (get_or-drop p table passed 0)) ∙ not-false (is_bad_set (get_or rest passed 0)) (prefix_len_stops (λ x. not (is_bad_set x)) rest 0 l)
+
+  pub bad_behind : {q : ℕ} → Some q ≡ position is_bad_set (take (length table - p) (drop p table)) → p + q ≡ lowest_bad_set table
+  bad_behind {q} h = go (ltb passed (length rest)) refl (h ∙ ap (position is_bad_set) rest_is)
+    where
+      go : (b : Bool) → ltb passed (length rest) ≡ b → Some q ≡ cond b (Some passed) None → p + q ≡ lowest_bad_set table
+      go false e k = cc
+      go true e k =
+          let l : passed < length rest = ltb-true passed (length rest) e in
+          let m : p + passed < length table = omega (arith, length-drop p table) in
+          let same : q ≡ passed = cc in
+          ap (λ (n : ℕ). p + n) same ∙ first_here (first_behind passed (omega arith) good_passed) m (bad_stop l)
+
+  pub none_behind : None ≡ position is_bad_set (take (length table - p) (drop p table)) → length table ≡ lowest_bad_set table
+  none_behind h = go (ltb passed (length rest)) refl (h ∙ ap (position is_bad_set) rest_is)
+    where
+      go : (b : Bool) → ltb passed (length rest) ≡ b → None ≡ cond b (Some passed) None → length table ≡ lowest_bad_set table
+      go true e k = cc
+      go false e k =
+          let w : p ≤ length table = g.within in
+          let l : length rest ≤ passed = ltb-false passed (length rest) e in
+          let n : length rest ≡ length table - p = length-drop p table in
+          let whole : p + (length table - p) ≡ length table = omega arith in
+          sym whole ∙ first_end (first_behind (length table - p) (omega arith) (λ i j. good_passed i (omega arith))) (omega arith)
+
 -- the test that the lengths fit, and what it means
 module _ (l : Lent) where
   pub fits : lengths_fit l ≡ true → Fits l
@@ -127,25 +188,7 @@ module _ (l : Lent) where
       (eq-eqb (length l.duties) (count l) f.duties_fit))
       (eq-eqb (length l.afters) (count l) f.afters_fit)
 
--- the refusal number of one event, from its parts
-pub fault_chain : (issue : Issue) (events pairs table : List ℕ) (k p : ℕ) (inside : Bool) (e : List ℕ) (f x : ℕ) → p ≡ pair_in pairs k → inside ≡ ltb p (length table)
-    → e ≡ event_in events k → f ≡ fault issue e → x ≡ cond inside f 3 → x ≡ fault_at issue events pairs table k
-unfolding fault_at
-fault_chain issue events pairs table k p inside e f x h₁ h₂ h₃ h₄ h₅ =
-    h₅
-    ∙ ap₂ (λ (b : Bool) (n : ℕ). cond b n 3) (h₂ ∙ ap (λ (n : ℕ). ltb n (length table)) h₁) (h₄ ∙ ap (fault issue) h₃)
-
--- testing the set that was read is testing the set in the table
-pub set_tested : (x n : ℕ) (b found : Bool) → x ≡ n → b ≡ is_bad_set x → b ≡ found → is_bad_set n ≡ found
-set_tested x n b found h k t = ap is_bad_set (sym h) ∙ sym k ∙ t
-
--- an event is bad if its refusal number is not 0
-pub bad : (x n : ℕ) → x ≡ n → (x ≡ 0 → ⊥) → not (eqb n 0) ≡ true
-bad x n h k = ap not (ne_eqb n 0 (λ z. k (h ∙ z)))
-
-pub good : (x n : ℕ) → x ≡ n → x ≡ 0 → not (eqb n 0) ≡ false
-good x n h k = ap not (eq-eqb n 0 (sym h ∙ k))
-
+-- of a trace whose first k events are good, event k is refused or good
 module _ (issue : Issue) (events pairs table : List ℕ) where
   -- the outcome by whether some event is refused
   abbrev choice : Bool → Outcome
@@ -166,6 +209,20 @@ module _ (issue : Issue) (events pairs table : List ℕ) where
   no_event k h l =
       sym (ap choice (ap (λ (i : ℕ). ltb i (length pairs)) (sym h) ∙ le-ltb k (length pairs) l))
 
+  abbrev pub SoFar : ℕ → Type 0
+  SoFar k = First (bad_event issue events pairs table) (length pairs) k
+
+  pub refused_here : {k : ℕ} (r : Refusal) → SoFar k → k < length pairs → refusal_number r ≡ fault_at issue events pairs table k
+      → outcome (refusal_number r) k ≡ by_events issue events pairs table
+  refused_here {k} r f h p =
+      refused_event k (refusal_number r) (first_here f h (ap not (ne_eqb (fault_at issue events pairs table k) 0 (λ z. not_accepted r (p ∙ z))))) h p
+
+  pub good_here : {k : ℕ} → SoFar k → k < length pairs → 0 ≡ fault_at issue events pairs table k → SoFar (k + 1)
+  good_here {k} f h p = first_next f h (ap not (eq-eqb (fault_at issue events pairs table k) 0 (sym p)))
+
+  pub good_all : {k : ℕ} → SoFar k → length pairs ≤ k → outcome 0 (length pairs) ≡ by_events issue events pairs table
+  good_all {k} f h = no_event k (first_end f h) h
+
 module _ (issue : Issue) (l : Lent) where
   -- the outcome from the two tests
   pub by_stages : (fit bad-table : Bool) → lengths_fit l ≡ fit → ltb (lowest_bad_set l.table) (length l.table) ≡ bad-table
@@ -174,39 +231,34 @@ module _ (issue : Issue) (l : Lent) where
   by_stages fit bad-table p q =
       ap₂ (λ (a b : Bool). cond a (cond b (outcome 2 (lowest_bad_set l.table)) (by_events issue l.events l.pairs l.table)) (outcome 1 0)) p q
 
-  pub refused_lengths : (fit : Bool) → fit ≡ lengths_fit l → not fit ≡ true → outcome 1 0 ≡ outcome_of issue l
-  refused_lengths fit h k = sym (by_stages false (ltb (lowest_bad_set l.table) (length l.table)) (sym h ∙ not-true fit k) refl)
+  pub refused_lengths : lengths_fit l ≡ false → outcome 1 0 ≡ outcome_of issue l
+  refused_lengths h = sym (by_stages false (ltb (lowest_bad_set l.table) (length l.table)) h refl)
 
-  pub refused_set : (fit : Bool) (p : ℕ) → fit ≡ lengths_fit l → not fit ≡ false → p ≡ lowest_bad_set l.table → p < length l.table
-      → outcome 2 p ≡ outcome_of issue l
-  refused_set fit p h k q b =
+  pub refused_set : (p : ℕ) → lengths_fit l ≡ true → p ≡ lowest_bad_set l.table → p < length l.table → outcome 2 p ≡ outcome_of issue l
+  refused_set p h q b =
       ap (outcome 2) q
-      ∙ sym (by_stages true true (sym h ∙ not-false fit k) (ap (λ (i : ℕ). ltb i (length l.table)) (sym q) ∙ lt-ltb p (length l.table) b))
+      ∙ sym (by_stages true true h (ap (λ (i : ℕ). ltb i (length l.table)) (sym q) ∙ lt-ltb p (length l.table) b))
 
-  pub left_to_events : (fit : Bool) (p : ℕ) (r : Outcome) → fit ≡ lengths_fit l → not fit ≡ false → p ≡ lowest_bad_set l.table → length l.table ≤ p
+  pub left_to_events : (p : ℕ) (r : Outcome) → lengths_fit l ≡ true → p ≡ lowest_bad_set l.table → length l.table ≤ p
       → r ≡ by_events issue l.events l.pairs l.table → r ≡ outcome_of issue l
-  left_to_events fit p r h k q b e =
+  left_to_events p r h q b e =
       e
-      ∙ sym (by_stages true false (sym h ∙ not-false fit k) (ap (λ (i : ℕ). ltb i (length l.table)) (sym q) ∙ le-ltb p (length l.table) b))
+      ∙ sym (by_stages true false h (ap (λ (i : ℕ). ltb i (length l.table)) (sym q) ∙ le-ltb p (length l.table) b))
 
-  -- if the lengths fit, there are at most 65,536 pairs and at most 4,096 events
-  pub few_sets : (fit-test : Bool) → fit-test ≡ lengths_fit l → not fit-test ≡ false → length l.table ≤ most_pairs
-  few_sets fit-test h k = (fits l (sym h ∙ not-false fit-test k)).few_pairs
-
-  -- and the bytes of every event are all there
-  pub whole_events : (fit-test : Bool) → fit-test ≡ lengths_fit l → not fit-test ≡ false → WholeEvents l.events l.pairs
-  whole_events fit-test h k =
-      let f = fits l (sym h ∙ not-false fit-test k) in
+  -- if the lengths fit, the bytes of every event are all there
+  pub whole_events : lengths_fit l ≡ true → WholeEvents l.events l.pairs
+  whole_events h =
+      let f = fits l h in
       record { few = omega (arith, f.pairs_fit, f.few_events); whole = omega (arith, f.pairs_fit, f.whole) }
 
   -- if a trace is accepted, its lengths fit
-  pub accepted_fits : (outcome_of issue l).refusal.0 ≡ 0 → lengths_fit l ≡ true
+  pub accepted_fits : (outcome_of issue l).number ≡ 0 → lengths_fit l ≡ true
   accepted_fits h = go (lengths_fit l) refl
     where
       go : (b : Bool) → lengths_fit l ≡ b → b ≡ true
       go true k = refl
       go false k =
-          let wrong : ◌≡◌ {A = ℕ} 1 0 = sym (ap (λ (o : Outcome). o.refusal.0) (by_stages false (ltb (lowest_bad_set l.table) (length l.table)) k refl)) ∙ h in
+          let wrong : ◌≡◌ {A = ℕ} 1 0 = sym (ap (λ (o : Outcome). o.number) (by_stages false (ltb (lowest_bad_set l.table) (length l.table)) k refl)) ∙ h in
           absurd (omega arith)
 
   -- what is left of a trace, by whether it is accepted
@@ -214,24 +266,25 @@ module _ (issue : Issue) (l : Lent) where
   left_by b = cond b (accepted_left (outcome_of issue l) l) (refused_left (outcome_of issue l) l)
 
   -- what a refused trace leaves, and what an accepted one leaves
-  pub left_refused : (o : Outcome) → o ≡ outcome_of issue l → (o.refusal.0 ≡ 0 → ⊥) → refused_left o l ≡ judged issue l
+  pub left_refused : (r : Result ℕ Refused) → in_numbers r ≡ outcome_of issue l → IsErr r → refused_left (in_numbers r) l ≡ judged issue l
   unfolding judged accepts
-  left_refused o h k =
+  left_refused (Ok n) h k = cc
+  left_refused (Err r) h k =
       ap (λ (x : Outcome). refused_left x l) h
-      ∙ sym (ap left_by (ne_eqb (outcome_of issue l).refusal.0 0 (λ z. k (ap (λ (x : Outcome). x.refusal.0) h ∙ z))))
+      ∙ sym (ap left_by (ne_eqb (outcome_of issue l).number 0 (λ z. not_accepted r.refusal (ap (λ (x : Outcome). x.number) h ∙ z))))
 
-  pub left_accepted : (o : Outcome) (t v d a : List ℕ) → o ≡ outcome_of issue l → o.refusal.0 ≡ 0 → length l.pairs ≡ count l
-      → AllJudged l.events l.pairs l.table t v d a → left o t v d a ≡ judged issue l
+  pub left_accepted : (n : ℕ) (t v d a : List ℕ) → in_numbers (Ok n) ≡ outcome_of issue l → length l.pairs ≡ count l
+      → AllJudged l.events l.pairs l.table t v d a → left (in_numbers (Ok n)) t v d a ≡ judged issue l
   unfolding judged accepts
-  left_accepted o t v d a h k n all =
-      ap₂ (λ (x y : List ℕ). left o x y d a) all.in_table all.in_verdicts
-      ∙ ap₂ (λ (x y : List ℕ). left o (run l.table whole) (outputs verdict l.table whole) x y) all.in_duties all.in_afters
-      ∙ ap (λ (m : ℕ). after (events_from l.events l.pairs 0 m)) n
+  left_accepted n t v d a h fit all =
+      ap₂ (λ (x y : List ℕ). left (in_numbers (Ok n)) x y d a) all.in_table all.in_verdicts
+      ∙ ap₂ (λ (x y : List ℕ). left (in_numbers (Ok n)) (run l.table whole) (outputs verdict l.table whole) x y) all.in_duties all.in_afters
+      ∙ ap (λ (m : ℕ). after (events_from l.events l.pairs 0 m)) fit
       ∙ ap (λ (x : Outcome). accepted_left x l) h
-      ∙ sym (ap left_by (eq-eqb (outcome_of issue l).refusal.0 0 (ap (λ (x : Outcome). x.refusal.0) (sym h) ∙ k)))
+      ∙ sym (ap left_by (eq-eqb (outcome_of issue l).number 0 (ap (λ (x : Outcome). x.number) (sym h))))
     where
       whole : List TraceEvent
       whole = events_from l.events l.pairs 0 (length l.pairs)
 
       after : List TraceEvent → Left
-      after es = left o (run l.table es) (outputs verdict l.table es) (outputs duty_byte l.table es) (outputs after_set l.table es)
+      after es = left (in_numbers (Ok n)) (run l.table es) (outputs verdict l.table es) (outputs duty_byte l.table es) (outputs after_set l.table es)

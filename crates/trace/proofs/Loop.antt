@@ -12,33 +12,23 @@ use Rattle.kinds.specs.Places.{set_in, pair_in, event_in}
 use Rattle.verdicts.specs.declared.Finding.{Finding}
 use Rattle.verdicts.specs.Verdicts.{after_set, verdict, duty_byte, finding}
 use Rattle.verdicts.specs.Looked.{found_by}
-use Rattle.verdicts.proofs.Looked.{found_finding}
-use Rattle.event.proofs.Ranges.{in_range_lem}
+use Rattle.verdicts.proofs.Looked.{good_finding}
 use Rattle.trace.specs.Events.{event_at, events_from, moved, run, outputs}
-use Rattle.trace.specs.Code.{Ready, Good, OneReady, OnTable, OneJudged, AllJudged}
+use Rattle.trace.specs.Code.{Ready, Good, OneReady, OneJudged, AllJudged}
 use Rattle.trace.proofs.Laws.{minus_suc, minus_end}
 
--- the table has the pair that was read
-pub has_pair_at : {events pairs t : List ℕ} {k p : ℕ} → p ≡ pair_in pairs k → Good events pairs t k → p < length t
-has_pair_at {t = t} h g = subst (λ (n : ℕ). n < length t) (sym h) g.has_pair
-
--- one event on the table, from the parts of its judging
-pub on_table : (events pairs : List ℕ) (k : ℕ) (t t' : List ℕ) (p m : ℕ) (e : List ℕ) (f : Finding) → Good events pairs t k
-    → p ≡ pair_in pairs k → m ≡ set_in t p → e ≡ event_in events k → f ≡ found_by e m → t' ≡ set t p f.after → OnTable events pairs k t f t'
-on_table events pairs k t t' p m e f g h₁ h₂ h₃ h₄ h₅ =
+-- the four buffers after one event, from the parts of its judging
+pub one_judged : {events pairs : List ℕ} {k : ℕ} (t v d a : List ℕ) (p : ℕ) (e : List ℕ) (f : Finding) → Good events pairs t k
+    → p ≡ pair_in pairs k → e ≡ event_in events k → f ≡ found_by e (set_in t p)
+    → OneJudged events pairs k t v d a (set t p f.after) (set v k f.verdict.0) (set d k f.duty.0) (set a k f.after)
+one_judged {events} {pairs} {k} t v d a p e f g h₁ h₂ h₃ =
     let is : f ≡ finding (event_in events k) (set_in t (pair_in pairs k)) =
-    h₄ ∙ ap₂ found_by h₃ (h₂ ∙ ap (set_in t) h₁) ∙ found_finding (event_in events k) (in_range_lem (event_in events k) g.no_fault) (set_in t (pair_in pairs k)) in
-    record { is_found = is; in_table = h₅ ∙ ap₂ (λ (x : ℕ) (g : Finding). set t x g.after) h₁ is }
-
--- the four buffers after one event
-pub one_judged : {events pairs : List ℕ} {k : ℕ} {t : List ℕ} {f : Finding} {t' : List ℕ} (v d a v' d' a' : List ℕ) → OnTable events pairs k t f t'
-    → v' ≡ set v k f.verdict.0 → d' ≡ set d k f.duty.0 → a' ≡ set a k f.after → OneJudged events pairs k t v d a t' v' d' a'
-one_judged {k = k} v d a v' d' a' on h₁ h₂ h₃ =
+    h₃ ∙ ap₂ (λ (x : List ℕ) (y : ℕ). found_by x (set_in t y)) h₂ h₁ ∙ good_finding (event_in events k) (set_in t (pair_in pairs k)) g.no_fault in
     record {
-      in_table = on.in_table;
-      in_verdicts = h₁ ∙ ap (λ (g : Finding). set v k g.verdict.0) on.is_found;
-      in_duties = h₂ ∙ ap (λ (g : Finding). set d k g.duty.0) on.is_found;
-      in_afters = h₃ ∙ ap (λ (g : Finding). set a k g.after) on.is_found;
+      in_table = ap₂ (λ (x : ℕ) (y : Finding). set t x y.after) h₁ is;
+      in_verdicts = ap (λ (y : Finding). set v k y.verdict.0) is;
+      in_duties = ap (λ (y : Finding). set d k y.duty.0) is;
+      in_afters = ap (λ (y : Finding). set a k y.after) is;
     }
 
 -- one output buffer after k events: its first k bytes and the bytes still to come are the whole output

@@ -6,6 +6,7 @@ use mathlib.Core.List.{List}
 use Prim.Native.Nat.{ℕ}
 use native.Mathlib.Omega.{arith}
 use borrow.Author.Tests.{eq-eqb, ne_eqb}
+use lib.ListN.{length}
 use Rattle.kinds.specs.Tests.{◌∈?◌}
 use Rattle.kinds.specs.Places.{event_in}
 use Rattle.rows.specs.Event.{request_of}
@@ -30,13 +31,13 @@ module _ (issue : Issue) (l : Lent) where
       go true h = ap (λ (x : Left). x.outcome) (by_acceptance true h)
       go false h = ap (λ (x : Left). x.outcome) (by_acceptance false h)
 
-  pub judged_accepted : (outcome_of issue l).refusal.0 ≡ 0 → judged issue l ≡ accepted_left (outcome_of issue l) l
+  pub judged_accepted : (outcome_of issue l).number ≡ 0 → judged issue l ≡ accepted_left (outcome_of issue l) l
   unfolding accepts
-  judged_accepted h = by_acceptance true (eq-eqb (outcome_of issue l).refusal.0 0 h)
+  judged_accepted h = by_acceptance true (eq-eqb (outcome_of issue l).number 0 h)
 
-  pub judged_refused : ((outcome_of issue l).refusal.0 ≡ 0 → ⊥) → judged issue l ≡ refused_left (outcome_of issue l) l
+  pub judged_refused : ((outcome_of issue l).number ≡ 0 → ⊥) → judged issue l ≡ refused_left (outcome_of issue l) l
   unfolding accepts
-  judged_refused h = by_acceptance false (ne_eqb (outcome_of issue l).refusal.0 0 h)
+  judged_refused h = by_acceptance false (ne_eqb (outcome_of issue l).number 0 h)
 
   -- number 0 is given only for an accepted trace
   row_0 : {number place : ℕ} → Given issue l number place → number ≡ 0 → GoodSoFar issue l (count l)
@@ -47,8 +48,12 @@ module _ (issue : Issue) (l : Lent) where
   row_0 (bad_byte r a b c) h = absurd (omega arith)
   row_0 (bad_request r a b c d) h = absurd (omega arith)
 
-  pub accepted_good : (outcome_of issue l).refusal.0 ≡ 0 → GoodSoFar issue l (count l)
+  pub accepted_good : (outcome_of issue l).number ≡ 0 → GoodSoFar issue l (count l)
   accepted_good h = row_0 (given issue l) h
+
+  -- an accepted trace has as many pair numbers as events
+  pub accepted_pairs : (outcome_of issue l).number ≡ 0 → length l.pairs ≡ count l
+  accepted_pairs h = (accepted_good h).fits.pairs_fit
 
 -- an event whose bytes are in range and whose request is judged has no fault
 fault_none : (issue : Issue) (e : List ℕ) → below e 1 issue.limits ≡ true → request_of e ∈? issue.requests ≡ true → fault issue e ≡ 0
@@ -56,7 +61,7 @@ unfolding fault
 fault_none issue e h k = ap₂ (λ (a b : Bool). cond a (cond b 0 5) 4) h k
 
 -- no event of an accepted trace is refused, and its output buffers have one byte for each
-pub ready : (l : Lent) → (outcome_of issue_e l).refusal.0 ≡ 0 → Ready l.events l.pairs l.table l.verdicts l.duties l.afters
+pub ready : (l : Lent) → (outcome_of issue_e l).number ≡ 0 → Ready l.events l.pairs l.table l.verdicts l.duties l.afters
 ready l h =
     let g = accepted_good issue_e l h in
     let f = g.fits in

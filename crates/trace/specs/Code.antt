@@ -2,8 +2,7 @@
 use Rattle.std.specs.Prelude.{ℕ, ◌+◌, ◌*◌, ◌<◌, ◌≤◌, ◌≡◌, false, List, length, set}
 use Rattle.kinds.specs.Places.{event_length, most_events, set_in, pair_in, event_in}
 use Rattle.event.specs.Refusals.{issue_e, fault}
-use Rattle.verdicts.specs.Verdicts.{after_set, verdict, duty_byte, finding}
-use Rattle.verdicts.specs.declared.Finding.{Finding}
+use Rattle.verdicts.specs.Verdicts.{after_set, verdict, duty_byte}
 use Rattle.trace.specs.Refusals.{bad_set_at}
 use Rattle.trace.specs.Events.{event_at, events_from, moved, run, outputs}
 
@@ -41,11 +40,6 @@ pub record Ready (events pairs table verdicts duties afters : List ℕ) : Type 0
   pub duties_fit : length duties ≡ length pairs
   pub afters_fit : length afters ≡ length pairs
   pub good : (k : ℕ) → k < length pairs → Good events pairs table k
-
--- event k judged: what is found, and the table after it
-pub record OnTable (events pairs : List ℕ) (k : ℕ) (table : List ℕ) (found : Finding) (table' : List ℕ) : Type 0 where
-  pub is_found : found ≡ finding (event_in events k) (set_in table (pair_in pairs k))
-  pub in_table : table' ≡ moved table (event_at events pairs k)
 
 -- the four buffers after event k: the new table, and one byte in each of the others
 pub record OneJudged (events pairs : List ℕ) (k : ℕ) (table verdicts duties afters table' verdicts' duties' afters' : List ℕ) : Type 0 where

@@ -3,12 +3,11 @@ use Rattle.std.specs.Prelude.{ℕ, zero, suc, ◌%◌, Bool, cond, not, ◌&&◌
 use Rattle.kinds.specs.Codes.{all_states}
 use Rattle.kinds.specs.Places.{event_length, most_events, most_pairs, set_in, pair_in, event_in}
 use Rattle.event.specs.Refusals.{Issue, fault}
-use Rattle.trace.specs.declared.Outcome.{Outcome}
-use Rattle.trace.specs.Lent.{Lent, count}
+use Rattle.trace.specs.Lent.{Lent, Outcome, count}
 
 -- the outcome with this refusal number and this place
 abbrev pub outcome : ℕ → ℕ → Outcome
-outcome number place = record { refusal = record { 0 = number }; place = place }
+outcome number place = record { number = number; place = place }
 
 -- whole events, not too many events or pairs, and the other buffers n long
 unfoldable pub lengths_fit : Lent → Bool

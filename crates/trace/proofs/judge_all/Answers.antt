@@ -1,4 +1,4 @@
--- `trace::judge_all` meets its contract: after k events each buffer holds what those k leave. The measure is what is left of the pair numbers.
+-- `trace::judge_all` meets its contract: after k events each buffer holds what those k leave.
 use Rattle.trace.proofs.Loop.{going_next}
 use Rattle.trace.proofs.judge_all.Goals as goal
 

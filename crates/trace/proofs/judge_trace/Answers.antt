@@ -1,27 +1,26 @@
 -- `trace::judge_trace` meets its contract: refused, nothing is written; accepted, everything is.
-use mathlib.Core.Path.{sym, ◌∙◌, ap}
+use mathlib.Core.Path.{sym, ap}
+use Rattle.std.proofs.Common.{rules}
 use Rattle.event.specs.Refusals.{issue_e}
-use Rattle.trace.specs.declared.Outcome.{Outcome}
-use Rattle.trace.specs.Lent.{lent}
-use Rattle.trace.proofs.Laws.{fits, accepted_fits, left_refused, left_accepted}
-use Rattle.trace.proofs.Whole.{ready}
+use Rattle.trace.specs.Lent.{Lent, Outcome, lent}
+use Rattle.trace.proofs.Laws.{left_refused, left_accepted}
+use Rattle.trace.proofs.Whole.{ready, accepted_pairs}
 use Rattle.trace.proofs.judge_trace.Goals as goal
 
-pub returns-then-refusal : goal.returns-then-refusal
-returns-then-refusal c =
+pub returns-in_err-count : goal.returns-in_err-count
+returns-in_err-count c =
     left_refused issue_e
     (lent c.args.events.now c.args.pairs.now c.args.table.now c.args.verdicts.now c.args.duties.now c.args.afters.now)
-    c.outcome_of-outcome.result c.outcome_of-outcome.ensures c.if-refusal.true
+    c.from_residual.result (search rules) (search rules)
 
 pub judge_all-requires : goal.judge_all-requires
 judge_all-requires c =
     ready
     (lent c.args.events.now c.args.pairs.now c.args.table.now c.args.verdicts.now c.args.duties.now c.args.afters.now)
-    (sym (ap (λ (o : Outcome). o.refusal.0) c.outcome_of-outcome.ensures) ∙ c.if-refusal.false)
+    (sym (ap (λ (o : Outcome). o.number) c.in_ok-count.ensures))
 
 pub returns : goal.returns
 returns c =
-    let given = lent c.args.events.now c.args.pairs.now c.args.table.now c.args.verdicts.now c.args.duties.now c.args.afters.now in
-    left_accepted issue_e given c.outcome_of-outcome.result _ _ _ _ c.outcome_of-outcome.ensures c.if-refusal.false
-    (fits given (accepted_fits issue_e given (sym (ap (λ (o : Outcome). o.refusal.0) c.outcome_of-outcome.ensures) ∙ c.if-refusal.false))).pairs_fit
-    c.judge_all.ensures
+    let l : Lent = lent c.args.events.now c.args.pairs.now c.args.table.now c.args.verdicts.now c.args.duties.now c.args.afters.now in
+    left_accepted issue_e l c.in_ok-count.count _ _ _ _ c.in_ok-count.ensures
+    (accepted_pairs issue_e l (sym (ap (λ (o : Outcome). o.number) c.in_ok-count.ensures))) c.judge_all.ensures

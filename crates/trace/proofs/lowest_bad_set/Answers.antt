@@ -1,17 +1,27 @@
--- `trace::lowest_bad_set` meets its contract: no set before p is bad, from those that `good_sets` found on. The measure is what is left of the table.
-use mathlib.Core.Bool.{false}
-use lib.ListN.{length}
-use Rattle.kinds.specs.Places.{set_in}
-use Rattle.trace.specs.Refusals.{bad_set_at}
-use Rattle.trace.proofs.Laws.{first_from_lem, first_next, set_tested}
+-- `trace::lowest_bad_set` meets its contract: the first bad set behind those that `good_sets` found.
+use Rattle.std.proofs.Common.{◌≡◌, sym, ◌∙◌, ◌-◌, rules, tests, length, take, drop}
+use Rattle.std.proofs.lemmas.Iterator.{YieldsList-from_slice}
+use Rattle.std.proofs.lemmas.Iterator.Search.{position_from_yields_List}
+use Rattle.std.specs.List.{position}
+use Rattle.trace.specs.Refusals.{is_bad_set}
+use Rattle.trace.proofs.Laws.{bad_behind, none_behind}
 use Rattle.trace.proofs.lowest_bad_set.Goals as goal
 
-pub loop-p-init : goal.loop-p-init
-loop-p-init c =
+pub returns-in_err-further-clause-lowest : goal.returns-in_err-further-clause-lowest
+returns-in_err-further-clause-lowest c =
     let table = c.args.table.now in
-    first_from_lem (bad_set_at table) (length table) c.good_sets-p.result c.good_sets-p.ensures.within c.good_sets-p.ensures.good
+    let good = c.good_sets-good.result in
+    let found : c.position.result ≡ position is_bad_set (take (length table - good) (drop good table)) =
+    position_from_yields_List is_bad_set _ _ c.position.result c.position.ensures.ran (YieldsList-from_slice _ c.iter.ensures.rest)
+    (λ x b q k. search (rules, tests)) in
+    let e = none_behind c.good_sets-good.ensures (sym c.in_err-further.was ∙ found) in
+    search rules
 
-pub loop-p-preserved : goal.loop-p-preserved
-loop-p-preserved c =
-    first_next c.loop-p.invariant c.loop-p-test.true
-    (set_tested c.set_in-states.result (set_in c.args.table.now c.loop-p.p) c.bad_set.result false c.set_in-states.ensures c.bad_set.ensures c.if-bad_set.false)
+pub returns-clause-lowest : goal.returns-clause-lowest
+returns-clause-lowest c =
+    let table = c.args.table.now in
+    let good = c.good_sets-good.result in
+    let found : c.position.result ≡ position is_bad_set (take (length table - good) (drop good table)) =
+    position_from_yields_List is_bad_set _ _ c.position.result c.position.ensures.ran (YieldsList-from_slice _ c.iter.ensures.rest)
+    (λ x b q k. search (rules, tests)) in
+    bad_behind c.good_sets-good.ensures (sym c.in_ok-further.was ∙ found)
