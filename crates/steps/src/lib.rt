@@ -64,23 +64,21 @@ fn answer_of(message: u8, resp: u8, state: u8) -> Answer
     }
 }
 
-// The row that a word encodes.
-fn row_of(word: u32) -> Row
-    ensures { result ≡ row_at word }
-{
-    let table = table_of(column(word, printed::TABLE_AT));
-    let before = LineState(column(word, printed::BEFORE_AT));
-    let message = column(word, printed::MESSAGE_AT);
-    let resp = column(word, printed::RESP_AT);
-    let answer = answer_of(message, resp, column(word, printed::FWD_AT));
-    let finals = (word % printed::MARK) as u8;
-    Row {
-        table,
-        before,
-        ret: column(word, printed::RET_AT),
-        answer,
-        finals,
-        marked: word / printed::MARK % 2 == 1,
+impl From<u32> for Row {
+    ghost from_gives = { λ word row. row ≡ row_at word };
+
+    // The row that a word encodes.
+    fn from(word: u32) -> Row {
+        let message = column(word, printed::MESSAGE_AT);
+        let resp = column(word, printed::RESP_AT);
+        Row {
+            table: table_of(column(word, printed::TABLE_AT)),
+            before: LineState(column(word, printed::BEFORE_AT)),
+            ret: column(word, printed::RET_AT),
+            answer: answer_of(message, resp, column(word, printed::FWD_AT)),
+            finals: (word % printed::MARK) as u8,
+            marked: word / printed::MARK % 2 == 1,
+        }
     }
 }
 
@@ -88,32 +86,32 @@ fn row_of(word: u32) -> Row
 fn row_fits(e: &[u8; EVENT_BYTES], row: Row) -> bool
     ensures { result ≡ row_fits e.now row }
 {
-    let table = row.table;
-    if !rows::asked(e, table, row.ret, row.marked) {
-        return false;
-    }
-    let before = row.before;
-    let answer = row.answer;
-    rows::answered(e, table, answer) & rows::some_tag(e, table, before, answer)
+    rows::asked(e, row.table, row.ret, row.marked)
+        && rows::answered(e, row.table, row.answer)
+        && rows::some_tag(e, row.table, row.before, row.answer)
 }
 
 // The states that the row adds to the set of its state before.
 fn row_adds(e: &[u8; EVENT_BYTES], among: u8, row: Row) -> u8
     ensures { result ≡ row_adds e.now among row }
 {
-    kinds::choose_byte(row_fits(e, row), row.finals & among, 0)
+    if row_fits(e, row) {
+        row.finals & among
+    } else {
+        0
+    }
 }
 
 // The sets of possible states after by byte 13, two digits each from the right: each state by itself, and all seven for not seen.
+// Stays: an array of eight sets is too slow in lookup::seen_after, since a constant array is laid out on the stack in each call.
 const SEEN_STATES: u64 = 0x7F_40_20_10_08_04_02_01;
 
 // The states after that the event may have, as a set: the one that was seen, or all if none was seen.
 pub fn seen_states(shown: LineState) -> u8
     ensures { result ≡ set_of (seen state_not_seen shown.0) }
 {
-    let at = shown.0;
-    if at < 8 {
-        ((SEEN_STATES >> (at as u64 * 8)) % 256) as u8
+    if shown.0 < 8 {
+        ((SEEN_STATES >> (shown.0 as u64 * 8)) % 256) as u8
     } else {
         0
     }
@@ -123,33 +121,34 @@ pub fn seen_states(shown: LineState) -> u8
 fn event_bytes(event: &[u8]) -> [u8; EVENT_BYTES]
     ensures { result ≡ event_bytes event.now }
 {
-    let mut bytes = [0u8; EVENT_BYTES];
-    let mut i: usize = 0;
-    while i < EVENT_BYTES {
-        let byte = rows::byte_at(event, i);
-        bytes[i] = byte;
-        i += 1;
-    }
-    bytes
+    std::array::from_fn(|i| rows::byte_at(event, i))
 }
 
 // The key's table part: the table's number halved. B4.46 and B4.57 share a value, and so do B4.59 and B4.60, SnpUnique and
 // SnpCleanInvalid, SnpMakeInvalid and NDERR.
-fn tables_of(request: u8, error: u8) -> u8
-    ensures { result ≡ tables_of request error }
+fn tables_of(request: Request, error: RespErr) -> u8
+    ensures { result ≡ tables_of request.0 error.0 }
 {
-    let either = (request == Request::SNP_UNIQUE.0) | (request == Request::SNP_CLEAN_INVALID.0);
-    let last = (error == RespErr::NDERR.0) | (request == Request::SNP_MAKE_INVALID.0);
-    let printed = kinds::choose_byte(request == Request::SNP_PREFER_UNIQUE_FWD.0, 1, 0);
-    kinds::choose_byte(last, 3, kinds::choose_byte(either, 2, printed))
+    if error == RespErr::NDERR {
+        return 3;
+    }
+    match request {
+        Request::SNP_MAKE_INVALID => 3,
+        Request::SNP_UNIQUE | Request::SNP_CLEAN_INVALID => 2,
+        Request::SNP_PREFER_UNIQUE_FWD => 1,
+        _ => 0,
+    }
 }
 
 // The key's message part.
-fn message_of(channel: u8, opcode: u8) -> u8
-    ensures { result ≡ message_of channel opcode }
+fn message_of(channel: Channel, opcode: Opcode) -> u8
+    ensures { result ≡ message_of channel.0 opcode.0 }
 {
-    let data = kinds::choose_byte(opcode == Opcode::SNP_RESP_DATA_PTL.0, 2, 1);
-    kinds::choose_byte(channel == Channel::RSP.0, 0, data)
+    match (channel, opcode) {
+        (Channel::RSP, _) => 0,
+        (_, Opcode::SNP_RESP_DATA_PTL) => 2,
+        _ => 1,
+    }
 }
 
 // The key of a row: the upper bits of its word, from KEY_AT on.
@@ -166,8 +165,8 @@ fn row_key(tables: u8, message: u8, resp: u8, forward: u8) -> u32
 fn event_key(e: &[u8; EVENT_BYTES]) -> u32
     ensures { result ≡ event_key e.now }
 {
-    let tables = tables_of(e[place::REQUEST], e[place::RESP_ERR]);
-    let message = message_of(e[place::CHANNEL], e[place::OPCODE]);
+    let tables = tables_of(Request(e[place::REQUEST]), RespErr(e[place::RESP_ERR]));
+    let message = message_of(Channel(e[place::CHANNEL]), Opcode(e[place::OPCODE]));
     row_key(tables, message, e[place::RESP], e[place::FWD_STATE])
 }
 
@@ -178,20 +177,12 @@ pub fn sets_after(event: &[u8]) -> [u8; 7]
     let e = event_bytes(event);
     let among = seen_states(LineState(e[place::STATE_AFTER]));
     let key = event_key(&e);
-    let rows = printed::ROWS;
     let mut sets = [0u8; 7];
-    let mut i: usize = 0;
-    while i < printed::ROW_COUNT {
-        let word = rows[i];
-        if word >> printed::KEY_AT != key {
-            i += 1;
-            continue;
+    for &word in printed::ROWS.iter() {
+        if word >> printed::KEY_AT == key {
+            let row = Row::from(word);
+            sets[row.before.0 as usize] |= row_adds(&e, among, row);
         }
-        let row = row_of(word);
-        let at = row.before.0 as usize;
-        let added = row_adds(&e, among, row);
-        sets[at] = sets[at] | added;
-        i += 1;
     }
     sets
 }
@@ -200,15 +191,18 @@ pub fn sets_after(event: &[u8]) -> [u8; 7]
 pub fn duty(event: &[u8], before: u8) -> Duty
     ensures { result.0 ≡ duty event.now before }
 {
-    let to_home = Resp(rows::byte_at(event, place::RESP)).passes_dirty();
-    let to_requester = FwdState(rows::byte_at(event, place::FWD_STATE)).passes_dirty();
-    let request = rows::byte_at(event, place::REQUEST);
-    let error = rows::byte_at(event, place::RESP_ERR);
+    let request = Request(rows::byte_at(event, place::REQUEST));
+    let error = RespErr(rows::byte_at(event, place::RESP_ERR));
     let held = sets::holds_dirty(before);
-    let lost = (error == RespErr::NDERR.0) & held;
-    let discards = (request == Request::SNP_MAKE_INVALID.0) & (error == RespErr::OK.0);
-    let else_discarded = kinds::choose_byte(discards & held, Duty::DISCARDED.0, Duty::NONE.0);
-    let else_lost = kinds::choose_byte(lost, Duty::LOST.0, else_discarded);
-    let else_requester = kinds::choose_byte(to_requester, Duty::REQUESTER.0, else_lost);
-    Duty(kinds::choose_byte(to_home, Duty::HOME.0, else_requester))
+    if Resp(rows::byte_at(event, place::RESP)).passes_dirty() {
+        Duty::HOME
+    } else if FwdState(rows::byte_at(event, place::FWD_STATE)).passes_dirty() {
+        Duty::REQUESTER
+    } else if error == RespErr::NDERR && held {
+        Duty::LOST
+    } else if request == Request::SNP_MAKE_INVALID && error == RespErr::OK && held {
+        Duty::DISCARDED
+    } else {
+        Duty::NONE
+    }
 }

@@ -1,13 +1,12 @@
--- `steps::event_bytes` meets its contract. The invariant: the first `i` bytes are read, and there is room for all. The measure is the bytes that are left.
-use mathlib.Core.Path.{◌∙◌}
-use native.Mathlib.Omega.{arith}
-use lib.ListN.{length-set}
-use Rattle.steps.proofs.Laws.{bytes_turn}
+-- `steps::event_bytes` meets its contract: each of the 15 is the event's byte of that number.
+use Rattle.std.proofs.Common.{rules, arith}
+use borrow.Author.Tests.{tests}
+use Rattle.std.proofs.lemmas.List.FromFn.{fill_by_all}
+use Rattle.rows.specs.Event.{byte}
+use Rattle.steps.proofs.Laws.{made_by}
 use Rattle.steps.proofs.event_bytes.Goals as goal
 
-pub loop-i-preserved : goal.loop-i-preserved
-loop-i-preserved c = (
-  omega arith,
-  length-set c.loop-i.bytes c.loop-i.i c.byte_at-byte.result ∙ c.loop-i.invariant.1,
-  bytes_turn c.args.event.now c.loop-i.bytes c.loop-i.i c.byte_at-byte.result (omega arith) c.byte_at-byte.ensures c.loop-i.invariant.2,
-)
+pub returns : goal.returns
+returns c =
+    fill_by_all (byte c.args.event.now) c.from_fn.result 15 0 c.from_fn.ensures.items.long
+    (λ k h. made_by _ _ (byte c.args.event.now) (λ i y q called. search (rules, tests)) c.from_fn.result 0 15 c.from_fn.ensures.items.each k (omega arith) h)
