@@ -1,6 +1,6 @@
 -- The number of a call is the row of the table that is given, both ways; and what is left then.
 -- Assumes nothing.
-use mathlib.Core.Path.{◌≡◌, refl, sym, ◌∙◌, ap, ap₂, subst}
+use mathlib.Core.Path.{◌≡◌, refl, sym, ◌∙◌, ap, subst}
 use mathlib.Core.Bool.{Bool, true, false, cond}
 use mathlib.Core.List.{List}
 use Prim.Native.Nat.{ℕ, ◌*◌, ◌%◌, ◌<◌, ◌≤◌}
@@ -10,21 +10,15 @@ use lib.Dec.{eqb, leb}
 use lib.ListN.{length}
 use Rattle.kinds.specs.Tests.{all, ◌∈?◌}
 use Rattle.rows.specs.Event.{request_of}
-use Rattle.event.specs.Refusals.{issue_e, below, fault}
+use Rattle.event.specs.Refusals.{issue_e, below}
 use Rattle.answers.specs.declared.Question.{Question}
 use Rattle.answers.specs.Answers.{question_bytes, answers_to}
 use Rattle.answers.specs.Listed.{answer_length, most_answers, asking, fault_of, ListLeft, accepted_list, refused_list, listed}
 use Rattle.answers.specs.Given.{Good, Given, bad_byte, bad_request, short_room, accepted}
-use Rattle.answers.specs.Table.{spans}
 use Rattle.answers.specs.Code.{span_of}
+use Rattle.answers.proofs.Laws.{fault_tests}
 use Rattle.answers.proofs.Lists.{questions, question_at, every_question}
 use Rattle.answers.proofs.Whole.{list_length, left_fault, left_short, left_accepted}
-
--- the refusal by the two tests of a question
-fault_tests : (q : Question) (b r : Bool) → below (question_bytes q) 1 (asking issue_e).limits ≡ b → request_of (question_bytes q) ∈? issue_e.requests ≡ r
-    → fault_of issue_e q ≡ cond b (cond r 0 5) 4
-unfolding fault
-fault_tests q b r hb hr = ap₂ (λ (x y : Bool). cond x (cond y 0 5) 4) hb hr
 
 -- a good question is not refused with 4 or 5
 pub good_fault : (q : Question) → Good issue_e q → fault_of issue_e q ≡ 0
@@ -49,11 +43,11 @@ leaves {q} {room} (short_room g l) = left_short q room (good_fault q g) l
 leaves {q} {room} (accepted g l) = left_accepted q room (good_fault q g) l
 
 -- the number that is left is the row's
-pub gives : {q : Question} {room : List ℕ} {n : ℕ} → Given issue_e q room n → (listed issue_e q room).result.refusal.0 ≡ n
-gives (bad_byte h) = ap (λ (l : ListLeft). l.result.refusal.0) (leaves (bad_byte h))
-gives (bad_request h k) = ap (λ (l : ListLeft). l.result.refusal.0) (leaves (bad_request h k))
-gives (short_room g l) = ap (λ (l : ListLeft). l.result.refusal.0) (leaves (short_room g l))
-gives (accepted g l) = ap (λ (l : ListLeft). l.result.refusal.0) (leaves (accepted g l))
+pub gives : {q : Question} {room : List ℕ} {n : ℕ} → Given issue_e q room n → (listed issue_e q room).result.number ≡ n
+gives (bad_byte h) = ap (λ (l : ListLeft). l.result.number) (leaves (bad_byte h))
+gives (bad_request h k) = ap (λ (l : ListLeft). l.result.number) (leaves (bad_request h k))
+gives (short_room g l) = ap (λ (l : ListLeft). l.result.number) (leaves (short_room g l))
+gives (accepted g l) = ap (λ (l : ListLeft). l.result.number) (leaves (accepted g l))
 
 -- every call has a row
 record SomeRow (q : Question) (room : List ℕ) : Type 0 where
@@ -72,7 +66,7 @@ some_row q room =
     go true true true hb hr he = record { number = 0; row = accepted (record { in_range = hb; known = hr }) (leb-true _ _ he) }
     go true true false hb hr he = record { number = 9; row = short_room (record { in_range = hb; known = hr }) (leb-false _ _ he) }
 
-pub given : (q : Question) (room : List ℕ) → Given issue_e q room (listed issue_e q room).result.refusal.0
+pub given : (q : Question) (room : List ℕ) → Given issue_e q room (listed issue_e q room).result.number
 given q room = let s = some_row q room in subst (Given issue_e q room) (sym (gives s.row)) s.row
 
 -- no list is longer than `most_answers`
@@ -80,7 +74,7 @@ short : Question → Bool
 short q = leb (span_of q % 64) most_answers
 
 all_short : all (λ b. short (question_at b)) questions ≡ true
-unfolding short questions span_of spans
+unfolding short questions span_of
 all_short = refl
 
 pub most : (q : Question) → Good issue_e q → length (answers_to issue_e q) ≤ most_answers
@@ -91,7 +85,7 @@ most q g =
 
 -- whatever is asked and lent: the number is small, the place is 0, and the count is at most `most_answers`
 pub record Small (l : ListLeft) : Type 0 where
-  pub number : l.result.refusal.0 < 256
+  pub number : l.result.number < 256
   pub place : l.result.place ≡ 0
   pub count : l.result.count ≤ most_answers
 

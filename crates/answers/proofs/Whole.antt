@@ -1,37 +1,60 @@
 -- What a call of `list_answers` leaves, refused and accepted.
 -- Assumes nothing.
 use mathlib.Core.Path.{◌≡◌, refl, sym, ◌∙◌, ap, ap₂, subst}
-use mathlib.Core.Bool.{Bool, true, cond}
-use mathlib.Core.List.{List, ◌++◌}
+use mathlib.Core.Bool.{Bool, true, cond, ◌&&◌}
+use mathlib.Core.List.{List, ◌++◌, map}
 use Prim.Native.Nat.{ℕ, ◌+◌, ◌*◌, ◌/◌, ◌%◌, ◌<◌, ◌≤◌}
 use native.Mathlib.Omega.{arith}
-use borrow.Author.Tests.{eq-eqb, ne_eqb, le-leb, lt-leb, leb-true}
-use lib.Dec.{leb}
-use lib.ListN.{length, drop}
+use borrow.Author.Tests.{eq-eqb, ne_eqb, le-leb, lt-leb, leb-true, ltb-true}
+use lib.Dec.{leb, ltb}
+use lib.ListN.{length, take, drop, length-map}
+use Rattle.std.specs.Prelude.{Ok, Err}
 use Rattle.kinds.specs.Tests.{all}
 use Rattle.kinds.specs.declared.Refusal.{Refusal}
+use Rattle.kinds.specs.declared.Refusal.TheVariants.{Room}
+use Rattle.kinds.specs.Refusals.{refusal_number}
+use Rattle.kinds.proofs.Refusals.{not_accepted}
+use Rattle.kinds.proofs.Lists.{and_left, and_right}
 use Rattle.event.specs.Refusals.{issue_e}
 use Rattle.answers.specs.declared.Question.{Question}
 use Rattle.answers.specs.Answers.{answers_to}
-use Rattle.answers.specs.Listed.{answer_length, fault_of, joined, list_left, result, accepted_list, refused_list, listed_in, listed}
-use Rattle.answers.specs.Table.{spans, numbers, number_count}
-use Rattle.answers.specs.Code.{span_of, answers_at, answers_in}
+use Rattle.answers.specs.Listed.{answer_length, fault_of, joined, in_numbers, list_left, result, accepted_list, refused_list, listed_in, listed}
+use Rattle.answers.specs.declared.table.TheConstants.{LISTS, SPANS, NUMBERS}
+use Rattle.answers.specs.Code.{context_of, list_at, span_of, answer_at, answers_in}
 use Rattle.answers.proofs.Lists.{questions, question_at, every_question, table_right}
-use Rattle.answers.proofs.Laws.{numbers_length, answers_length}
+use Rattle.answers.proofs.Laws.{answers_length}
+
+-- the context of a question lies within the lists, its list within the spans
+in_tables_lem : Question → Bool
+in_tables_lem q = ltb (context_of q) (length LISTS) && ltb (list_at (context_of q)) (length SPANS)
+
+all_in_tables : all (λ b. in_tables_lem (question_at b)) questions ≡ true
+unfolding in_tables_lem questions
+all_in_tables = refl
+
+in_tables : (q : Question) → fault_of issue_e q ≡ 0 → in_tables_lem q ≡ true
+in_tables = every_question in_tables_lem all_in_tables
+
+pub in_lists : (q : Question) → fault_of issue_e q ≡ 0 → context_of q < length LISTS
+unfolding in_tables_lem
+in_lists q h = ltb-true _ _ (and_left (ltb (context_of q) (length LISTS)) (ltb (list_at (context_of q)) (length SPANS)) (in_tables q h))
+
+pub in_spans : (q : Question) → fault_of issue_e q ≡ 0 → list_at (context_of q) < length SPANS
+unfolding in_tables_lem
+in_spans q h = ltb-true _ _ (and_right (ltb (context_of q) (length LISTS)) (ltb (list_at (context_of q)) (length SPANS)) (in_tables q h))
 
 -- a span lies within the numbers
 span_fits_lem : Question → Bool
-span_fits_lem q = leb (span_of q / 64 + span_of q % 64) number_count
+span_fits_lem q = leb (span_of q / 64 + span_of q % 64) (length NUMBERS)
 
 all_fit : all (λ b. span_fits_lem (question_at b)) questions ≡ true
-unfolding span_fits_lem questions span_of spans
+unfolding span_fits_lem questions span_of
 all_fit = refl
 
-pub span_fits : (q : Question) → fault_of issue_e q ≡ 0 → span_of q / 64 + span_of q % 64 ≤ length numbers
+pub span_fits : (q : Question) → fault_of issue_e q ≡ 0 → span_of q / 64 + span_of q % 64 ≤ length NUMBERS
 unfolding span_fits_lem
 span_fits q h =
-    subst (λ (n : ℕ). span_of q / 64 + span_of q % 64 ≤ n) (sym numbers_length)
-    (leb-true (span_of q / 64 + span_of q % 64) number_count (every_question span_fits_lem all_fit q h))
+    leb-true (span_of q / 64 + span_of q % 64) (length NUMBERS) (every_question span_fits_lem all_fit q h)
 
 -- the number of answers is told by the span
 pub list_length : (q : Question) → fault_of issue_e q ≡ 0 → length (answers_to issue_e q) ≡ span_of q % 64
@@ -59,25 +82,25 @@ left_accepted q room h l =
     ∙ ap (λ (b : Bool). cond b (accepted_list (answers_to issue_e q) room) (refused_list 9 room)) (le-leb (answer_length * length (answers_to issue_e q)) (length room) l)
 
 -- the three ways out of `list_answers`
-pub refused_question : (q : Question) (room : List ℕ) (r : Refusal) → r.0 ≡ fault_of issue_e q → (r.0 ≡ 0 → ⊥)
-    → list_left (record { refusal = r; place = 0; count = 0 }) room ≡ listed issue_e q room
-refused_question q room r h k = ap (λ (n : ℕ). list_left (result n 0 0) room) h ∙ sym (left_fault q room (λ z. k (h ∙ z)))
+pub refused_question : (q : Question) (room : List ℕ) (r : Refusal) → refusal_number r ≡ fault_of issue_e q → list_left (in_numbers (Err r)) room ≡ listed issue_e q room
+refused_question q room r h = ap (λ (n : ℕ). list_left (result n 0 0) room) h ∙ sym (left_fault q room (λ z. not_accepted r (h ∙ z)))
 
-module _ (q : Question) (room : List ℕ) (r : Refusal) (span : ℕ) (h : r.0 ≡ fault_of issue_e q) (ok : r.0 ≡ 0) (s : span ≡ span_of q) where
+module _ (q : Question) (room : List ℕ) (span : ℕ) (ok : fault_of issue_e q ≡ 0) (s : span ≡ span_of q) where
   counted : length (answers_to issue_e q) ≡ span % 64
-  counted = list_length q (sym h ∙ ok) ∙ ap (λ (n : ℕ). n % 64) (sym s)
+  counted = list_length q ok ∙ ap (λ (n : ℕ). n % 64) (sym s)
 
-  pub short_room : length room < span % 64 * answer_length → list_left (result 9 0 0) room ≡ listed issue_e q room
-  short_room l = sym (left_short q room (sym h ∙ ok) (omega (arith, counted)))
+  pub short_room : length room < span % 64 * answer_length → list_left (in_numbers (Err Room)) room ≡ listed issue_e q room
+  short_room l = sym (left_short q room ok (omega (arith, counted)))
 
-  pub fitting : span / 64 + span % 64 ≤ length numbers
-  fitting = subst (λ (n : ℕ). n / 64 + n % 64 ≤ length numbers) (sym s) (span_fits q (sym h ∙ ok))
+  pub fitting : span / 64 + span % 64 ≤ length NUMBERS
+  fitting = subst (λ (n : ℕ). n / 64 + n % 64 ≤ length NUMBERS) (sym s) (span_fits q ok)
 
-  pub accepted_question : (room' : List ℕ) → span % 64 * answer_length ≤ length room → room' ≡ joined (answers_at (span / 64) (span % 64)) ++ drop (answer_length * (span % 64)) room
-      → list_left (record { refusal = r; place = 0; count = span % 64 }) room' ≡ listed issue_e q room
+  pub accepted_question : (ns room' : List ℕ) → span % 64 * answer_length ≤ length room → ns ≡ take (span % 64) (drop (span / 64) NUMBERS)
+      → room' ≡ joined (map answer_at ns) ++ drop (answer_length * length ns) room → list_left (in_numbers (Ok (span % 64))) room' ≡ listed issue_e q room
   unfolding answers_in
-  accepted_question room' l put =
-      ap₂ (λ (n : ℕ) (x : List ℕ). list_left (result n 0 (span % 64)) x) ok put
-      ∙ ap₂ (λ (ls : List (List ℕ)) (n : ℕ). list_left (result 0 0 n) (joined ls ++ drop (answer_length * n) room))
-      (ap answers_in s ∙ table_right q (sym h ∙ ok)) (sym counted)
-      ∙ sym (left_accepted q room (sym h ∙ ok) (omega (arith, counted)))
+  accepted_question ns room' l n put =
+      let these : map answer_at ns ≡ answers_to issue_e q = ap (map answer_at) n ∙ ap answers_in s ∙ table_right q ok in
+      let many : length ns ≡ length (answers_to issue_e q) = sym (length-map ns answer_at) ∙ ap length these in
+      ap₂ (λ (m : ℕ) (x : List ℕ). list_left (result 0 0 m) x) (sym counted) put
+      ∙ ap₂ (λ (ls : List (List ℕ)) (m : ℕ). list_left (result 0 0 (length (answers_to issue_e q))) (joined ls ++ drop (answer_length * m) room)) these many
+      ∙ sym (left_accepted q room ok (omega (arith, counted)))

@@ -1,8 +1,9 @@
 -- The whole answer to a question, whatever is asked and lent: number, place, count, and every byte of the room (definition 11.4, 11.5).
-use Rattle.std.specs.Prelude.{ℕ, ◌*◌, Bool, cond, List, [], ◌∷◌, ◌++◌, eqb, leb, length, take, drop}
+use Rattle.std.specs.Prelude.{ℕ, ◌*◌, cond, List, [], ◌∷◌, ◌++◌, Result, Ok, Err, eqb, leb, length, take, drop}
+use Rattle.kinds.specs.declared.Refusal.{Refusal}
+use Rattle.kinds.specs.Refusals.{refusal_number}
 use Rattle.event.specs.Refusals.{Issue, fault}
 use Rattle.answers.specs.declared.Question.{Question}
-use Rattle.answers.specs.declared.Listed.{Listed}
 use Rattle.answers.specs.Answers.{question_bytes, answers_to}
 
 -- the length of an answer in bytes
@@ -26,6 +27,12 @@ abbrev pub joined : List (List ℕ) → List ℕ
 joined [] = []
 joined (l ∷ ls) = l ++ joined ls
 
+-- the result of a call: a refusal number, its place, and the number of answers that were put into the room (definition 11.4)
+pub record Listed : Type 0 where
+  pub number : ℕ
+  pub place : ℕ
+  pub count : ℕ
+
 -- the result, and the room as it is left
 pub record ListLeft : Type 0 where
   pub result : Listed
@@ -36,7 +43,13 @@ list_left result room = record { result = result; room = room }
 
 -- a result: number, place, count
 abbrev pub result : ℕ → ℕ → ℕ → Listed
-result number place count = record { refusal = record { 0 = number }; place = place; count = count }
+result number place count = record { number = number; place = place; count = count }
+
+-- THE CALL'S RESULT IN NUMBERS: of an accepted question the count of its answers, of a refused one the refusal's number; the place is 0.
+-- No two results have the same numbers.
+abbrev pub in_numbers : Result ℕ Refusal → Listed
+in_numbers (Ok count) = result 0 0 count
+in_numbers (Err refusal) = result (refusal_number refusal) 0 0
 
 -- an accepted question: the answers stand at the front of the room, and the bytes behind them are as they were
 abbrev pub accepted_list : List (List ℕ) → List ℕ → ListLeft

