@@ -16,7 +16,7 @@ const HALF: u64 = 1 << 32;
 const GATHER: u64 = (1 << 3) + (1 << 10) + (1 << 17) + (1 << 24);
 
 // What the rows say of an event, a byte each, the lowest first: the states before from which it is a step, the states after, the duty.
-#[derive(Clone, Copy)]
+#[derive(Clone, Copy, PartialEq, Eq)]
 pub struct Effect(pub u64);
 
 impl Effect {
@@ -24,25 +24,26 @@ impl Effect {
     pub fn from(self) -> u8
         ensures { result ≡ from self.0 }
     {
-        (self.0 % 256) as u8
+        self.0.to_le_bytes()[0]
     }
 
     // The states after, as a set; the same from every state before.
     pub fn to(self) -> u8
         ensures { result ≡ to self.0 }
     {
-        ((self.0 >> 8) % 256) as u8
+        self.0.to_le_bytes()[1]
     }
 
     // The duty byte that the event tells.
     pub fn told(self) -> u8
         ensures { result ≡ told self.0 }
     {
-        ((self.0 >> 16) % 256) as u8
+        self.0.to_le_bytes()[2]
     }
 }
 
 // The kind of a packed answer; 0 if no row has the answer.
+// Stays: an Option is no plainer, since the tables have kind 0 too, with no state before, and None would become 0 at once.
 fn kind_of(answer: u64) -> u64
     ensures { result ≡ kind_of answer }
 {
@@ -74,13 +75,13 @@ fn choice_of(kind: u64, flags: u64) -> u64
 }
 
 // The effect, by request, flags of the snoop and packed answer.
-fn look_up(request: u8, flags: u64, answer: u64) -> u64
-    ensures { result ≡ looked_up request flags answer }
+fn look_up(request: u8, flags: u64, answer: u64) -> Effect
+    ensures { result.0 ≡ looked_up request flags answer }
 {
     let kind = kind_of(answer) % 32;
     let entry = entry_of(request, kind);
     let choice = choice_of(kind, flags);
-    (entry >> (choice * 8)) % 256 + (entry >> 32) * 256
+    Effect((entry >> (choice * 8)) % 256 + (entry >> 32) * 256)
 }
 
 // The answer's nine bytes packed into 32 bits, where no field in range meets another.
@@ -93,13 +94,14 @@ fn packed(event: &[u8]) -> u64
     first + last * 32 + on_forward * 2
 }
 
-// The effect of an event.
+// The effect of an event. It is always inlined, so that the event's length is tested once wherever it is called.
+#[inline(always)]
 pub fn effect_of(event: &[u8]) -> Effect
     ensures { result.0 ≡ effect_of event.now }
 {
     let request = rows::byte_at(event, place::REQUEST);
     let flags = words::half_at(event, place::RET_TO_SRC);
-    Effect(look_up(request, flags, packed(event)))
+    look_up(request, flags, packed(event))
 }
 
 // An effect spread over the seven states before: its states after, as far as they were seen, from each state that it has.
@@ -131,8 +133,5 @@ pub fn seen_after(event: &[u8]) -> u8
 pub fn sets_after(event: &[u8]) -> [u8; 7]
     ensures { result ≡ looked_sets event.now }
 {
-    let request = rows::byte_at(event, place::REQUEST);
-    let flags = words::half_at(event, place::RET_TO_SRC);
-    let effect = Effect(look_up(request, flags, packed(event)));
-    spread(effect, seen_after(event))
+    spread(effect_of(event), seen_after(event))
 }

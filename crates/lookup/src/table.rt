@@ -1,18 +1,9 @@
 // What the rows say, as the judge looks it up. scripts/lookup-tables writes this file from the printed rows.
 ghost use Rattle.std.specs.Prelude.{◌≡◌, get_or};
-ghost use Rattle.kinds.specs.Tests.{beyond, beside};
 ghost use Rattle.lookup.specs.Table.{slots, starts, choices, entries};
 
 // What spreads the packed answers over the slots, each in its own.
 pub const FACTOR: u64 = 3362128852;
-
-// The number for an entry that the table does not have: 0.
-fn past_slot(n: u64) -> u64
-    requires { beside n 256 256 }
-    ensures { result ≡ get_or slots n 0 }
-{
-    0
-}
 
 // The answers of the rows by slot, from 256 on: the lower 32 bits are the packed answer, those above its kind; 0 if empty.
 pub fn slot(n: u64) -> u64
@@ -382,16 +373,8 @@ pub fn slot(n: u64) -> u64
         510 => 0x0f21210601,
         // SnpRespData_I_Fwded_SD_PD, Transfer, OK, OK
         511 => 0x1ae7200621,
-        _ => past_slot(n),
+        _ => 0,
     }
-}
-
-// The number for an entry that the table does not have: 0.
-fn past_start(n: u64) -> u64
-    requires { beyond n 32 }
-    ensures { result ≡ get_or starts n 0 }
-{
-    0
 }
 
 // Where the entries of a request start, by the request: requests with the same rows share them, and 448 is for none of the ten.
@@ -431,16 +414,8 @@ pub fn start(n: u64) -> u64
         29 => 448,
         30 => 448,
         31 => 448,
-        _ => past_start(n),
+        _ => 0,
     }
-}
-
-// The number for an entry that the table does not have: 0.
-fn past_choice(n: u64) -> u64
-    requires { beyond n 32 }
-    ensures { result ≡ get_or choices n 0 }
-{
-    0
 }
 
 // By the kind of an answer, two bits for each context: which of the three sets of states before holds.
@@ -509,16 +484,8 @@ pub fn choice(n: u64) -> u64
         29 => 0x1111000011111111,
         30 => 0,
         31 => 0,
-        _ => past_choice(n),
+        _ => 0,
     }
-}
-
-// The number for an entry that the table does not have: 0.
-fn past_entry(n: u64) -> u64
-    requires { beside n 256 256 }
-    ensures { result ≡ get_or entries n 0 }
-{
-    0
 }
 
 // By request and kind of answer, from 256 on, a byte each: three sets of states before, 0, the set of states after, the duty.
@@ -839,6 +806,6 @@ pub fn entry(n: u64) -> u64
         509 => 0,
         510 => 0,
         511 => 0,
-        _ => past_entry(n),
+        _ => 0,
     }
 }
