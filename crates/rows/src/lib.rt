@@ -81,13 +81,7 @@ impl Table {
     {
         match self {
             Table::B60 => 0,
-            Table::B46
-            | Table::B57
-            | Table::B59
-            | Table::Unique
-            | Table::CleanInvalid
-            | Table::MakeInvalid
-            | Table::NdErr => X,
+            _ => X,
         }
     }
 
@@ -97,13 +91,7 @@ impl Table {
     {
         match self {
             Table::NdErr => error == RespErr::NDERR,
-            Table::B46
-            | Table::B57
-            | Table::B59
-            | Table::B60
-            | Table::Unique
-            | Table::CleanInvalid
-            | Table::MakeInvalid => ok_or_derr(answer, error),
+            _ => ok_or_derr(answer, error),
         }
     }
 
@@ -114,13 +102,7 @@ impl Table {
     {
         match self {
             Table::NdErr => false,
-            Table::B46
-            | Table::B57
-            | Table::B59
-            | Table::B60
-            | Table::Unique
-            | Table::CleanInvalid
-            | Table::MakeInvalid => by_tags(tag, before, answer, op),
+            _ => by_tags(tag, before, answer, op),
         }
     }
 }
