@@ -13,19 +13,16 @@ use Rattle.kinds.specs.Places.{event_length}
 use Rattle.rows.specs.Event.{request_of}
 use Rattle.event.specs.Refusals.{Issue, issue_e, below, fault, refusal_alone}
 use Rattle.event.specs.Alone.{accepted_alone, refused_alone, judged_alone}
-use Rattle.event.specs.declared.Judgment.{Judgment}
-use Rattle.trace.specs.declared.Outcome.{Outcome}
-use Rattle.trace.specs.Lent.{Lent, Left, left}
+use Rattle.trace.specs.Lent.{Lent, Outcome}
 use Rattle.trace.specs.Refusals.{outcome}
 use Rattle.trace.specs.Given.{Given, accepted, bad_lengths, bad_set, bad_pair, bad_byte, bad_request}
 use Rattle.trace.specs.Judged.{judged}
 use Rattle.trace.proofs.Given.{given}
 use Rattle.trace.proofs.Whole.{judged_outcome}
 use Rattle.answers.specs.declared.Question.{Question}
-use Rattle.answers.specs.declared.Listed.{Listed}
-use Rattle.answers.specs.Listed.{most_answers, ListLeft, list_left, listed}
+use Rattle.answers.specs.Listed.{most_answers, ListLeft, listed}
 use Rattle.answers.proofs.Given.{small}
-use Rattle.korehyumo.specs.Calls.{places_end, in_one, with_more, event_call, event_told, trace_call, trace_told, answers_call, answers_told}
+use Rattle.korehyumo.specs.Calls.{places_end, in_one, with_more}
 
 -- the refusal number and the place, read back from the packed number
 pub number_in : (number place : ℕ) → number < 256 → in_one number place % 256 ≡ number
@@ -37,12 +34,12 @@ unfolding in_one
 place_in number place h = digits_div place h
 
 -- two outcomes with the same packed number are equal
-pub same_outcome : (o : Outcome) (number place : ℕ) → o.refusal.0 < 256 → number < 256 → in_one o.refusal.0 o.place ≡ in_one number place
+pub same_outcome : (o : Outcome) (number place : ℕ) → o.number < 256 → number < 256 → in_one o.number o.place ≡ in_one number place
     → o ≡ outcome number place
 same_outcome o number place small small' h =
     ap₂ outcome
-    (sym (number_in o.refusal.0 o.place small) ∙ ap (λ (n : ℕ). n % 256) h ∙ number_in number place small')
-    (sym (place_in o.refusal.0 o.place small) ∙ ap (λ (n : ℕ). n / 256) h ∙ place_in number place small')
+    (sym (number_in o.number o.place small) ∙ ap (λ (n : ℕ). n % 256) h ∙ number_in number place small')
+    (sym (place_in o.number o.place small) ∙ ap (λ (n : ℕ). n / 256) h ∙ place_in number place small')
 
 -- the packed number fits in 32 bits
 pub one_below : (number place : ℕ) → number < 256 → place < places_end → in_one number place < 2 ^ 32
@@ -75,11 +72,11 @@ alone_below issue e = go (eqb (length e) event_length) (fault_below issue e)
     go true h = h
     go false h = omega arith
 
-pub number_alone : (issue : Issue) (e : List ℕ) → (judged_alone issue e).refusal.0 < 256
+pub number_alone : (issue : Issue) (e : List ℕ) → (judged_alone issue e).number < 256
 unfolding judged_alone
 number_alone issue e = go (eqb (refusal_alone issue e) 0) (alone_below issue e)
   where
-    go : (b : Bool) → refusal_alone issue e < 256 → (cond b (accepted_alone e) (refused_alone (refusal_alone issue e))).refusal.0 < 256
+    go : (b : Bool) → refusal_alone issue e < 256 → (cond b (accepted_alone e) (refused_alone (refusal_alone issue e))).number < 256
     go true h = omega arith
     go false h = h
 
@@ -103,16 +100,8 @@ number_of_row (bad_request g b p c n) = omega arith
 pub place_of_trace : (issue : Issue) (l : Lent) → (judged issue l).outcome.place < places_end
 place_of_trace issue l = subst (λ (o : Outcome). o.place < places_end) (sym (judged_outcome issue l)) (place_of_row (given issue l))
 
-pub number_of_trace : (issue : Issue) (l : Lent) → (judged issue l).outcome.refusal.0 < 256
-number_of_trace issue l = subst (λ (o : Outcome). o.refusal.0 < 256) (sym (judged_outcome issue l)) (number_of_row (given issue l))
-
--- each call leaves what the judge leaves, with the result packed
-pub event_told_lem : (j j' : Judgment) (r : ℕ) → r ≡ in_one j.refusal.0 j.place → j ≡ j' → event_call r j.sets j.duties ≡ event_told j'
-event_told_lem j j' r h k = ap (λ (n : ℕ). event_call n j.sets j.duties) h ∙ ap event_told k
-
-pub trace_told_lem : (o : Outcome) (table verdicts duties afters : List ℕ) (l : Left) (r : ℕ) → r ≡ in_one o.refusal.0 o.place
-    → left o table verdicts duties afters ≡ l → trace_call r table verdicts duties afters ≡ trace_told l
-trace_told_lem o table verdicts duties afters l r h k = ap (λ (n : ℕ). trace_call n table verdicts duties afters) h ∙ ap trace_told k
+pub number_of_trace : (issue : Issue) (l : Lent) → (judged issue l).outcome.number < 256
+number_of_trace issue l = subst (λ (o : Outcome). o.number < 256) (sym (judged_outcome issue l)) (number_of_row (given issue l))
 
 -- the lower half and the upper half, read back from a result
 pub lower_in : (packed more : ℕ) → packed < 2 ^ 32 → with_more packed more % 2 ^ 32 ≡ packed
@@ -130,14 +119,10 @@ list_place q room l h = subst (λ (x : ListLeft). x.result.place < places_end) (
 pub list_count : (q : Question) (room : List ℕ) (l : ListLeft) → l ≡ listed issue_e q room → l.result.count ≤ most_answers
 list_count q room l h = subst (λ (x : ListLeft). x.result.count ≤ most_answers) (sym h) (small q room).count
 
-pub list_packed : (q : Question) (room : List ℕ) (l : ListLeft) (packed : ℕ) → l ≡ listed issue_e q room → packed ≡ in_one l.result.refusal.0 l.result.place
+pub list_packed : (q : Question) (room : List ℕ) (l : ListLeft) (packed : ℕ) → l ≡ listed issue_e q room → packed ≡ in_one l.result.number l.result.place
     → packed < 2 ^ 32
 list_packed q room l packed h p =
     subst (λ (n : ℕ). n < 2 ^ 32) (sym p)
-    (one_below l.result.refusal.0 l.result.place
-    (subst (λ (x : ListLeft). x.result.refusal.0 < 256) (sym h) (small q room).number)
+    (one_below l.result.number l.result.place
+    (subst (λ (x : ListLeft). x.result.number < 256) (sym h) (small q room).number)
     (list_place q room l h))
-
-pub answers_told_lem : (l : Listed) (room : List ℕ) (t : ListLeft) (packed r : ℕ) → packed ≡ in_one l.refusal.0 l.place → r ≡ with_more packed l.count
-    → list_left l room ≡ t → answers_call r room ≡ answers_told t
-answers_told_lem l room t packed r p h k = ap (λ (n : ℕ). answers_call n room) (h ∙ ap (λ (n : ℕ). with_more n l.count) p) ∙ ap answers_told k

@@ -19,14 +19,16 @@ use kinds::{LineState, Request, TagState};
 const UPPER: u64 = 1 << 32;
 
 // A refusal number and its place packed into one number.
+#[tactic(auto, unfolding(crate::specs::Calls::in_one))]
 fn in_one(number: u8, place: usize) -> u64
     requires { place < places_end }
     ensures { result ≡ in_one number place }
 {
-    (place as u64) * 256 + (number as u64)
+    (place as u64) * 256 + u64::from(number)
 }
 
 // A packed number with what more a call answers in its upper half.
+#[tactic(auto, unfolding(crate::specs::Calls::with_more))]
 fn with_more(packed: u64, more: usize) -> u64
     requires packed_bound { packed < 2 ^ 32 }
     requires more_le_most_answers { more ≤ most_answers }
@@ -40,12 +42,18 @@ fn with_more(packed: u64, more: usize) -> u64
 pub fn korehyumo_event(event: &[u8], sets: &mut [u8; 7], duties: &mut [u8; 7]) -> u64
     ensures { event_call result sets.new duties.new ≡ event_told (judged_alone issue_e event.now) }
 {
-    let judgment = event::judge_event(event);
-    let sets_after = judgment.sets;
-    let duties_after = judgment.duties;
-    *sets = sets_after;
-    *duties = duties_after;
-    in_one(judgment.refusal.0, judgment.place)
+    match event::judge_event(event) {
+        Ok(judgment) => {
+            sets.copy_from_slice(&judgment.sets);
+            duties.copy_from_slice(&judgment.duties);
+            in_one(0, 1)
+        }
+        Err(refusal) => {
+            *sets = [0; 7];
+            *duties = [0; 7];
+            in_one(u8::from(refusal), 0)
+        }
+    }
 }
 
 // Judges a whole trace. The result packs number and place. A refused trace leaves all buffers as they were.
@@ -62,12 +70,15 @@ pub fn korehyumo_trace(
         events.now pairs.now table.old
         verdicts.old duties.old afters.old)) }
 {
-    let outcome = trace::judge_trace(events, pairs, table, verdicts, duties, afters);
-    in_one(outcome.refusal.0, outcome.place)
+    match trace::judge_trace(events, pairs, table, verdicts, duties, afters) {
+        Ok(count) => in_one(0, count),
+        Err(refused) => in_one(u8::from(refused.refusal), refused.place),
+    }
 }
 
 // Lists every permitted answer to a question in the room. The result packs number and place, and has the count in its upper half.
 // A refused question leaves the room as it was.
+#[tactic(auto, unfolding(crate::specs::Calls::in_one))]
 pub fn korehyumo_answers(
     request: u8,
     ret_to_src: u8,
@@ -88,6 +99,8 @@ pub fn korehyumo_answers(
         tag: TagState(tag),
         before: LineState(before),
     };
-    let listed = answers::list_answers(question, room);
-    with_more(in_one(listed.refusal.0, listed.place), listed.count)
+    match answers::list_answers(question, room) {
+        Ok(count) => with_more(in_one(0, 0), count),
+        Err(refusal) => with_more(in_one(u8::from(refusal), 0), 0),
+    }
 }
