@@ -20,9 +20,9 @@ use Rattle.fields.specs.Fields.{fields_of}
 use Rattle.names.specs.Names.{Named, code_of, request_names, responses, answers, answer_at, no_fwd_err, pair_of, columns}
 use Rattle.names.specs.Columns.{pair_code, request_code, ret_to_src_code, do_not_go_to_sd_code, excl_code, tag_code, response_code, tag_op_code, resp_err_code, forward_code, final_code, fwd_err_code}
 use Rattle.names.proofs.Names.{Sought, none, found, seek, pair_limit, limits}
-use Rattle.parser.specs.Parsed.{codes_of, line_codes, known, dashes_agree, well_formed, sent_of, event_of, parsed_as, parsed}
-use Rattle.parser.specs.declared.ParsedLine.{ParsedLine}
-use Rattle.sheet.specs.Code.{NoFault}
+use Rattle.parser.specs.Parsed.{codes_of, line_codes, known, dashes_agree, well_formed, sent_of, event_of, Parsed, in_numbers, parsed_as, parsed}
+use Rattle.parser.specs.declared.Line.{Line}
+use Rattle.std.specs.Prelude.{Ok}
 use Rattle.parser.proofs.Events.{under, codes_known, dashes_agree_lem, codes_under, parsed_ill, parsed_high, parsed_fine}
 
 names_requested : all (λ (n : Named). n.code ∈? requests) request_names ≡ true
@@ -173,12 +173,12 @@ pub record Says (line : List ℕ) : Type 0 where
   pub low_pair : pair_code (line_codes line) ≤ highest_pair
   pub so : parsed line ≡ parsed_as (pair_code (line_codes line)) (event_of (line_codes line))
 
-pub says : (line : List ℕ) → (parsed line).refusal.0 ≡ 0 → Says line
+pub says : (line : List ℕ) → (parsed line).number ≡ 0 → Says line
 says line h = go (well_formed line) refl (ltb highest_pair (pair_code (line_codes line))) refl
   where
     -- a refused line has a number that is not 0
-    numbered : {e : ParsedLine} → parsed line ≡ e → e.refusal.0 ≡ 0
-    numbered so = sym (ap (λ (x : ParsedLine). x.refusal.0) so) ∙ h
+    numbered : {e : Parsed} → parsed line ≡ e → e.number ≡ 0
+    numbered so = sym (ap (λ (x : Parsed). x.number) so) ∙ h
 
     go : (a : Bool) → well_formed line ≡ a → (b : Bool) → ltb highest_pair (pair_code (line_codes line)) ≡ b → Says line
     go false p b q = absurd (omega (arith, numbered (parsed_ill line p)))
@@ -187,22 +187,22 @@ says line h = go (well_formed line) refl (ltb highest_pair (pair_code (line_code
         let low = ltb-false highest_pair (pair_code (line_codes line)) q in
         record { well_formed = p; low_pair = low; so = parsed_fine line p low }
 
-module _ (line : List ℕ) (h : (parsed line).refusal.0 ≡ 0) where
+module _ (line : List ℕ) (h : (parsed line).number ≡ 0) where
   pub parsed_no_fault : fault issue_e (parsed line).event ≡ 0
-  parsed_no_fault = ap (λ (e : ParsedLine). fault issue_e e.event) (says line h).so ∙ no_fault line (says line h).well_formed
+  parsed_no_fault = ap (λ (e : Parsed). fault issue_e e.event) (says line h).so ∙ no_fault line (says line h).well_formed
 
-  pub parsed_pair_in : (parsed line).pair.0 < most_pairs
-  parsed_pair_in = omega (arith, ap (λ (e : ParsedLine). e.pair.0) (says line h).so, (says line h).low_pair)
+  pub parsed_pair_in : (parsed line).pair < most_pairs
+  parsed_pair_in = omega (arith, ap (λ (e : Parsed). e.pair) (says line h).so, (says line h).low_pair)
 
   pub parsed_in_range : below (parsed line).event 1 issue_e.limits ≡ true
-  parsed_in_range = ap (λ (e : ParsedLine). below e.event 1 issue_e.limits) (says line h).so ∙ all_in_range line (says line h).well_formed
+  parsed_in_range = ap (λ (e : Parsed). below e.event 1 issue_e.limits) (says line h).so ∙ all_in_range line (says line h).well_formed
 
   pub parsed_requested : get_or (parsed line).event 0 0 ∈? requests ≡ true
-  parsed_requested = ap (λ (e : ParsedLine). get_or e.event 0 0 ∈? requests) (says line h).so ∙ requested line (says line h).well_formed
+  parsed_requested = ap (λ (e : Parsed). get_or e.event 0 0 ∈? requests) (says line h).so ∙ requested line (says line h).well_formed
 
   pub parsed_length : length (parsed line).event ≡ event_length
-  parsed_length = ap (λ (e : ParsedLine). length e.event) (says line h).so ∙ event_long line (says line h).well_formed
+  parsed_length = ap (λ (e : Parsed). length e.event) (says line h).so ∙ event_long line (says line h).well_formed
 
 -- a line as it was parsed
-pub parse_no_fault : (line : List ℕ) (e : ParsedLine) → e ≡ parsed line → NoFault e
-parse_no_fault line e h k = ap (λ (x : ParsedLine). fault issue_e x.event) h ∙ parsed_no_fault line (sym (ap (λ (x : ParsedLine). x.refusal.0) h) ∙ k)
+pub line_no_fault : (line : List ℕ) (said : Line) → in_numbers (Ok said) ≡ parsed line → fault issue_e said.event ≡ 0
+line_no_fault line said e = ap (λ (x : Parsed). fault issue_e x.event) e ∙ parsed_no_fault line (sym (ap (λ (x : Parsed). x.number) e))

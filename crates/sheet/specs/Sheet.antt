@@ -8,8 +8,7 @@ use Rattle.trace.specs.Events.{moved}
 use Rattle.text.specs.Text.{bytes}
 use Rattle.lines.specs.Lines.{lines_of}
 pub use Rattle.lines.specs.Seen.{longest}
-use Rattle.parser.specs.Parsed.{parsed}
-use Rattle.parser.specs.declared.ParsedLine.{ParsedLine}
+use Rattle.parser.specs.Parsed.{Parsed, parsed}
 use Rattle.replies.specs.Replies.{header_line, answer_line, refused_line}
 
 -- what a line does: its output, the table of sets after it, and whether the run goes on
@@ -39,11 +38,11 @@ abbrev pub on_header : List ℕ → List ℕ → Told
 on_header table line = cond (same line header) (told [] table true) (refuse 6 0 table)
 
 -- a parsed line after the header: its refusal, or its event judged on the set of its pair; events are numbered from 0 (definition 8.6)
-abbrev pub on_parsed : ℕ → List ℕ → ParsedLine → Told
+abbrev pub on_parsed : ℕ → List ℕ → Parsed → Told
 on_parsed k table e =
-    cond (eqb e.refusal.0 0)
-    (told (answer_line (k - 1) (finding e.event (set_in table e.pair.0))) (moved table (record { pair = e.pair.0; bytes = e.event })) true)
-    (refuse e.refusal.0 k table)
+    cond (eqb e.number 0)
+    (told (answer_line (k - 1) (finding e.event (set_in table e.pair))) (moved table (record { pair = e.pair; bytes = e.event })) true)
+    (refuse e.number k table)
 
 -- a line with k lines before it: on line 1 only 6; on any other line 7, then 8, then 3 (definition 8.8)
 unfoldable pub on_line : ℕ → List ℕ → List ℕ → Told

@@ -1,15 +1,18 @@
 // The bench sheet judged as it arrives, piece by piece (definition 8).
 #![tactic(auto)]
 
-ghost use Rattle.std.specs.Prelude.{◌+◌, ◌≤◌, ◌<◌, ◌^◌, min, ◌≡◌, cond, true, [], length, replicate};
-ghost use Rattle.kinds.specs.Codes.{all_states};
-ghost use Rattle.sheet.specs.Sheet.{refuse, on_header, on_parsed, on_line, most_lines};
+ghost use Rattle.std.specs.Prelude.{◌+◌, ◌≤◌, ◌<◌, ◌≡◌, true, length};
+ghost use Rattle.kinds.specs.Refusals.{refusal_number};
+ghost use Rattle.event.specs.Refusals.{issue_e, fault};
+ghost use Rattle.parser.specs.Parsed.{parsed_as};
+ghost use Rattle.replies.specs.Replies.{refused_line};
+ghost use Rattle.sheet.specs.Sheet.{on_parsed, on_line, most_lines};
 ghost use Rattle.sheet.specs.Turns.{wanted, answer_with, begun_with, begun, turn_left, turned};
-ghost use Rattle.sheet.specs.Code.{NoFault, SaidBy, Answers, AnswersOn, Roomy, next_in, eat_left, ate, moved_down};
+ghost use Rattle.sheet.specs.Code.{SaidBy, Writes, GoesOn, Judged, Roomy, NextIn, eat_left, ate};
 
 use kinds::{ALL_STATES, EventNumber, Refusal};
 use lines::{LONGEST, TOO_LONG};
-use parser::ParsedLine;
+use parser::Line;
 use replies::ROOM;
 
 // With this many bytes held, the next line can be judged, whatever follows.
@@ -18,8 +21,13 @@ const ENOUGH: usize = TOO_LONG + 1;
 // The most lines of a sheet (definition 8.7).
 const MOST_LINES: u64 = 1_000_001;
 
+// The header of the input (definition 8.2).
+const HEADER: &[u8] =
+    b"pair,request,RetToSrc,DoNotGoToSD,excl,tag,response,TagOp,RespErr,forward,final,fwdErr";
+
 // What a run keeps between two turns: the number of bytes held at the front of the piece, the number of lines taken so far, whether
 // the run goes on, and whether the input has ended.
+// Stays: `turn` takes any of them, so each flag may stand beside any number.
 #[derive(Clone, Copy)]
 pub struct Carried {
     pub held: usize,
@@ -48,140 +56,82 @@ struct Eaten {
     going: bool,
 }
 
-// What was done with a line: the offset behind its output, and whether the run goes on.
-#[derive(Clone, Copy)]
-struct Answered {
-    at: usize,
-    goes: bool,
-}
-
-// The next line of a piece: whether enough of it is known, where it ends, where the line behind it starts, and the line parsed.
+// The next line of a piece: where it ends, where the line behind it starts, and the line parsed.
 #[derive(Clone, Copy)]
 struct Next {
-    sure: bool,
     end: usize,
-    next: usize,
-    line: ParsedLine,
+    start: usize,
+    line: Result<Line, Refusal>,
 }
 
-// Writes the line of a refusal. The run ends.
-fn refuse_line(refusal: Refusal, lines: u32, out: &mut [u8], at: usize) -> Answered
+// Writes the line of a refusal, and returns the offset behind it.
+fn refuse(refusal: Refusal, lines: u32, out: &mut [u8], at: usize) -> usize
     requires { Roomy out.old at }
-    ensures { Answers (refuse refusal.0 lines []) out.old at result out.new }
+    ensures { Writes (refused_line (refusal_number refusal) (lines + 1)) out.old at result out.new }
 {
-    let line = (lines as u64) + 1;
-    let next = replies::put_refusal(out, at, refusal, line);
-    Answered {
-        at: next,
-        goes: false,
-    }
+    replies::put_refusal(out, at, u8::from(refusal), lines as u64 + 1)
 }
 
-// Judges line 1: the header, or refusal 6.
-fn judge_header(line: &[u8], out: &mut [u8], at: usize) -> Answered
-    requires { Roomy out.old at }
-    ensures { Answers (on_header [] line.now) out.old at result out.new }
-{
-    if names::is(
-        line,
-        b"pair,request,RetToSrc,DoNotGoToSD,excl,tag,response,TagOp,RespErr,forward,final,fwdErr",
-    ) {
-        return Answered { at, goes: true };
-    }
-    refuse_line(Refusal::HEADER, 0, out, at)
-}
-
-// Judges a parsed line on the set of its pair, or writes its refusal. The event of a line that is not refused has no fault.
-fn judge_parsed(
-    lines: u32,
-    parsed: ParsedLine,
-    table: &mut [u8],
-    out: &mut [u8],
-    at: usize,
-) -> Answered
+// Judges the event of a line on the set of its pair, and returns the offset behind its answer. The event has no fault.
+fn judge_event(lines: u32, line: Line, table: &mut [u8], out: &mut [u8], at: usize) -> usize
     requires roomy { Roomy out.old at }
     requires not_header { 0 < lines }
     requires not_too_many { lines < most_lines }
-    requires no_fault { NoFault parsed }
-    ensures { AnswersOn (on_parsed lines table.old parsed)
+    requires no_fault { fault issue_e line.event ≡ 0 }
+    ensures { GoesOn (on_parsed lines table.old (parsed_as line.pair.0 line.event))
         out.old at result out.new table.new }
 {
-    let number = parsed.refusal.0;
-    if number != Refusal::ACCEPTED.0 {
-        return refuse_line(parsed.refusal, lines, out, at);
-    }
-    let pair = parsed.pair;
-    let event = parsed.event;
-    let before = pair.set_in(table);
-    let found = verdicts::found(&event, before);
-    let after = found.after;
-    pair.put_in(table, after);
-    let k = lines - 1;
-    let next = replies::put_answer(out, at, EventNumber(k), found);
-    Answered {
-        at: next,
-        goes: true,
-    }
+    let before = line.pair.set_in(table);
+    let found = verdicts::found(&line.event, before);
+    line.pair.put_in(table, found.after);
+    replies::put_answer(out, at, EventNumber(lines - 1), found)
 }
 
-// Judges a line, given the number of lines before it. Unless it is line 1 or too long, `parsed` is what it says.
+// Judges a line, given the number of lines before it, and returns the offset behind its answer, or why it is refused. Unless it is line 1
+// or too long, `parsed` is what it says.
 fn judge_line(
     lines: u32,
     line: &[u8],
-    parsed: ParsedLine,
+    parsed: Result<Line, Refusal>,
     table: &mut [u8],
     out: &mut [u8],
     at: usize,
-) -> Answered
+) -> Result<usize, Refusal>
     requires roomy { Roomy out.old at }
     requires said_by { SaidBy lines line.now parsed }
-    ensures { AnswersOn (on_line lines table.old line.now)
+    ensures { Judged lines table.old (on_line lines table.old line.now)
         out.old at result out.new table.new }
 {
     if lines == 0 {
-        return judge_header(line, out, at);
+        return if line == HEADER {
+            Ok(at)
+        } else {
+            Err(Refusal::Header)
+        };
     }
-    if MOST_LINES < (lines as u64) + 1 {
-        return refuse_line(Refusal::LINE, lines, out, at);
+    if MOST_LINES < lines as u64 + 1 || LONGEST < line.len() {
+        return Err(Refusal::Line);
     }
-    if LONGEST < line.len() {
-        return refuse_line(Refusal::LINE, lines, out, at);
-    }
-    judge_parsed(lines, parsed, table, out, at)
+    Ok(judge_event(lines, parsed?, table, out, at))
 }
 
-// The offset behind a line: behind its CR LF if it has one.
-fn behind(whole: bool, end: usize) -> usize
-    requires { end + 2 < 2 ^ 64 }
-    ensures { result ≡ end + cond whole 2 0 }
-{
-    if whole { end + 2 } else { end }
-}
-
-// The line that starts at an offset of a piece, as far as it is known. Line 1 is not parsed.
-fn next_line(piece: &[u8], start: usize, ended: bool, lines: u32) -> Next
+// The line that starts at an offset of a piece, if enough of it is known. Line 1 is not parsed.
+fn next_line(piece: &[u8], start: usize, ended: bool, lines: u32) -> Option<Next>
     requires { start ≤ length piece.now }
-    ensures { result ≡ next_in ended lines piece.now start }
+    ensures { NextIn ended lines piece.now start result }
 {
     let left = piece.len() - start;
     let first = first_line::parse(&piece[start..], ended, 0 < lines);
-    let line = first.line;
-    let whole = first.whole;
-    let end = start + first.end;
-    Next {
-        sure: whole | ((TOO_LONG < left) | (ended & ((0 < left) | (lines == 0)))),
-        end,
-        next: behind(whole, end),
-        line,
+    let sure = first.whole | (TOO_LONG < left) | (ended & ((0 < left) | (lines == 0)));
+    if !sure {
+        return None;
     }
-}
-
-// The number of lines taken: one more if the run goes on.
-fn counted(lines: u32, goes: bool) -> u32
-    requires { goes ≡ true → lines < most_lines }
-    ensures { result ≡ cond goes (lines + 1) lines }
-{
-    if goes { lines + 1 } else { lines }
+    let end = start + first.end;
+    Some(Next {
+        end,
+        start: if first.whole { end + 2 } else { end },
+        line: first.line,
+    })
 }
 
 // Judges a piece line by line, as long as enough of the next line is known and the output buffer has room. `lines` lines come before
@@ -197,58 +147,36 @@ fn eat(
     ensures { eat_left result table.new out.new
         ≡ ate ended piece.now lines going table.old out.old }
 {
-    let mut taken: usize = 0;
-    let mut put: usize = 0;
+    let mut taken = 0;
+    let mut put = 0;
     let mut count = lines;
-    let mut goes_on = going;
-    while goes_on & (ROOM <= out.len() - put) {
+    while going && ROOM <= out.len() - put {
         // where nothing is left there is no line, but for line 1: an empty input has an empty one
-        if taken == piece.len() {
-            if 0 < count {
-                break;
-            }
-        }
-        let next = next_line(piece, taken, ended, count);
-        if !next.sure {
+        if taken == piece.len() && 0 < count {
             break;
         }
-        let end = next.end;
-        let line = next.line;
-        let answered = judge_line(count, &piece[taken..end], line, table, out, put);
-        let goes = answered.goes;
-        count = counted(count, goes);
-        taken = next.next;
-        put = answered.at;
-        goes_on = goes;
+        let Some(next) = next_line(piece, taken, ended, count) else {
+            break;
+        };
+        put = match judge_line(count, &piece[taken..next.end], next.line, table, out, put) {
+            Ok(behind) => behind,
+            Err(refusal) => {
+                return Eaten {
+                    taken: next.start,
+                    put: refuse(refusal, count, out, put),
+                    lines: count,
+                    going: false,
+                };
+            }
+        };
+        taken = next.start;
+        count += 1;
     }
     Eaten {
         taken,
         put,
         lines: count,
-        going: goes_on,
-    }
-}
-
-// Moves `count` bytes from an offset to the front of the piece.
-fn move_down(piece: &mut [u8], from: usize, count: usize)
-    requires { from + count ≤ length piece.old }
-    ensures { piece.new ≡ moved_down piece.old from count }
-{
-    let mut at: usize = 0;
-    while at < count {
-        piece[at] = piece[from + at];
-        at += 1;
-    }
-}
-
-// Gives every pair the set of all states (definition 8.5).
-fn fill(table: &mut [u8])
-    ensures { table.new ≡ replicate (length table.old) all_states }
-{
-    let mut pair: usize = 0;
-    while pair < table.len() {
-        table[pair] = ALL_STATES;
-        pair += 1;
+        going,
     }
 }
 
@@ -256,40 +184,26 @@ fn fill(table: &mut [u8])
 fn wants_more(carried: Carried) -> bool
     ensures { result ≡ wanted carried }
 {
-    !carried.ended & (carried.held < ENOUGH)
-}
-
-// The number of bytes held after `got` bytes arrived; at most the length of the piece.
-fn held_with(held: usize, got: usize, len: usize) -> usize
-    ensures { result ≡ min (held + got) len }
-{
-    if len <= held {
-        return len;
-    }
-    if len - held < got {
-        return len;
-    }
-    held + got
+    !carried.ended && carried.held < ENOUGH
 }
 
 // The result of a turn that keeps `carried` and has put `put` bytes into the output buffer.
 fn answer(carried: Carried, put: usize) -> Turned
     ensures { result ≡ answer_with carried put }
 {
-    let over = !carried.going | (carried.ended & ((carried.held == 0) & (0 < carried.lines)));
     Turned {
         carried,
         put,
         wants: wants_more(carried),
-        over,
+        over: !carried.going || (carried.ended && carried.held == 0 && 0 < carried.lines),
     }
 }
 
-// Begins a run: every pair has the set of all states, the output's header is written, and nothing is read yet.
+// Begins a run: every pair has the set of all states (definition 8.5), the output's header is written, and nothing is read yet.
 pub fn begin(table: &mut [u8], out: &mut [u8]) -> Turned
     ensures { begun_with result table.new out.new ≡ begun table.old out.old }
 {
-    fill(table);
+    table.fill(ALL_STATES);
     let put = replies::put_header(out, 0);
     let nothing = Carried {
         held: 0,
@@ -312,9 +226,8 @@ pub fn turn(
     ensures { turn_left result piece.new table.new out.new
         ≡ turned carried got piece.old table.old out.old }
 {
-    let wanted = wants_more(carried);
-    let ended = carried.ended | (wanted & (got == 0));
-    let held = held_with(carried.held, got, piece.len());
+    let ended = carried.ended || (wants_more(carried) && got == 0);
+    let held = carried.held.saturating_add(got).min(piece.len());
     let ate = eat(
         &piece[..held],
         ended,
@@ -323,11 +236,9 @@ pub fn turn(
         table,
         out,
     );
-    let taken = ate.taken;
-    let rest = held - taken;
-    move_down(piece, taken, rest);
+    piece.copy_within(ate.taken..held, 0);
     let next = Carried {
-        held: rest,
+        held: held - ate.taken,
         lines: ate.lines,
         going: ate.going,
         ended,

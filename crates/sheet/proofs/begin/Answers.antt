@@ -4,4 +4,4 @@ use Rattle.sheet.proofs.begin.Goals as goal
 
 pub returns : goal.returns
 returns c =
-    begun_is c.args.table.now c.args.out.now c.fill.ensures c.put_header-put.ensures c.answer.ensures
+    begun_is c.args.table.now c.args.out.now (c.fill.ensures.after (λ y e. e)) c.put_header-put.ensures c.answer.ensures

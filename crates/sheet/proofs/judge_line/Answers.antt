@@ -1,32 +1,59 @@
 -- `sheet::judge_line` meets its contract: the header, then 7 for a line too many or too long, then what the line says.
+use mathlib.Core.Path.{refl, sym, ◌∙◌, ap}
+use Rattle.std.proofs.lemmas.Result.{err_from_is_err_and}
+use Rattle.parser.specs.Parsed.{in_numbers}
+use native.Mathlib.Nat.{pos_of_ne-zero}
 use native.Mathlib.Omega.{arith}
-use Rattle.sheet.proofs.Good.{parse_no_fault}
-use Rattle.sheet.proofs.Laws.{positive, first_line_lem, line_too_many, line_too_long, line_read}
+use Rattle.sheet.specs.Sheet.{header}
+use Rattle.sheet.proofs.Good.{line_no_fault}
+use Rattle.sheet.proofs.Laws.{header_good, header_bad, line_too_many, line_too_long, line_read, refused_told, goes_by}
+use Rattle.sheet.proofs.judge_line.Goals.{then-lines-gt-MOST_LINES-via-then-lines-gt-MOST_LINES, then-lines-gt-MOST_LINES-via-else-lines-gt-MOST_LINES+then-line-gt-LONGEST}
 use Rattle.sheet.proofs.judge_line.Goals as goal
 
-pub returns-then-lines-eq0 : goal.returns-then-lines-eq0
-returns-then-lines-eq0 c =
-    first_line_lem c.args.lines c.args.line.now c.args.table.now c.if-lines-eq0.true c.judge_header.ensures
+pub returns-then-eq : goal.returns-then-eq
+unfolding header
+returns-then-eq c =
+    header_good c.args.lines c.args.line.now c.args.table.now c.args.out.now c.args.at c.if-lines-eq0.true (sym c.eq.ensures ∙ c.if-eq.true) (omega (arith, c.requires.roomy))
+
+pub returns-else-eq : goal.returns-else-eq
+unfolding header
+returns-else-eq c = record {
+  told_so = header_bad c.args.lines c.args.line.now c.args.table.now c.if-lines-eq0.true (sym c.eq.ensures ∙ c.if-eq.false);
+  out_so = refl;
+  table_so = refl;
+}
 
 pub returns-then-lines-gt-MOST_LINES : goal.returns-then-lines-gt-MOST_LINES
-returns-then-lines-gt-MOST_LINES c =
-    line_too_many c.args.lines c.args.line.now c.args.table.now c.if-lines-eq0.false c.if-lines-gt-MOST_LINES.true c.refuse_line.ensures
+returns-then-lines-gt-MOST_LINES c = record {
+  told_so =
+      elim c.then-lines-gt-MOST_LINES.branch [
+        | then-lines-gt-MOST_LINES-via-then-lines-gt-MOST_LINES w ↦ line_too_many c.args.lines c.args.line.now c.args.table.now c.if-lines-eq0.false w.if-lines-gt-MOST_LINES.true
+        | then-lines-gt-MOST_LINES-via-else-lines-gt-MOST_LINES+then-line-gt-LONGEST w ↦
+            line_too_long c.args.lines c.args.line.now c.args.table.now c.if-lines-eq0.false w.if-lines-gt-MOST_LINES.false w.if-line-gt-LONGEST.true
+      ];
+  out_so = refl;
+  table_so = refl;
+}
 
-pub returns-then-line-gt-LONGEST : goal.returns-then-line-gt-LONGEST
-returns-then-line-gt-LONGEST c =
-    line_too_long c.args.lines c.args.line.now c.args.table.now c.if-lines-eq0.false c.if-lines-gt-MOST_LINES.false c.if-line-gt-LONGEST.true c.refuse_line-then-line-gt-LONGEST.ensures
+pub returns-in_err-parsed : goal.returns-in_err-parsed
+returns-in_err-parsed c =
+    let p = err_from_is_err_and c.from_residual.result c.from_residual.ensures.1 in
+    rw (p.1, p.2)
+    (record {
+      told_so = refused_told c.args.lines c.args.line.now c.args.table.now c.in_err-parsed.field-0.0 c.if-lines-eq0.false c.if-lines-gt-MOST_LINES.false c.if-line-gt-LONGEST.false
+          (ap in_numbers (sym c.in_err-parsed.was) ∙ c.requires.said_by (pos_of_ne-zero c.if-lines-eq0.false) c.if-line-gt-LONGEST.false);
+      out_so = refl;
+      table_so = refl;
+    })
 
-pub judge_parsed-requires : goal.judge_parsed-requires
-judge_parsed-requires c =
-    let asked = positive c.args.lines c.if-lines-eq0.false in
-    record {
-      roomy = c.requires.roomy;
-      not_header = asked;
-      not_too_many = omega (arith, c.if-lines-gt-MOST_LINES.false);
-      no_fault = parse_no_fault c.args.line.now c.args.parsed (c.requires.said_by asked c.if-line-gt-LONGEST.false);
-    }
+pub judge_event-requires-clause-no_fault : goal.judge_event-requires-clause-no_fault
+judge_event-requires-clause-no_fault c =
+    line_no_fault c.args.line.now c.in_ok-parsed.field-0
+    (ap in_numbers (sym c.in_ok-parsed.was) ∙ c.requires.said_by (pos_of_ne-zero c.if-lines-eq0.false) c.if-line-gt-LONGEST.false)
 
 pub returns : goal.returns
 returns c =
-    line_read c.args.lines c.args.line.now c.args.table.now c.args.parsed c.if-lines-eq0.false c.if-lines-gt-MOST_LINES.false c.if-line-gt-LONGEST.false
-    (c.requires.said_by (positive c.args.lines c.if-lines-eq0.false) c.if-line-gt-LONGEST.false) c.judge_parsed.ensures
+    goes_by
+    (line_read c.args.lines c.args.line.now c.args.table.now c.if-lines-eq0.false c.if-lines-gt-MOST_LINES.false c.if-line-gt-LONGEST.false
+    (ap in_numbers (sym c.in_ok-parsed.was) ∙ c.requires.said_by (pos_of_ne-zero c.if-lines-eq0.false) c.if-line-gt-LONGEST.false))
+    c.judge_event.ensures
