@@ -4,135 +4,70 @@
 // count in four bytes, each low byte first; and the 640 bytes afterwards. A last record that is cut off gets no answer.
 #![tactic(auto)]
 
-ghost use Rattle.std.specs.Prelude.{◌≤◌, length};
+use answers::Question;
+use kinds::{LineState, Refusal, Request, TagState};
 
-use answers::{Listed, Question};
-use kinds::{LineState, Request, TagState};
-use std::io::{Read, Stdin};
-
-// The bytes before the room in a record, the bytes of a room, and the bytes of a record.
+// The bytes before the room in a record, those of a record, and how many records make a block.
 const HEAD: usize = 8;
-
-const ROOM: usize = 640;
 
 const RECORD: usize = 648;
 
-// The records of a block, and their bytes.
 const BLOCK: usize = 64;
 
-const BLOCK_BYTES: usize = 41472;
-
-// The smaller of two lengths.
-fn least(a: usize, b: usize) -> usize
-    ensures { result ≤ b }
-{
-    if a < b { a } else { b }
-}
-
-// The question in a record.
-fn question_of(bytes: &[u8]) -> Question
-    requires { 648 ≤ length bytes.now }
-{
-    Question {
-        request: Request(bytes[0]),
-        ret_to_src: bytes[1],
-        do_not_go_to_sd: bytes[2],
-        excl: bytes[3],
-        tag: TagState(bytes[4]),
-        before: LineState(bytes[5]),
+// The bytes over the head of a record: the place is always 0, and a refused question has the count 0.
+fn answer_of(listed: Result<usize, Refusal>) -> [u8; HEAD] {
+    let mut answer = [0; HEAD];
+    match listed {
+        Ok(count) => answer[4..].copy_from_slice(&count.to_le_bytes()[..4]),
+        Err(refusal) => answer[0] = refusal.into(),
     }
-}
-
-// A byte as a length.
-fn wide(byte: u8) -> usize {
-    byte as usize
-}
-
-// The end of the room in a record.
-fn room_end(bytes: &[u8]) -> usize
-    requires { 648 ≤ length bytes.now }
-    ensures { result ≤ 640 }
-{
-    least(wide(bytes[7]) % 256 * 256 + wide(bytes[6]) % 256, ROOM)
-}
-
-// Puts a result over the head of a record.
-fn put_result(listed: Listed, bytes: &mut [u8])
-    requires { 648 ≤ length bytes.old }
-{
-    let place = listed.place;
-    let count = listed.count;
-    bytes[0] = listed.refusal.0;
-    bytes[1] = (place % 256) as u8;
-    bytes[2] = (place / 256 % 256) as u8;
-    bytes[3] = (place / 65536 % 256) as u8;
-    bytes[4] = (count % 256) as u8;
-    bytes[5] = (count / 256 % 256) as u8;
-    bytes[6] = (count / 65536 % 256) as u8;
-    bytes[7] = (count / 16777216 % 256) as u8;
+    answer
 }
 
 // Answers a record in its place.
-fn answer_record(bytes: &mut [u8])
-    requires { 648 ≤ length bytes.old }
-{
-    let question = question_of(bytes);
-    let end = HEAD + room_end(bytes);
-    let listed = answers::list_answers(question, &mut bytes[HEAD..end]);
-    put_result(listed, bytes);
+fn answer_record(record: &mut [u8]) {
+    let Some((head, room)) = record.split_first_chunk_mut::<HEAD>() else {
+        return;
+    };
+    let [
+        request,
+        ret_to_src,
+        do_not_go_to_sd,
+        excl,
+        tag,
+        before,
+        low,
+        high,
+    ] = *head;
+    let question = Question {
+        request: Request(request),
+        ret_to_src,
+        do_not_go_to_sd,
+        excl,
+        tag: TagState(tag),
+        before: LineState(before),
+    };
+    let end = (u16::from_le_bytes([low, high]) as usize).min(room.len());
+    *head = answer_of(answers::list_answers(question, &mut room[..end]));
 }
 
-// Answers the whole records of a block in their places, and returns how many bytes these have.
-fn answer_block(block: &mut [u8]) -> usize {
-    let mut k: usize = 0;
-    while k < BLOCK {
-        let start = k * RECORD;
-        let end = start + RECORD;
-        if block.len() < end {
-            return start;
-        }
-        answer_record(&mut block[start..end]);
-        k += 1;
-    }
-    k * RECORD
-}
-
-// Reads until the buffer is full, the input ends or a read fails, and returns the number of bytes that came.
-fn read_full(mut stdin: Stdin, room: &mut [u8]) -> usize
-    ensures { result ≤ length room.new }
-{
-    let mut done = 0;
-    while done < room.len() {
-        let came = stdin.read(&mut room[done..]).unwrap_or(0);
-        if came == 0 {
-            break;
-        }
-        done += came;
-    }
-    done
-}
-
-// Reads a block, and returns the bytes that came.
-fn read_block(stdin: Stdin, block: &mut [u8]) -> &mut [u8] {
-    let came = read_full(stdin, block);
-    let got = least(came, block.len());
-    &mut block[..got]
-}
-
-// Reads a block, answers it, and returns whether there may be more.
+// Reads a block, answers its whole records in their places, and returns whether there may be more.
 fn next_block(rt: &HostRuntime) -> bool {
-    let mut block = [0u8; BLOCK_BYTES];
-    let came = read_block(rt.stdin(), &mut block);
-    let whole = answer_block(came);
-    let wrote = least(whole, came.len());
-    let written = rt.write_all(&came[..wrote]).is_ok();
-    written & (came.len() == BLOCK_BYTES)
+    let mut block = [0; BLOCK * RECORD];
+    let came = blocks::read_full(&mut rt.stdin(), &mut block);
+    for record in block[..came].chunks_exact_mut(RECORD) {
+        answer_record(record);
+    }
+    let answered = came / RECORD * RECORD;
+    let written = rt.write_all(&block[..answered]).is_ok();
+    written & (came == block.len())
 }
 
-// Answers block by block. A proved loop must end, so this one counts down from a number that no run uses up.
+// Answers block by block. A proved loop must end, so this one has a number of turns that no run uses up.
 fn main(rt: HostRuntime) {
-    let mut turns = u64::MAX;
-    while turns > 0 && next_block(&rt) {
-        turns -= 1;
+    for _ in 0..u64::MAX {
+        if !next_block(&rt) {
+            return;
+        }
     }
 }
