@@ -1,6 +1,6 @@
 -- Laws about the refusals and the whole answer, over plain variables.
 -- Assumes nothing.
-use mathlib.Core.Path.{◌≡◌, refl, ◌∙◌, ap, ap₂}
+use mathlib.Core.Path.{◌≡◌, refl, sym, ◌∙◌, ap, ap₂}
 use mathlib.Core.Bool.{Bool, cond, ◌&&◌, and_assoc}
 use mathlib.Core.List.{List, [], ◌∷◌, ◌++◌}
 use Prim.Native.Nat.{ℕ, suc, ◌+◌, ◌^◌, ◌<◌}
@@ -15,6 +15,11 @@ use Rattle.words.proofs.Laws.{powers, masks, under, word_under}
 use Rattle.kinds.specs.Places.{event_length}
 use Rattle.rows.specs.Event.{byte}
 use Rattle.steps.specs.Steps.{duty, no_duty, set_after, sets_after, duty_alone}
+use Rattle.kinds.specs.declared.Refusal.{Refusal}
+use Rattle.kinds.proofs.Refusals.{one_to_one, not_accepted}
+use Rattle.event.specs.declared.Judgment.{Judgment}
+use Rattle.event.specs.Alone.{Alone, in_numbers}
+use Rattle.std.specs.Prelude.{Result, Ok, Err}
 use Rattle.event.specs.Refusals.{issue_e, below}
 
 -- the exponents of the limits of bytes 0 to 7 and of bytes 7 to 14, which are powers of two; 8 where a byte is free
@@ -60,3 +65,10 @@ limits_whole = refl
 pub duty_at_lem : (e sets : List ℕ) (s d x : ℕ) → sets ≡ sets_after e → get_or (sets_after e) s 0 ≡ set_after e s → d ≡ duty e (2 ^ s)
     → x ≡ cond (eqb (get_or sets s 0) 0) no_duty d → x ≡ duty_alone e s
 duty_at_lem e sets s d x h k q p = p ∙ ap₂ (λ (n m : ℕ). cond (eqb n 0) no_duty m) (ap (λ (l : List ℕ). get_or l s 0) h ∙ k) q
+
+-- NO TWO RESULTS HAVE THE SAME NUMBERS.
+pub same_numbers : (r s : Result Judgment Refusal) → in_numbers r ≡ in_numbers s → r ≡ s
+same_numbers (Ok j) (Ok k) h = ap (λ (a : Alone). Ok (record { sets = a.sets; duties = a.duties })) h
+same_numbers (Ok j) (Err s) h = absurd (not_accepted s (sym (ap (λ (a : Alone). a.number) h)))
+same_numbers (Err r) (Ok k) h = absurd (not_accepted r (ap (λ (a : Alone). a.number) h))
+same_numbers (Err r) (Err s) h = ap (λ (x : Refusal). Err x) (one_to_one (ap (λ (a : Alone). a.number) h))

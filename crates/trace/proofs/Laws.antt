@@ -17,7 +17,7 @@ use Rattle.words.proofs.Laws.{powers, masks, each_under}
 use Rattle.kinds.specs.Places.{event_length, most_events, most_pairs}
 use Rattle.kinds.specs.Refusals.{refusal_number}
 use Rattle.kinds.specs.declared.Refusal.{Refusal}
-use Rattle.kinds.proofs.Refusals.{not_accepted}
+use Rattle.kinds.proofs.Refusals.{one_to_one, not_accepted}
 use Rattle.kinds.proofs.Lists.{and_left, and_right, and_both}
 use Rattle.event.specs.Refusals.{Issue}
 use Rattle.verdicts.specs.Verdicts.{after_set, verdict, duty_byte}
@@ -288,3 +288,11 @@ module _ (issue : Issue) (l : Lent) where
 
       after : List TraceEvent → Left
       after es = left (in_numbers (Ok n)) (run l.table es) (outputs verdict l.table es) (outputs duty_byte l.table es) (outputs after_set l.table es)
+
+-- NO TWO RESULTS HAVE THE SAME NUMBERS.
+pub same_numbers : (r s : Result ℕ Refused) → in_numbers r ≡ in_numbers s → r ≡ s
+same_numbers (Ok n) (Ok m) h = ap (λ (o : Outcome). Ok o.place) h
+same_numbers (Ok n) (Err s) h = absurd (not_accepted s.refusal (sym (ap (λ (o : Outcome). o.number) h)))
+same_numbers (Err r) (Ok m) h = absurd (not_accepted r.refusal (ap (λ (o : Outcome). o.number) h))
+same_numbers (Err r) (Err s) h =
+    ap₂ (λ (x : Refusal) (p : ℕ). Err (record { refusal = x; place = p })) (one_to_one (ap (λ (o : Outcome). o.number) h)) (ap (λ (o : Outcome). o.place) h)
