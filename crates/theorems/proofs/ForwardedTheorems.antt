@@ -60,7 +60,7 @@ pub other_error_unexplained : (e : List ℕ) → forwarded_err_of e ∈? errors_
 other_error_unexplained = finding_other
 
 -- OLD LENGTHS ARE REFUSED, with 1: an event of 14 bytes alone, and every trace of such events with a pair for each.
-pub old_event_refused : (e : List ℕ) → length e ≡ length_before → (judged_alone issue_e e).refusal.0 ≡ 1
+pub old_event_refused : (e : List ℕ) → length e ≡ length_before → (judged_alone issue_e e).number ≡ 1
 unfolding refusal_alone
 old_event_refused e h = number_alone e ∙ ap (λ (n : ℕ). cond (eqb n event_length) (fault issue_e e) 1) h
 

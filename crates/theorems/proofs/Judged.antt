@@ -12,9 +12,8 @@ use Rattle.sets.proofs.Laws.{set_of-holds, set_of-empty, set_of-below}
 use Rattle.steps.specs.Steps.{Step, steps, set_after, duty, no_duty, duty_alone}
 use Rattle.steps.proofs.Stepping.{permitted_before_lem, permitted_after, steps_step, step_steps}
 use Rattle.kinds.proofs.Lists.{at_state}
-use Rattle.event.specs.declared.Judgment.{Judgment}
 use Rattle.event.specs.Refusals.{issue_e, refusal_alone}
-use Rattle.event.specs.Alone.{accepted_alone, refused_alone, judged_alone}
+use Rattle.event.specs.Alone.{Alone, accepted_alone, refused_alone, judged_alone}
 
 -- the answer, by whether the event is accepted
 pub answer_alone : (e : List ℕ) (b : Bool) → eqb (refusal_alone issue_e e) 0 ≡ b → judged_alone issue_e e ≡ cond b (accepted_alone e) (refused_alone (refusal_alone issue_e e))
@@ -22,19 +21,19 @@ unfolding judged_alone
 answer_alone e b h = ap (λ (x : Bool). cond x (accepted_alone e) (refused_alone (refusal_alone issue_e e))) h
 
 -- what holds for both possible answers holds for the answer
-pub by_answer : (e : List ℕ) (P : Judgment → Type 0) → P (accepted_alone e) → P (refused_alone (refusal_alone issue_e e)) → P (judged_alone issue_e e)
+pub by_answer : (e : List ℕ) (P : Alone → Type 0) → P (accepted_alone e) → P (refused_alone (refusal_alone issue_e e)) → P (judged_alone issue_e e)
 by_answer e P accepted refused = go (eqb (refusal_alone issue_e e) 0) refl
   where
     go : (b : Bool) → eqb (refusal_alone issue_e e) 0 ≡ b → P (judged_alone issue_e e)
     go true h = subst P (sym (answer_alone e true h)) accepted
     go false h = subst P (sym (answer_alone e false h)) refused
 
-pub number_alone : (e : List ℕ) → (judged_alone issue_e e).refusal.0 ≡ refusal_alone issue_e e
+pub number_alone : (e : List ℕ) → (judged_alone issue_e e).number ≡ refusal_alone issue_e e
 number_alone e = go (eqb (refusal_alone issue_e e) 0) refl
   where
-    go : (b : Bool) → eqb (refusal_alone issue_e e) 0 ≡ b → (judged_alone issue_e e).refusal.0 ≡ refusal_alone issue_e e
-    go true h = ap (λ (j : Judgment). j.refusal.0) (answer_alone e true h) ∙ sym (eqb-true (refusal_alone issue_e e) 0 h)
-    go false h = ap (λ (j : Judgment). j.refusal.0) (answer_alone e false h)
+    go : (b : Bool) → eqb (refusal_alone issue_e e) 0 ≡ b → (judged_alone issue_e e).number ≡ refusal_alone issue_e e
+    go true h = ap (λ (j : Alone). j.number) (answer_alone e true h) ∙ sym (eqb-true (refusal_alone issue_e e) 0 h)
+    go false h = ap (λ (j : Alone). j.number) (answer_alone e false h)
 
 -- what holds for 0 and for every f x holds for each element of a list of them, and past its end
 pub each_at : (P : ℕ → Type 0) (f : ℕ → ℕ) (xs : List ℕ) → P 0 → ((x : ℕ) → P (f x)) → (s : ℕ) → P (get_or (map f xs) s 0)

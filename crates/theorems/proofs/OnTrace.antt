@@ -16,8 +16,7 @@ use Rattle.event.specs.Refusals.{issue_e}
 use Rattle.verdicts.specs.Verdicts.{after_set, verdict, duty_byte, explained, unexplained, not_judged}
 use Rattle.verdicts.proofs.Laws.{From, after_from, from_after, is_explained}
 use Rattle.sets.proofs.Laws.{bit_state, held_some, none_held}
-use Rattle.trace.specs.declared.Outcome.{Outcome}
-use Rattle.trace.specs.Lent.{Lent, Left, count}
+use Rattle.trace.specs.Lent.{Outcome, Lent, Left, count}
 use Rattle.trace.specs.Refusals.{outcome_of}
 use Rattle.trace.specs.Given.{GoodSoFar}
 use Rattle.trace.specs.Judged.{trace, judged, accepted_left}
@@ -59,8 +58,8 @@ never_passes l k none h =
     none from.state held.state from.step
 
 module _ (l : Lent) (ok : Accepted l) where
-  number_0 : (outcome_of issue_e l).refusal.0 ≡ 0
-  number_0 = sym (ap (λ (o : Outcome). o.refusal.0) (judged_outcome issue_e l)) ∙ ok
+  number_0 : (outcome_of issue_e l).number ≡ 0
+  number_0 = sym (ap (λ (o : Outcome). o.number) (judged_outcome issue_e l)) ∙ ok
 
   pub good : GoodSoFar issue_e l (count l)
   good = accepted_good issue_e l number_0

@@ -9,6 +9,7 @@ use Prim.Native.Nat.{ℕ, ◌^◌, ◌<◌}
 use native.Mathlib.Omega.{arith}
 use borrow.Author.Tests.{eq-eqb, ne_eqb}
 use lib.Dec.{eqb}
+use Rattle.std.specs.Prelude.{Result, ⊤}
 use lib.ListN.{length, get_or}
 use Rattle.kinds.specs.Tests.{all}
 use Rattle.kinds.specs.Codes.{I, UC, UD, SC, states, dirty, Resp_SC, Resp_SC_PD, NDERR, OK, op_invalid, tag_invalid, SnpClean, SnpShared, SnpCleanFwd, SnpPreferUniqueFwd}
@@ -19,15 +20,18 @@ use Rattle.rows.specs.Permitted.{asked, answered, tagged, permitted}
 use Rattle.steps.specs.Steps.{Step, steps, set_after, sets_after, duty, no_duty, Home, Requester, lost}
 use Rattle.steps.proofs.Stepping.{permitted_before_lem, permitted_after, in_set_step, step_in_set}
 use Rattle.kinds.proofs.Lists.{at_state}
+use Rattle.kinds.proofs.Refusals.{one_to_one, same_number_of}
+use Rattle.event.proofs.Laws.{same_numbers}
 use Rattle.kinds.specs.declared.Refusal.{Refusal}
+use Rattle.kinds.specs.Refusals.{refusal_number, number_of}
 use Rattle.kinds.specs.declared.Duty.{Duty}
 use Rattle.kinds.specs.declared.Resp.{Resp}
 use Rattle.kinds.specs.declared.FwdState.{FwdState}
 use Rattle.kinds.specs.declared.RespErr.{RespErr}
 use Rattle.kinds.specs.declared.PairNumber.{PairNumber}
-use Rattle.event.specs.declared.Judgment.{Judgment}
 use Rattle.event.specs.Refusals.{issue_e, fault, refusal_alone}
-use Rattle.event.specs.Alone.{accepted_alone, refused_alone, judged_alone}
+use Rattle.event.specs.declared.Judgment.{Judgment}
+use Rattle.event.specs.Alone.{Alone, in_numbers, accepted_alone, refused_alone, judged_alone}
 use Rattle.theorems.specs.Alone.{AcceptedEvent, set_from, duty_from}
 use Rattle.theorems.specs.Notebook.{event, entries, right}
 use Rattle.theorems.specs.Duties.{non_data_error, makes_invalid, HomeHolds, RequesterHolds, NobodyTold, DataIsDuty, SCIsKept, B60Alone, NderrFromUDIllegal}
@@ -35,15 +39,19 @@ use Rattle.theorems.proofs.Told.{law, only, only_number, other_request, exactly_
 use Rattle.theorems.proofs.Judged.{answer_alone, by_answer, number_alone, each_at, zero_at, set_after_below, duty_of_step, duty_of_none}
 
 -- DEMAND 1, ONE EVENT (definition 1.5, 1.8): any two outcomes that the claim of `event::judge_event` allows are equal.
-pub one_outcome : (bytes : List ℕ) (r r' : Judgment) → r ≡ judged_alone issue_e bytes → r' ≡ judged_alone issue_e bytes → r ≡ r'
-one_outcome bytes = only (judged_alone issue_e bytes)
+pub one_outcome : (bytes : List ℕ) (r r' : Result Judgment Refusal) → in_numbers r ≡ judged_alone issue_e bytes → in_numbers r' ≡ judged_alone issue_e bytes
+    → r ≡ r'
+one_outcome bytes r r' h h' = same_numbers r r' (h ∙ sym h')
 
 -- The same for every claim that gives the whole result, and for claims that give the number inside a type with nothing else in it.
 pub one_result : {A : Type 0} (claimed r r' : A) → r ≡ claimed → r' ≡ claimed → r ≡ r'
 one_result = only
 
-pub one_refusal : (claimed : ℕ) (r r' : Refusal) → r.0 ≡ claimed → r'.0 ≡ claimed → r ≡ r'
-one_refusal = only_number (λ k. k.0) (λ n. record { 0 = n }) (λ k. refl)
+pub one_refusal : (claimed : ℕ) (r r' : Refusal) → refusal_number r ≡ claimed → refusal_number r' ≡ claimed → r ≡ r'
+one_refusal claimed r r' h h' = one_to_one (h ∙ sym h')
+
+pub one_fault : (claimed : ℕ) (r r' : Result ⊤ Refusal) → number_of r ≡ claimed → number_of r' ≡ claimed → r ≡ r'
+one_fault claimed r r' h h' = same_number_of r r' (h ∙ sym h')
 
 pub one_duty : (claimed : ℕ) (r r' : Duty) → r.0 ≡ claimed → r'.0 ≡ claimed → r ≡ r'
 one_duty = only_number (λ k. k.0) (λ n. record { 0 = n }) (λ k. refl)
@@ -61,7 +69,7 @@ pub one_pair_number : (claimed : ℕ) (r r' : PairNumber) → r.0 ≡ claimed �
 one_pair_number = only_number (λ k. k.0) (λ n. record { 0 = n }) (λ k. refl)
 
 -- The refusal number is the one that `refusal_alone` computes (definition 4.3).
-pub number_answer : (e : List ℕ) → (judged_alone issue_e e).refusal.0 ≡ refusal_alone issue_e e
+pub number_answer : (e : List ℕ) → (judged_alone issue_e e).number ≡ refusal_alone issue_e e
 number_answer e = number_alone e
 
 -- An accepted event is answered with place 1, its seven sets and its seven duties (definition 3.1).
@@ -86,8 +94,8 @@ sets_below e s =
 -- If the event is refused, each set is empty and each duty is 0 (definition 3.2).
 pub refused_empty : (e : List ℕ) → (AcceptedEvent e → ⊥) → (s : ℕ) → (set_from e s ≡ 0) × (duty_from e s ≡ no_duty)
 refused_empty e h s = (
-  ap (λ (j : Judgment). get_or j.sets s 0) (refused_answer e h) ∙ zero_at s,
-  ap (λ (j : Judgment). get_or j.duties s 0) (refused_answer e h) ∙ zero_at s,
+  ap (λ (j : Alone). get_or j.sets s 0) (refused_answer e h) ∙ zero_at s,
+  ap (λ (j : Alone). get_or j.duties s 0) (refused_answer e h) ∙ zero_at s,
 )
 
 -- DEMAND 2, THE SETS (definition 1.6, 6.2): a state after is in the set of a state before exactly when the event is a step between them,
@@ -97,11 +105,11 @@ sets_exact e h s s' k l =
     (λ b. in_set_step e s s' k l (sym answered_so ∙ b), λ p. answered_so ∙ step_in_set e s s' p)
   where
     answered_so : bit (set_from e s) s' ≡ bit (get_or (sets_after e) s 0) s'
-    answered_so = ap (λ (j : Judgment). bit (get_or j.sets s 0) s') (accepted_answer e h)
+    answered_so = ap (λ (j : Alone). bit (get_or j.sets s 0) s') (accepted_answer e h)
 
 -- The duty for a state before is the duty byte judged from that state alone, if there is a step from it (definition 6.5).
 pub duties_exact : (e : List ℕ) → AcceptedEvent e → (s s' : ℕ) → Step e s s' → duty_from e s ≡ duty e (2 ^ s)
-duties_exact e h s s' p = ap (λ (j : Judgment). get_or j.duties s 0) (accepted_answer e h) ∙ duty_of_step e s s' p
+duties_exact e h s s' p = ap (λ (j : Alone). get_or j.duties s 0) (accepted_answer e h) ∙ duty_of_step e s s' p
 
 -- No step leaves the seven states.
 pub within_states : (e : List ℕ) (t s s' : ℕ) → permitted e t s s' ≡ true → (s < 7) × (s' < 7)

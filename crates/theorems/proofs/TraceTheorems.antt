@@ -4,11 +4,12 @@
 use mathlib.Core.Path.{◌≡◌, refl, sym, ◌∙◌, ap, ap₂, subst}
 use mathlib.Core.Logic.{◌↔◌, ◌⊎◌}
 use mathlib.Core.Bool.{true, false}
-use mathlib.Core.List.{[], ◌∷◌}
+use mathlib.Core.List.{List, [], ◌∷◌}
 use Prim.Native.Nat.{ℕ, suc, ◌<◌}
 use native.Mathlib.Nat.{zero-add}
 use native.Mathlib.Omega.{arith}
 use lib.ListN.{length}
+use Rattle.std.specs.Prelude.{Result}
 -- the definitions that the theorems name
 use Rattle.kinds.specs.Tests.{all}
 use Rattle.kinds.specs.Codes.{dirty}
@@ -19,8 +20,8 @@ use Rattle.rows.specs.Permitted.{asked, answered, tagged, permitted}
 use Rattle.steps.specs.Steps.{Step, steps, duty, no_duty, Home, Requester, lost, discarded}
 use Rattle.event.specs.Refusals.{issue_e, fault}
 use Rattle.verdicts.specs.Verdicts.{after_set, verdict, duty_byte, explained, unexplained, not_judged}
-use Rattle.trace.specs.declared.Outcome.{Outcome}
-use Rattle.trace.specs.Lent.{Lent, Left, left, count}
+use Rattle.trace.specs.declared.Refused.{Refused}
+use Rattle.trace.specs.Lent.{Outcome, Lent, Left, in_numbers, left, count}
 use Rattle.trace.specs.Refusals.{outcome, lengths_fit, fault_at, by_events, outcome_of}
 use Rattle.trace.specs.Given.{Given}
 use Rattle.trace.specs.Judged.{trace, refused_left, accepts, judged}
@@ -28,38 +29,47 @@ use Rattle.histories.specs.Histories.{own, first, History, HistoryTo, VerdictGiv
 use Rattle.theorems.specs.Duties.{non_data_error, makes_invalid, HomeHolds, RequesterHolds}
 use Rattle.theorems.specs.Traces.{Accepted, verdict_at, duty_at, after_at, set_at_end, pair_of, event_of, DutySaid, DirtyReaches, example, orders, in_order}
 -- their proofs
+use Rattle.trace.proofs.Laws.{same_numbers}
 use Rattle.trace.proofs.Given.{given, gives}
 use Rattle.trace.proofs.Whole.{judged_outcome, judged_refused}
 use Rattle.histories.proofs.Walk.{walk, walk_empty}
 use Rattle.histories.proofs.Own.{own_none}
 use Rattle.histories.proofs.At.{set_before, set_below, gives_verdict, own_kept, pair_in_lem}
-use Rattle.theorems.proofs.Told.{only}
 use Rattle.theorems.proofs.OnTrace.{good, lengths, verdicts_left, verdict_row, empty_after, unreached, end_set, after_byte, verdict_byte, duty_byte_lem, set_byte, read_set, said, silent_byte, handed_over, given_up, lost_at, discarded_at, kept_dirty}
 
 -- ONE OUTCOME (definition 1.8): any two outcomes that the claim allows are equal, in the result and in every byte of the four buffers.
-pub one_outcome_of_a_trace : (l : Lent) (r r' : Left) → r ≡ judged issue_e l → r' ≡ judged issue_e l → r ≡ r'
-one_outcome_of_a_trace l = only (judged issue_e l)
+pub one_outcome_of_a_trace : (l : Lent) (r r' : Result ℕ Refused) (t t' v v' d d' a a' : List ℕ) → left (in_numbers r) t v d a ≡ judged issue_e l
+    → left (in_numbers r') t' v' d' a' ≡ judged issue_e l → (r ≡ r') × (t ≡ t') × (v ≡ v') × (d ≡ d') × (a ≡ a')
+one_outcome_of_a_trace l r r' t t' v v' d d' a a' h h' =
+    let same = h ∙ sym h' in
+    (
+      same_numbers r r' (ap (λ (x : Left). x.outcome) same),
+      ap (λ (x : Left). x.table) same,
+      ap (λ (x : Left). x.verdicts) same,
+      ap (λ (x : Left). x.duties) same,
+      ap (λ (x : Left). x.afters) same,
+    )
 
 -- DEMAND 1 (definition 1.5, 4.1): the judge answers a number and a place exactly when the refusal table gives them.
 pub refusal_table : (l : Lent) (number place : ℕ) → (judged issue_e l).outcome ≡ outcome number place ↔ Given issue_e l number place
 refusal_table l number place = (
-  λ h. subst (λ (o : Outcome). Given issue_e l o.refusal.0 o.place) (sym (judged_outcome issue_e l) ∙ h) (given issue_e l),
+  λ h. subst (λ (o : Outcome). Given issue_e l o.number o.place) (sym (judged_outcome issue_e l) ∙ h) (given issue_e l),
   λ g. judged_outcome issue_e l ∙ sym (gives issue_e l g),
 )
 
 -- Every call has a row of the table, and only one (definition 1.8, 4.2).
-pub some_row : (l : Lent) → Given issue_e l (judged issue_e l).outcome.refusal.0 (judged issue_e l).outcome.place
-some_row l = (refusal_table l (judged issue_e l).outcome.refusal.0 (judged issue_e l).outcome.place).0 refl
+pub some_row : (l : Lent) → Given issue_e l (judged issue_e l).outcome.number (judged issue_e l).outcome.place
+some_row l = (refusal_table l (judged issue_e l).outcome.number (judged issue_e l).outcome.place).0 refl
 
 pub one_row : (l : Lent) (n p n' p' : ℕ) → Given issue_e l n p → Given issue_e l n' p' → (n ≡ n') × (p ≡ p')
 one_row l n p n' p' g g' =
     let same = gives issue_e l g ∙ sym (gives issue_e l g') in
-    (ap (λ (o : Outcome). o.refusal.0) same, ap (λ (o : Outcome). o.place) same)
+    (ap (λ (o : Outcome). o.number) same, ap (λ (o : Outcome). o.place) same)
 
 -- A refused trace leaves all buffers as they were (definition 3.5).
 pub refused_untouched : (l : Lent) → (Accepted l → ⊥) → judged issue_e l ≡ refused_left (judged issue_e l).outcome l
 refused_untouched l h =
-    judged_refused issue_e l (λ z. h (ap (λ (o : Outcome). o.refusal.0) (judged_outcome issue_e l) ∙ z))
+    judged_refused issue_e l (λ z. h (ap (λ (o : Outcome). o.number) (judged_outcome issue_e l) ∙ z))
     ∙ ap (λ (o : Outcome). refused_left o l) (sym (judged_outcome issue_e l))
 
 module _ (l : Lent) (ok : Accepted l) where

@@ -5,7 +5,7 @@ use Rattle.event.specs.Alone.{judged_alone}
 
 -- the event is accepted: its refusal number is 0
 abbrev pub AcceptedEvent : List ℕ → Type 0
-AcceptedEvent e = (judged_alone issue_e e).refusal.0 ≡ 0
+AcceptedEvent e = (judged_alone issue_e e).number ≡ 0
 
 -- the set of states after that the judge returns for the state before s
 abbrev pub set_from : List ℕ → ℕ → ℕ

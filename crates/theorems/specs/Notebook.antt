@@ -80,7 +80,7 @@ entries =
 -- the judge accepts the event, and answers for the state before with the entry's states after and its duty
 abbrev pub right : Entry → Bool
 right n =
-    eqb (judged_alone issue_e n.bytes).refusal.0 0
+    eqb (judged_alone issue_e n.bytes).number 0
     && eqb (judged_alone issue_e n.bytes).place 1
     && eqb (set_from n.bytes n.before) (set_of (λ s. s ∈? n.states_after))
     && eqb (duty_from n.bytes n.before) n.duty

@@ -11,7 +11,7 @@ use Rattle.theorems.specs.Notebook.{event, event_to}
 
 -- the trace is accepted: its refusal number is 0
 abbrev pub Accepted : Lent → Type 0
-Accepted l = (judged issue_e l).outcome.refusal.0 ≡ 0
+Accepted l = (judged issue_e l).outcome.number ≡ 0
 
 -- the verdict of event k
 abbrev pub verdict_at : Lent → ℕ → ℕ
@@ -100,4 +100,4 @@ orders =
 
 -- the outcome is as the case says
 abbrev pub in_order : Order → Bool
-in_order o = eqb (judged issue_e o.lends).outcome.refusal.0 o.number && eqb (judged issue_e o.lends).outcome.place o.place
+in_order o = eqb (judged issue_e o.lends).outcome.number o.number && eqb (judged issue_e o.lends).outcome.place o.place
