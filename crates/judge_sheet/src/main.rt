@@ -12,85 +12,75 @@ use std::process::ExitCode;
 // The size of the input buffer and of the output buffer.
 const SIZE: usize = 65536;
 
-// What a read brought: the number of bytes, and whether it failed.
+// Why a run ends early: standard input can't be read, standard output can't be written, nobody reads it any more, or the turns are used up.
 #[derive(Clone, Copy)]
-struct Got {
-    count: usize,
-    failed: bool,
+enum Failure {
+    Read,
+    Write,
+    ClosedPipe,
+    Turns,
 }
 
-// Reports on standard error why the run ends early.
-fn complain(rt: &HostRuntime, why: &[u8]) -> bool {
-    rt.stderr().write_all(why).is_ok()
-}
-
-// Reads once, behind the bytes that are still held. A read error is reported, and is not taken for the end of the input (definition 8.10).
-fn read_more(rt: &HostRuntime, held: usize, piece: &mut [u8]) -> Got
-    requires { held ≤ length piece.old }
-{
-    let Ok(count) = rt.stdin().read(&mut piece[held..]) else {
-        complain(rt, b"judge_sheet: standard input can't be read\n");
-        return Got {
-            count: 0,
-            failed: true,
-        };
-    };
-    Got {
-        count,
-        failed: false,
-    }
-}
-
-// Reads if the run wants more input.
-fn read_wanted(rt: &HostRuntime, run: Turned, piece: &mut [u8]) -> Got
+// Reads if the run wants more input, behind the bytes that are still held, and returns how many bytes arrived. A read error is not taken
+// for the end of the input (definition 8.10).
+fn read_wanted(rt: &HostRuntime, run: Turned, piece: &mut [u8]) -> Result<usize, Failure>
     requires { run.carried.held ≤ length piece.old }
 {
-    if run.wants {
-        return read_more(rt, run.carried.held, piece);
+    if !run.wants {
+        return Ok(0);
     }
-    Got {
-        count: 0,
-        failed: false,
-    }
+    rt.stdin()
+        .read(&mut piece[run.carried.held..])
+        .map_err(|_| Failure::Read)
 }
 
-// Writes the first `put` bytes of the buffer. A failed write is reported, unless the output is a closed pipe (definition 8.10).
-fn write_out(rt: &HostRuntime, out: &[u8], put: usize) -> bool
+// Writes the first `put` bytes of the buffer.
+fn write_out(rt: &HostRuntime, out: &[u8], put: usize) -> Result<(), Failure>
     requires { put ≤ length out.now }
 {
-    let Err(error) = rt.write_all(&out[..put]) else {
-        return true;
-    };
-    if error.kind() != ErrorKind::BrokenPipe {
-        complain(rt, b"judge_sheet: standard output can't be written\n");
-    }
-    false
+    rt.write_all(&out[..put]).map_err(|error| {
+        if error.kind() == ErrorKind::BrokenPipe {
+            Failure::ClosedPipe
+        } else {
+            Failure::Write
+        }
+    })
 }
 
 // Reads, judges and writes until the run is over or fails.
-fn main(rt: HostRuntime) -> ExitCode {
+fn judge(rt: &HostRuntime) -> Result<(), Failure> {
     let mut piece = [0u8; SIZE];
     let mut table = [0u8; MOST_PAIRS];
     let mut out = [0u8; SIZE];
     let mut run = sheet::begin(&mut table, &mut out);
-    if !write_out(&rt, &out, run.put) {
-        return ExitCode::FAILURE;
-    }
-    let mut turns: u64 = 1_000_000_000_000;
-    while turns > 0 {
-        let got = read_wanted(&rt, run, &mut piece);
-        if got.failed {
-            return ExitCode::FAILURE;
-        }
-        let next = sheet::turn(run.carried, got.count, &mut piece, &mut table, &mut out);
-        run = next;
-        if !write_out(&rt, &out, run.put) {
-            return ExitCode::FAILURE;
-        }
+    write_out(rt, &out, run.put)?;
+    for _ in 0..1_000_000_000_000u64 {
+        let got = read_wanted(rt, run, &mut piece)?;
+        run = sheet::turn(run.carried, got, &mut piece, &mut table, &mut out);
+        write_out(rt, &out, run.put)?;
         if run.over {
-            return ExitCode::SUCCESS;
+            return Ok(());
         }
-        turns -= 1;
+    }
+    Err(Failure::Turns)
+}
+
+// Reports on standard error why the run ended early.
+fn complain(rt: &HostRuntime, why: &[u8]) -> bool {
+    rt.stderr().write_all(why).is_ok()
+}
+
+// Judges the sheet. A failed read or write is reported, unless the output is a closed pipe (definition 8.10).
+fn main(rt: HostRuntime) -> ExitCode {
+    match judge(&rt) {
+        Ok(()) => return ExitCode::SUCCESS,
+        Err(Failure::Read) => {
+            complain(&rt, b"judge_sheet: standard input can't be read\n");
+        }
+        Err(Failure::Write) => {
+            complain(&rt, b"judge_sheet: standard output can't be written\n");
+        }
+        Err(Failure::ClosedPipe | Failure::Turns) => {}
     }
     ExitCode::FAILURE
 }
