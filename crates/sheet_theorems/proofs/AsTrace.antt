@@ -17,7 +17,7 @@ use Rattle.verdicts.specs.Verdicts.{after_set, verdict, duty_byte}
 use Rattle.trace.specs.Events.{TraceEvent, event_at, events_from, moved, run, outputs}
 use Rattle.trace.specs.Lent.{Lent, left, count}
 use Rattle.trace.specs.Refusals.{outcome, outcome_of}
-use Rattle.trace.specs.declared.Outcome.{Outcome}
+use Rattle.trace.specs.Lent.{Outcome}
 use Rattle.trace.specs.Given.{GoodSoFar, EventGood, accepted}
 use Rattle.trace.specs.Judged.{trace, judged}
 use Rattle.trace.proofs.Given.{gives}
@@ -145,7 +145,7 @@ module _ (lines : List (List ℕ)) (verdicts duties afters : List ℕ) (g : all 
       (outputs verdict start_table (events_of lines)) (outputs duty_byte start_table (events_of lines)) (outputs after_set start_table (events_of lines))
   unfolding l
   judged_so =
-      judged_accepted issue_e l (ap (λ (o : Outcome). o.refusal.0) outcome_so)
+      judged_accepted issue_e l (ap (λ (o : Outcome). o.number) outcome_so)
       ∙ ap₂ (λ (o : Outcome) (xs : List TraceEvent). left o (run start_table xs) (outputs verdict start_table xs) (outputs duty_byte start_table xs) (outputs after_set start_table xs)) outcome_so trace_so
 
 -- the bytes that a trace leaves, written out, are the sheet's output
