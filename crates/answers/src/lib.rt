@@ -1,11 +1,12 @@
 // Every answer that a cache could have given to a snoop, listed (definition 11).
 #![tactic(auto)]
 
-ghost use Rattle.std.specs.Prelude.{◌*◌, ◌≤◌, ◌≡◌, ◌++◌, All, map, length, drop};
+ghost use Rattle.std.specs.Prelude.{◌*◌, ◌≤◌, ◌≡◌, ◌++◌, All, map, length, get_or, drop, ◌<◌};
 ghost use Rattle.kinds.specs.Refusals.{number_of};
 ghost use Rattle.event.specs.Refusals.{issue_e};
 ghost use Rattle.answers.specs.Listed.{answer_length, most_answers, joined, fault_of, in_numbers, list_left, listed};
-ghost use Rattle.answers.specs.Code.{number_of_tables, tables_of, context_of, span_of, IsAnswer, answer_at};
+ghost use Rattle.answers.specs.Code.{number_of_tables, tables_of, context_of, span_of, IsAnswer, nine_zeros, answer_at};
+ghost use Rattle.answers.specs.declared.table.TheConstants.{ANSWERS};
 
 use kinds::{LineState, Refusal, Request, RespErr, TagState};
 
@@ -103,14 +104,22 @@ fn span(q: Question) -> u16
     table::SPANS[list as usize]
 }
 
+// The bytes of an answer of the table.
+fn row(answer: u8) -> [u8; FORWARDED_ERR]
+    requires { answer < length ANSWERS }
+    ensures { result ≡ get_or ANSWERS answer nine_zeros }
+{
+    table::ANSWERS[answer as usize]
+}
+
 // Puts the answer with this number into its ten bytes: a row of the table, and the error field of its forwarded data.
 fn put_answer(slot: &mut [u8], number: u8)
     requires ten { length slot.old ≡ answer_length }
     requires in_table { IsAnswer number }
     ensures { slot.new ≡ answer_at number }
 {
-    let answer = number % WITH_DERR;
-    slot[..FORWARDED_ERR].copy_from_slice(&table::ANSWERS[answer as usize]);
+    let answer = row(number % WITH_DERR);
+    slot[..FORWARDED_ERR].copy_from_slice(&answer);
     slot[FORWARDED_ERR] = kinds::choose(number < WITH_DERR, RespErr::OK, RespErr::DERR).0;
 }
 

@@ -25,7 +25,6 @@ use Rattle.theorems.specs.Alone.{set_from}
 use Rattle.theorems.specs.Listing.{InRange, is_listed, nderr_answer, no_such_tags, longest_question}
 -- their proofs
 use Rattle.kinds.proofs.Lists.{and_left, and_right, and_both}
-use Rattle.answers.specs.Table.{spans}
 use Rattle.answers.specs.Code.{span_of}
 use Rattle.answers.proofs.Ascending.{not_itself, ascending_at}
 use Rattle.answers.proofs.Lists.{answers_members, answers_ascend}
@@ -90,18 +89,18 @@ pub longest_good : Good issue_e longest_question
 longest_good = record { in_range = refl; known = refl }
 
 pub longest : length (answers_to issue_e longest_question) ≡ most_answers
-unfolding span_of spans
+unfolding span_of
 longest = list_length longest_question (good_fault longest_question longest_good)
 
--- So 9 is never met with a room of 261 bytes.
+-- So 9 is never met with a room of 570 bytes.
 pub room_enough : (q : Question) (room : List ℕ) → answer_length * most_answers ≤ length room → Given issue_e q room 9 → ⊥
 room_enough q room h (short_room g l) = omega (arith, most q g)
 
 -- THE REFUSALS (definition 11.5): the number is given exactly when its row applies, and every call has a row.
-pub list_refusals : (q : Question) (room : List ℕ) (n : ℕ) → (listed issue_e q room).result.refusal.0 ≡ n ↔ Given issue_e q room n
+pub list_refusals : (q : Question) (room : List ℕ) (n : ℕ) → (listed issue_e q room).result.number ≡ n ↔ Given issue_e q room n
 list_refusals q room n = (λ h. subst (Given issue_e q room) h (given q room), λ g. gives g)
 
-pub some_list_row : (q : Question) (room : List ℕ) → Given issue_e q room (listed issue_e q room).result.refusal.0
+pub some_list_row : (q : Question) (room : List ℕ) → Given issue_e q room (listed issue_e q room).result.number
 some_list_row = given
 
 -- The place is always 0 (definition 11.4).
