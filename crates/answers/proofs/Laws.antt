@@ -18,14 +18,17 @@ use Rattle.std.proofs.lemmas.List.Elements.{All-take, All-drop}
 use Rattle.std.specs.List.{All}
 use Rattle.kinds.specs.Tests.{all, ◌∈?◌}
 use Rattle.kinds.specs.Codes.{OK, DERR}
+use Rattle.kinds.specs.declared.Refusal.{Refusal}
 use Rattle.kinds.specs.declared.RespErr.{RespErr}
+use Rattle.kinds.proofs.Refusals.{one_to_one, not_accepted}
+use Rattle.std.specs.Prelude.{Result, Ok, Err}
 use Rattle.kinds.proofs.Lists.{and_left, and_right}
 use Rattle.rows.specs.Event.{request_of}
 use Rattle.event.specs.Refusals.{issue_e, below, fault}
 use Rattle.answers.specs.declared.Question.{Question}
 use Rattle.answers.specs.Answers.{question_bytes}
 use Rattle.answers.specs.declared.table.TheConstants.{NUMBERS, ANSWERS}
-use Rattle.answers.specs.Listed.{answer_length, asking, fault_of, joined}
+use Rattle.answers.specs.Listed.{answer_length, asking, fault_of, joined, Listed, in_numbers}
 use Rattle.answers.specs.Code.{with_derr, IsAnswer, nine_zeros, answer_at, answers_at}
 use Rattle.answers.specs.declared.Tables.{Tables}
 use Rattle.answers.specs.declared.Tables.TheVariants.{B46, B57, B59, B59WithB60, Unique, CleanInvalid, MakeInvalid}
@@ -147,3 +150,10 @@ pub fault_tests : (q : Question) (b r : Bool) → below (question_bytes q) 1 (as
     → fault_of issue_e q ≡ cond b (cond r 0 5) 4
 unfolding fault
 fault_tests q b r hb hr = ap₂ (λ (x y : Bool). cond x (cond y 0 5) 4) hb hr
+
+-- NO TWO RESULTS HAVE THE SAME NUMBERS.
+pub same_numbers : (r s : Result ℕ Refusal) → in_numbers r ≡ in_numbers s → r ≡ s
+same_numbers (Ok n) (Ok m) h = ap (λ (l : Listed). Ok l.count) h
+same_numbers (Ok n) (Err s) h = absurd (not_accepted s (sym (ap (λ (l : Listed). l.number) h)))
+same_numbers (Err r) (Ok m) h = absurd (not_accepted r (ap (λ (l : Listed). l.number) h))
+same_numbers (Err r) (Err s) h = ap (λ (x : Refusal). Err x) (one_to_one (ap (λ (l : Listed). l.number) h))

@@ -12,6 +12,8 @@ use borrow.Author.Tests.{eqb-true, eq-eqb, ne_eqb}
 use lib.Dec.{eqb}
 use lib.ListN.{length, get_or}
 -- the definitions that the theorems name
+use Rattle.std.specs.Prelude.{Result}
+use Rattle.kinds.specs.declared.Refusal.{Refusal}
 use Rattle.sets.specs.Sets.{bit}
 use Rattle.rows.specs.Event.{byte}
 use Rattle.rows.specs.Permitted.{permitted}
@@ -19,24 +21,26 @@ use Rattle.event.specs.Refusals.{issue_e, below}
 use Rattle.answers.specs.declared.Question.{Question}
 use Rattle.answers.specs.Answers.{event_with, permits, answer_limits, answers_to}
 use Rattle.answers.specs.Ascending.{comes_before, ascending}
-use Rattle.answers.specs.Listed.{answer_length, most_answers, ListLeft, accepted_list, refused_list, listed}
+use Rattle.answers.specs.Listed.{answer_length, most_answers, ListLeft, in_numbers, list_left, accepted_list, refused_list, listed}
 use Rattle.answers.specs.Given.{Good, Given, short_room}
 use Rattle.theorems.specs.Alone.{set_from}
 use Rattle.theorems.specs.Listing.{InRange, is_listed, nderr_answer, no_such_tags, longest_question}
 -- their proofs
 use Rattle.kinds.proofs.Lists.{and_left, and_right, and_both}
 use Rattle.answers.specs.Code.{span_of}
+use Rattle.answers.proofs.Laws.{same_numbers}
 use Rattle.answers.proofs.Ascending.{not_itself, ascending_at}
 use Rattle.answers.proofs.Lists.{answers_members, answers_ascend}
 use Rattle.answers.proofs.Whole.{list_length}
 use Rattle.answers.proofs.Given.{good_fault, leaves, gives, given, most, small}
-use Rattle.theorems.proofs.Told.{only}
 use Rattle.theorems.proofs.Theorems.{sets_exact}
 use Rattle.theorems.proofs.Listing.{event_accepted, before_below, tag_below, after_below, step_permitted, permitted_step, nderr_test, no_length}
 
 -- ONE OUTCOME (definition 1.8): any two outcomes that the claim allows are equal, in the result and in every byte of the room.
-pub one_list : (q : Question) (room : List ℕ) (l l' : ListLeft) → l ≡ listed issue_e q room → l' ≡ listed issue_e q room → l ≡ l'
-one_list q room = only (listed issue_e q room)
+pub one_list : (q : Question) (room : List ℕ) (r r' : Result ℕ Refusal) (m m' : List ℕ) → list_left (in_numbers r) m ≡ listed issue_e q room
+    → list_left (in_numbers r') m' ≡ listed issue_e q room → (r ≡ r') × (m ≡ m')
+one_list q room r r' m m' h h' =
+    let same = h ∙ sym h' in (same_numbers r r' (ap (λ (l : ListLeft). l.result) same), ap (λ (l : ListLeft). l.room) same)
 
 -- THE LIST (definition 11.2): ten bytes are in it exactly when they are in range and the rows permit them: as the event that the question
 -- and they make, with the question's tag state, from its state before to their last byte.

@@ -41,8 +41,7 @@ use Rattle.theorems.proofs.OnTrace.{good, lengths, verdicts_left, verdict_row, e
 pub one_outcome_of_a_trace : (l : Lent) (r r' : Result ℕ Refused) (t t' v v' d d' a a' : List ℕ) → left (in_numbers r) t v d a ≡ judged issue_e l
     → left (in_numbers r') t' v' d' a' ≡ judged issue_e l → (r ≡ r') × (t ≡ t') × (v ≡ v') × (d ≡ d') × (a ≡ a')
 one_outcome_of_a_trace l r r' t t' v v' d d' a a' h h' =
-    let same = h ∙ sym h' in
-    (
+    let same = h ∙ sym h' in (
       same_numbers r r' (ap (λ (x : Left). x.outcome) same),
       ap (λ (x : Left). x.table) same,
       ap (λ (x : Left). x.verdicts) same,
