@@ -47,7 +47,7 @@ impl Effect {
 fn kind_of(answer: u64) -> u64
     ensures { result ≡ kind_of answer }
 {
-    let slot = table::slot(((answer % HALF * table::FACTOR) >> 24) % 256 + 256);
+    let slot = table::SLOTS[((answer % HALF * table::FACTOR) >> 24) as usize % 256];
     if slot % HALF == answer { slot >> 32 } else { 0 }
 }
 
@@ -59,26 +59,26 @@ fn context_of(flags: u64) -> u64
 }
 
 // The entry for a request and a kind of answer: the states before, as sets, the states after and the duty.
-fn entry_of(request: u8, kind: u64) -> u64
+fn entry_of(request: u8, kind: usize) -> u64
     requires { kind < 32 }
     ensures { result ≡ entry_of request kind }
 {
-    table::entry((table::start((request % 32) as u64) + kind) % 512)
+    table::ENTRIES[table::STARTS[request as usize % 32] as usize + kind]
 }
 
 // Which of the entry's three sets of states before holds.
-fn choice_of(kind: u64, flags: u64) -> u64
+fn choice_of(kind: usize, flags: u64) -> u64
+    requires { kind < 32 }
     ensures { result ≡ choice_of kind flags }
 {
-    let context = context_of(flags);
-    (table::choice(kind) >> (context * 2)) % 4
+    (table::CHOICES[kind] >> (context_of(flags) * 2)) % 4
 }
 
 // The effect, by request, flags of the snoop and packed answer.
 fn look_up(request: u8, flags: u64, answer: u64) -> Effect
     ensures { result.0 ≡ looked_up request flags answer }
 {
-    let kind = kind_of(answer) % 32;
+    let kind = (kind_of(answer) % 32) as usize;
     let entry = entry_of(request, kind);
     let choice = choice_of(kind, flags);
     Effect((entry >> (choice * 8)) % 256 + (entry >> 32) * 256)
