@@ -7,7 +7,7 @@ ghost use Rattle.sets.specs.Sets.{bit, holds_dirty, apply};
 use kinds::LineState;
 
 // The seven states, in the order of their numbers.
-const STATES: [LineState; 7] = [
+static STATES: [LineState; 7] = [
     LineState::I,
     LineState::UC,
     LineState::UCE,

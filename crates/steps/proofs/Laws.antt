@@ -1,38 +1,23 @@
 -- Laws about what the functions of the loop compute, over plain variables.
 -- Assumes nothing.
-use mathlib.Core.Path.{◌≡◌, refl, sym, ◌∙◌, ap, subst, subst⁻¹}
+use mathlib.Core.Path.{◌≡◌, refl, sym, ◌∙◌, ap, subst}
 use mathlib.Core.Bool.{Bool, true, false, cond, ◌&&◌}
 use mathlib.Core.List.{List}
-use Prim.Native.Nat.{ℕ, zero, suc, ◌+◌, ◌*◌, ◌/◌, ◌%◌, ◌^◌, ◌<◌, ◌≤◌}
+use Prim.Native.Nat.{ℕ, zero, suc, ◌+◌, ◌<◌, ◌≤◌}
 use native.Mathlib.Omega.{arith}
-use borrow.Author.Tests.{eqb-true, eqb-false, ne_eqb, ltb-true, ltb-false}
+use borrow.Author.Tests.{eqb-true, eqb-false, ne_eqb}
 use denote.Param.Members.{Mut, Called}
 use Rattle.std.specs.Array.{IsFromFnResultFrom}
-use lib.Dec.{eqb, ltb}
+use lib.Dec.{eqb}
 use lib.ListN.{get_or}
 use Rattle.kinds.specs.Codes.{state_not_seen, NDERR, resp_pd, fwd_pd}
-use Rattle.kinds.proofs.Lists.{each_state}
 use Rattle.sets.specs.Sets.{set_of, holds_dirty}
 use Rattle.rows.specs.Event.{resp_of, fwd_state_of, resp_err_of, seen}
+use Rattle.steps.specs.declared.TheConstants.{SEEN_STATES}
 use Rattle.steps.specs.Steps.{duty, discards, no_duty, Home, Requester, lost, discarded}
 
--- the code's sets of possible states after, by byte 13: each state by itself, and all seven for 7
-abbrev weights : ℕ
-weights = 0x7F40201008040201
-
--- byte n of that number is the set of the states after that the event may have
-pub seen_at : (n : ℕ) → n < 8 → weights / 2 ^ (n * 8) % 256 ≡ set_of (seen state_not_seen n)
-unfolding set_of
-seen_at n h = go (ltb n 7) refl
-  where
-    go : (b : Bool) → ltb n 7 ≡ b → weights / 2 ^ (n * 8) % 256 ≡ set_of (seen state_not_seen n)
-    go true k = each_state (λ m. weights / 2 ^ (m * 8) % 256 ≡ set_of (seen state_not_seen m)) refl refl refl refl refl refl refl n (ltb-true n 7 k)
-    go false k = last n (omega (arith, ltb-false n 7 k))
-      where
-        last : (m : ℕ) → m ≡ 7 → weights / 2 ^ (m * 8) % 256 ≡ set_of (seen state_not_seen m)
-        last m e = subst⁻¹ (λ (i : ℕ). weights / 2 ^ (i * 8) % 256 ≡ set_of (seen state_not_seen i)) e refl
-
-pub seen_past : (n : ℕ) → 8 ≤ n → 0 ≡ set_of (seen state_not_seen n)
+-- a number past 7 is no state
+seen_past : (n : ℕ) → 8 ≤ n → 0 ≡ set_of (seen state_not_seen n)
 unfolding set_of
 seen_past n h =
     simp (
@@ -45,6 +30,19 @@ seen_past n h =
       ne_eqb n 5 (omega arith),
       ne_eqb n 6 (omega arith),
     )
+
+-- element n of the code's sets is the set of the states after that the event may have
+pub seen_at : (n : ℕ) → get_or SEEN_STATES n 0 ≡ set_of (seen state_not_seen n)
+unfolding set_of
+seen_at zero = refl
+seen_at (suc zero) = refl
+seen_at (suc (suc zero)) = refl
+seen_at (suc (suc (suc zero))) = refl
+seen_at (suc (suc (suc (suc zero)))) = refl
+seen_at (suc (suc (suc (suc (suc zero))))) = refl
+seen_at (suc (suc (suc (suc (suc (suc zero)))))) = refl
+seen_at (suc (suc (suc (suc (suc (suc (suc zero))))))) = refl
+seen_at (suc (suc (suc (suc (suc (suc (suc (suc n)))))))) = seen_past (suc (suc (suc (suc (suc (suc (suc (suc n)))))))) (omega arith)
 
 -- where each call leaves the closure as it was and gives h of its index, so are the elements that they make
 pub made_by : {F : Type 0} (g : Mut F (ℕ × Unit {0}) ℕ) (f : F) (h : ℕ → ℕ) → ((i y : ℕ) (q : F) → Called g f (i, tt) y q → (q ≡ f) × (y ≡ h i))

@@ -10,8 +10,8 @@ ghost use Rattle.steps.specs.Code.{column_at, table_at, answer_at, row_at, event
 ghost use Rattle.steps.specs.Code.{tables_of, message_of, row_key, event_key};
 
 use kinds::{
-    Answer, Channel, Duty, EVENT_BYTES, Forward, FwdState, LineState, Opcode, Request, Resp,
-    RespErr, place,
+    ALL_STATES, Answer, Channel, Duty, EVENT_BYTES, Forward, FwdState, LineState, Opcode, Request,
+    Resp, RespErr, place,
 };
 use rows::Table;
 
@@ -102,19 +102,14 @@ fn row_adds(e: &[u8; EVENT_BYTES], among: u8, row: Row) -> u8
     }
 }
 
-// The sets of possible states after by byte 13, two digits each from the right: each state by itself, and all seven for not seen.
-// Stays: an array of eight sets is too slow in lookup::seen_after, since a constant array is laid out on the stack in each call.
-const SEEN_STATES: u64 = 0x7F_40_20_10_08_04_02_01;
+// The sets of possible states after by byte 13: each state by itself, and all seven for not seen.
+static SEEN_STATES: [u8; 8] = [1, 2, 4, 8, 16, 32, 64, ALL_STATES];
 
 // The states after that the event may have, as a set: the one that was seen, or all if none was seen.
 pub fn seen_states(shown: LineState) -> u8
     ensures { result ≡ set_of (seen state_not_seen shown.0) }
 {
-    if shown.0 < 8 {
-        ((SEEN_STATES >> (shown.0 as u64 * 8)) % 256) as u8
-    } else {
-        0
-    }
+    SEEN_STATES.get(shown.0 as usize).copied().unwrap_or(0)
 }
 
 // A copy of the event's 15 bytes, so that the loop over the rows does not check the slice's length again.

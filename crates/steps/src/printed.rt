@@ -151,8 +151,8 @@ const SnpRespData_I_PD_Fwded_SC: u32 = SNP_RESP_DATA + RESP_I_PD + FWDED_SC;
 pub const ROW_COUNT: usize = 96;
 
 // All rows, as in specs/Rows.antt of the crate rows.
-// Stays: an array of structs that hold enums was tried, and the proof didn't close: the check met its limit of steps.
-pub const ROWS: [u32; ROW_COUNT] = [
+// Stays: words and not structs, since the edits row_key_one_bit_off and rows_of_another_request are about the keys in the words.
+pub static ROWS: [u32; ROW_COUNT] = [
     // Table B4.46: SnpClean, SnpShared, SnpNotSharedDirty and SnpPreferUnique
     B46 + I + TO_I + X + SnpResp_I,
     B46 + UC + SC_OR_I + X + SnpResp_SC,
