@@ -2,15 +2,15 @@
 -- Assumes nothing.
 use mathlib.Core.Path.{◌≡◌, refl, sym, ◌∙◌, ap, ap₂, subst}
 use mathlib.Core.Bool.{Bool, true, false, cond, not, ◌&&◌}
-use mathlib.Core.List.{List}
+use mathlib.Core.List.{List, ◌++◌}
 use Prim.Native.Nat.{ℕ, zero, suc, ◌+◌, ◌-◌, ◌%◌, ◌^◌, ◌<◌, ◌≤◌}
 use native.Mathlib.Numerals.{add-one}
-use native.Mathlib.Nat.{sub-zero}
+use native.Mathlib.Nat.{sub-zero, zero-add}
 use native.Mathlib.Omega.{arith}
 use borrow.Author.Tests.{ltb-true, ltb-false, lt-ltb, le-ltb, le-leb, leb-true, eqb-true, eq-eqb, ne_eqb, not-true, not-false}
 use lib.Bits.{bit_and}
 use lib.Dec.{eqb, leb, ltb}
-use lib.ListN.{length, get_or, take, drop, length-drop, replicate}
+use lib.ListN.{length, get_or, get_or-eq_default, get_or-append, take, drop, length-drop, replicate}
 use lib.Seq.{take_all}
 use Rattle.words.specs.Words.{word, word_of}
 use Rattle.words.proofs.Laws.{powers, masks, each_under}
@@ -26,7 +26,7 @@ use Rattle.trace.specs.declared.Refused.{Refused}
 use Rattle.trace.specs.Lent.{Outcome, Left, Lent, in_numbers, left, count}
 use Rattle.std.specs.Prelude.{Some, None, Result, Ok, Err, IsErr}
 use Rattle.std.specs.List.{position, position_or_len}
-use Rattle.std.proofs.lemmas.List.{get_or-drop}
+use Rattle.std.proofs.lemmas.List.{get_or-drop, length-append, drop_at, drop-drop}
 use Rattle.std.proofs.lemmas.List.Sums.{prefix_len_passes, prefix_len_stops}
 use Rattle.trace.specs.Given.{Fits}
 use Rattle.trace.specs.Judged.{accepts, accepted_left, refused_left, judged}
@@ -80,19 +80,50 @@ good_set : (x : ℕ) → x < 2 ^ 7 → is_bad_set x ≡ false
 good_set x h = le-ltb 127 x (omega arith)
 
 -- eight more sets are good where none has the top bit
-pub good_more : (table : List ℕ) (bytes : (i : ℕ) → get_or table i 0 < 256) (p w : ℕ) → GoodBefore table p → 8 ≤ length table - p → w ≡ word table p
-    → bit_and w (word_of (masks (powers (replicate 8 7)))) ≡ 0 → GoodBefore table (p + 8)
-good_more table bytes p w g room h k = record { within = omega arith; good = λ q l. go q l (ltb q p) refl }
-  where
-    low : (i : ℕ) → i < 8 → get_or table (p + i) 0 < 2 ^ 7
-    low = each_under table bytes p 7 (ap (λ (n : ℕ). bit_and n (word_of (masks (powers (replicate 8 7))))) (sym h) ∙ k)
+module _ (table eight rest : List ℕ) (p : ℕ) (there : drop p table ≡ eight ++ rest) (long : length eight ≡ 8) where
+  room : p + 8 ≤ length table
+  room =
+      let n : length table - p ≡ 8 + length rest =
+      sym (length-drop p table) ∙ ap length there ∙ length-append eight rest ∙ ap (λ (i : ℕ). i + length rest) long in
+      omega arith
 
-    go : (q : ℕ) → q < p + 8 → (t : Bool) → ltb q p ≡ t → is_bad_set (get_or table q 0) ≡ false
-    go q l true e = g.good q (ltb-true q p e)
-    go q l false e =
-        let m = ltb-false q p e in
-        let here : p + (q - p) ≡ q = omega arith in
-        good_set (get_or table q 0) (subst (λ (i : ℕ). get_or table i 0 < 2 ^ 7) here (low (q - p) (omega arith)))
+  same_set : (i : ℕ) → i < 8 → get_or table (p + i) 0 ≡ get_or eight i 0
+  same_set i h =
+      let l : i < length eight = omega arith in
+      sym (get_or-drop p table i 0) ∙ ap (λ (xs : List ℕ). get_or xs i 0) there ∙ get_or-append eight rest 0 i l
+
+  -- no byte is above 255
+  bytes_of : ((i : ℕ) → get_or table i 0 < 256) → (i : ℕ) → get_or eight i 0 < 256
+  bytes_of bytes i = go (ltb i 8) refl
+    where
+      go : (t : Bool) → ltb i 8 ≡ t → get_or eight i 0 < 256
+      go true e = subst (λ (x : ℕ). x < 256) (same_set i (ltb-true i 8 e)) (bytes (p + i))
+      go false e =
+          let l : length eight ≤ i = omega (arith, ltb-false i 8 e) in
+          let z : get_or eight i 0 ≡ 0 = get_or-eq_default eight 0 l in
+          omega arith
+
+  pub good_more : {w : ℕ} → ((i : ℕ) → get_or table i 0 < 256) → GoodBefore table p → w ≡ word eight 0
+      → bit_and w (word_of (masks (powers (replicate 8 7)))) ≡ 0 → GoodBefore table (p + 8)
+  good_more {w} bytes g h k = record { within = room; good = λ q l. go q l (ltb q p) refl }
+    where
+      low : (i : ℕ) → i < 8 → get_or eight i 0 < 2 ^ 7
+      low i l =
+          subst (λ (j : ℕ). get_or eight j 0 < 2 ^ 7) (zero-add i)
+          (each_under eight (bytes_of bytes) 0 7 (ap (λ (n : ℕ). bit_and n (word_of (masks (powers (replicate 8 7))))) (sym h) ∙ k) i l)
+
+      go : (q : ℕ) → q < p + 8 → (t : Bool) → ltb q p ≡ t → is_bad_set (get_or table q 0) ≡ false
+      go q l true e = g.good q (ltb-true q p e)
+      go q l false e =
+          let m = ltb-false q p e in
+          let j : q - p < 8 = omega arith in
+          let here : p + (q - p) ≡ q = omega arith in
+          good_set (get_or table q 0)
+          (subst (λ (i : ℕ). get_or table i 0 < 2 ^ 7) here (subst (λ (x : ℕ). x < 2 ^ 7) (sym (same_set (q - p) j)) (low (q - p) j)))
+
+  -- and what follows them is still to come
+  pub rest_follows : rest ≡ drop (p + 8) table
+  rest_follows = sym (ap (λ (xs : List ℕ). drop 8 xs) there ∙ drop_at eight rest 8 long) ∙ drop-drop 8 p table
 
 -- behind the sets that are good, the first bad one is the lowest of the table, and if there is none, all sets are good
 module _ {table : List ℕ} {p : ℕ} (g : GoodBefore table p) where
@@ -250,16 +281,6 @@ module _ (issue : Issue) (l : Lent) where
   whole_events h =
       let f = fits l h in
       record { few = omega (arith, f.pairs_fit, f.few_events); whole = omega (arith, f.pairs_fit, f.whole) }
-
-  -- if a trace is accepted, its lengths fit
-  pub accepted_fits : (outcome_of issue l).number ≡ 0 → lengths_fit l ≡ true
-  accepted_fits h = go (lengths_fit l) refl
-    where
-      go : (b : Bool) → lengths_fit l ≡ b → b ≡ true
-      go true k = refl
-      go false k =
-          let wrong : ◌≡◌ {A = ℕ} 1 0 = sym (ap (λ (o : Outcome). o.number) (by_stages false (ltb (lowest_bad_set l.table) (length l.table)) k refl)) ∙ h in
-          absurd (omega arith)
 
   -- what is left of a trace, by whether it is accepted
   abbrev left_by : Bool → Left

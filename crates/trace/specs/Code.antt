@@ -1,8 +1,9 @@
 -- What private functions compute. No public claim names this file.
-use Rattle.std.specs.Prelude.{ℕ, ◌+◌, ◌*◌, ◌<◌, ◌≤◌, ◌≡◌, false, List, length, set}
+use Rattle.std.specs.Prelude.{ℕ, ◌+◌, ◌*◌, ◌<◌, ◌≤◌, ◌≡◌, false, List, length}
 use Rattle.kinds.specs.Places.{event_length, most_events, set_in, pair_in, event_in}
 use Rattle.event.specs.Refusals.{issue_e, fault}
-use Rattle.verdicts.specs.Verdicts.{after_set, verdict, duty_byte}
+use Rattle.verdicts.specs.Verdicts.{after_set, verdict, duty_byte, finding}
+use Rattle.verdicts.specs.declared.Finding.{Finding}
 use Rattle.trace.specs.Refusals.{bad_set_at}
 use Rattle.trace.specs.Events.{event_at, events_from, moved, run, outputs}
 
@@ -26,13 +27,6 @@ pub record Good (events pairs table : List ℕ) (k : ℕ) : Type 0 where
   pub has_pair : pair_in pairs k < length table
   pub no_fault : fault issue_e (event_in events k) ≡ 0
 
--- event k is not refused, and the three output buffers have a byte for it
-pub record OneReady (events pairs table verdicts duties afters : List ℕ) (k : ℕ) : Type 0 where
-  pub good : Good events pairs table k
-  pub in_verdicts : k < length verdicts
-  pub in_duties : k < length duties
-  pub in_afters : k < length afters
-
 -- no event is refused, and the three output buffers have one byte for each
 pub record Ready (events pairs table verdicts duties afters : List ℕ) : Type 0 where
   pub few : length pairs ≤ most_events
@@ -41,12 +35,10 @@ pub record Ready (events pairs table verdicts duties afters : List ℕ) : Type 0
   pub afters_fit : length afters ≡ length pairs
   pub good : (k : ℕ) → k < length pairs → Good events pairs table k
 
--- the four buffers after event k: the new table, and one byte in each of the others
-pub record OneJudged (events pairs : List ℕ) (k : ℕ) (table verdicts duties afters table' verdicts' duties' afters' : List ℕ) : Type 0 where
+-- event k judged: what is found, and the table after it
+pub record OnTable (events pairs : List ℕ) (k : ℕ) (table : List ℕ) (found : Finding) (table' : List ℕ) : Type 0 where
+  pub is_found : found ≡ finding (event_in events k) (set_in table (pair_in pairs k))
   pub in_table : table' ≡ moved table (event_at events pairs k)
-  pub in_verdicts : verdicts' ≡ set verdicts k (verdict (event_in events k) (set_in table (pair_in pairs k)))
-  pub in_duties : duties' ≡ set duties k (duty_byte (event_in events k) (set_in table (pair_in pairs k)))
-  pub in_afters : afters' ≡ set afters k (after_set (event_in events k) (set_in table (pair_in pairs k)))
 
 -- the four buffers after all events
 pub record AllJudged (events pairs table table' verdicts' duties' afters' : List ℕ) : Type 0 where

@@ -1,11 +1,8 @@
--- `trace::good_sets` meets its contract: every set before p is good. The measure is what is left of the table.
-use Prim.Native.Nat.{◌-◌}
-use lib.ListN.{length}
+-- `trace::good_sets` meets its contract: every set before is good, and those that follow are still to come.
+use Rattle.std.proofs.Common.{◌≡◌, drop}
 use Rattle.trace.specs.Code.{GoodBefore}
 use Rattle.trace.proofs.good_sets.Given as goal
 
-abbrev pub invariant-loop-p : goal.invariant-loop-p
-invariant-loop-p l = GoodBefore l.table l.p
-
-abbrev pub decreases-loop-p : goal.decreases-loop-p
-decreases-loop-p l = length l.table - l.p
+abbrev pub invariant-loop-eight : goal.invariant-loop-eight
+invariant-loop-eight l =
+    GoodBefore l.table l.good × (l.eight-iterator.rest.now ≡ drop l.good l.table) × (l.eight-iterator.size ≡ 8)

@@ -13,8 +13,8 @@ returns-in_err-count c =
     (lent c.args.events.now c.args.pairs.now c.args.table.now c.args.verdicts.now c.args.duties.now c.args.afters.now)
     c.from_residual.result (search rules) (search rules)
 
-pub judge_all-requires : goal.judge_all-requires
-judge_all-requires c =
+pub judge-requires : goal.judge-requires
+judge-requires c =
     ready
     (lent c.args.events.now c.args.pairs.now c.args.table.now c.args.verdicts.now c.args.duties.now c.args.afters.now)
     (sym (ap (λ (o : Outcome). o.number) c.in_ok-count.ensures))
@@ -23,4 +23,4 @@ pub returns : goal.returns
 returns c =
     let l : Lent = lent c.args.events.now c.args.pairs.now c.args.table.now c.args.verdicts.now c.args.duties.now c.args.afters.now in
     left_accepted issue_e l c.in_ok-count.count _ _ _ _ c.in_ok-count.ensures
-    (accepted_pairs issue_e l (sym (ap (λ (o : Outcome). o.number) c.in_ok-count.ensures))) c.judge_all.ensures
+    (accepted_pairs issue_e l (sym (ap (λ (o : Outcome). o.number) c.in_ok-count.ensures))) c.judge.ensures

@@ -5,7 +5,7 @@ use Rattle.trace.specs.Lent.{lent}
 use Rattle.trace.proofs.Laws.{whole_events}
 use Rattle.trace.proofs.outcome_of.Goals as goal
 
-pub by_events-requires : goal.by_events-requires
-by_events-requires c =
-    whole_events issue_e (lent c.args.events.now c.args.pairs.now c.args.table.now c.args.verdicts.now c.args.duties.now c.args.afters.now)
+pub outcome-requires : goal.outcome-requires
+outcome-requires c =
+    whole_events issue_e (lent c.args.trace.events.now c.args.trace.pairs.now c.args.table.now c.args.verdicts.now c.args.duties.now c.args.afters.now)
     (sym c.lengths_fit.ensures ∙ c.if-not-lengths_fit.false)

@@ -1,7 +1,0 @@
--- `trace::judge_all` meets its contract: after k events each buffer holds what those k leave.
-use Rattle.trace.proofs.Loop.{going_next}
-use Rattle.trace.proofs.judge_all.Goals as goal
-
-pub loop-k-preserved : goal.loop-k-preserved
-loop-k-preserved c =
-    going_next c.args.events.now c.args.pairs.now c.args.table.now c.loop-k.invariant c.loop-k-test.true c.judge_one.ensures

@@ -1,6 +1,0 @@
--- `trace::judge_all` meets its contract: after k events each buffer holds what those k leave.
-use Rattle.trace.proofs.Loop.{Going}
-use Rattle.trace.proofs.judge_all.Given as goal
-
-abbrev pub invariant-loop-k : goal.invariant-loop-k
-invariant-loop-k l = Going l.events l.pairs l.initial.table l.k l.table l.verdicts l.duties l.afters
