@@ -105,6 +105,7 @@ pub fn effect_of(event: &[u8]) -> Effect
 }
 
 // An effect spread over the seven states before: its states after, as far as they were seen, from each state that it has.
+// Stays: seven calls and no closure, since for a map the seven states would stand in a list all the same.
 fn spread(effect: Effect, seen: u8) -> [u8; 7]
     ensures { result ≡ spread effect.0 seen }
 {
