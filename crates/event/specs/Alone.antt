@@ -32,4 +32,4 @@ judged_alone issue e = cond (eqb (refusal_alone issue e) 0) (accepted_alone e) (
 -- THE CALL'S RESULT IN NUMBERS. No two results have the same numbers.
 abbrev pub in_numbers : Result Judgment Refusal → Alone
 in_numbers (Ok judgment) = record { number = 0; place = 1; sets = judgment.sets; duties = judgment.duties }
-in_numbers (Err refusal) = refused_alone (refusal_number refusal)
+in_numbers (Err refusal) = record { number = refusal_number refusal; place = 0; sets = seven_zeros; duties = seven_zeros }

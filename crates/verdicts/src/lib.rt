@@ -65,12 +65,10 @@ fn by_rows(event: &[u8], before: u8) -> Finding
     ensures { result ≡ finding event.now before }
 {
     let after = sets::apply(steps::sets_after(event), before);
-    let verdict = if before == 0 {
-        Verdict::NOT_JUDGED
-    } else if after == 0 {
-        Verdict::UNEXPLAINED
-    } else {
-        Verdict::EXPLAINED
+    let verdict = match (before, after) {
+        (0, _) => Verdict::NOT_JUDGED,
+        (_, 0) => Verdict::UNEXPLAINED,
+        _ => Verdict::EXPLAINED,
     };
     let duty = if verdict == Verdict::EXPLAINED {
         steps::duty(event, before)
