@@ -219,7 +219,7 @@ not_zero d ds h l e =
 abbrev pub pair_limit : ℕ
 pair_limit = 10 ^ most_digits
 
-few_digits : (f : List ℕ) → is_pair f ≡ true → read_decimal 0 f < pair_limit
+pub few_digits : (f : List ℕ) → is_pair f ≡ true → read_decimal 0 f < pair_limit
 few_digits f h =
     let le : 10 ^ length f ≤ pair_limit = pow-le-pow_right (omega arith) (not_long f h) in
     omega (arith, le, decimal_below 0 f (all_digits f h))

@@ -1,2 +1,3 @@
 pub mod Names
 pub mod Columns
+pub mod Code

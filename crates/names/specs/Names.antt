@@ -1,5 +1,5 @@
 -- The names that may stand in each column, with the code of each (definition 8.4).
-use Rattle.std.specs.Prelude.{ℕ, suc, ◌+◌, ◌*◌, ◌-◌, Bool, cond, not, ◌&&◌, List, [], ◌∷◌, map, eqb, ltb, leb, length, get_or}
+use Rattle.std.specs.Prelude.{ℕ, suc, ◌+◌, ◌*◌, ◌-◌, Bool, cond, not, ◌&&◌, List, [], ◌∷◌, Option, Some, None, map, eqb, ltb, leb, length, get_or}
 use Prim.Native.String.{String}
 use Rattle.text.specs.Text.{bytes}
 use Rattle.kinds.specs.Tests.{same, all}
@@ -23,6 +23,10 @@ named text code = record { name = bytes text; code = code }
 -- sentinel for a field that its column does not know; no code is as high
 abbrev pub unknown : ℕ
 unknown = 4294967295
+
+-- a code that may be unknown: none if it is
+abbrev pub known_as : ℕ → Option ℕ
+known_as code = cond (eqb code unknown) None (Some code)
 
 -- the code of the name that equals the field, or unknown
 unfoldable pub code_of : List Named → List ℕ → ℕ

@@ -5,7 +5,8 @@ ghost use Rattle.std.specs.Prelude.{◌≡◌, cond, ◌≤◌, length};
 ghost use Rattle.kinds.specs.Tests.{same, all};
 ghost use Rattle.names.specs.Names.{code_of, request_names, flag_names, tag_names, response_names, tag_op_names, resp_err_names};
 ghost use Rattle.names.specs.Names.{forward_names, final_names, fwd_err_names, unknown, most_digits, is_digit, read_decimal, pair_of};
-ghost use Rattle.names.specs.Names.{answer_at, in_column};
+ghost use Rattle.names.specs.Names.{known_as, answer_at, in_column};
+ghost use Rattle.names.specs.Code.{code_in, as_names, number_in};
 
 use kinds::{Answer, Forward, FwdState, LineState, Request, Resp, RespErr, TagOp, TagState};
 
@@ -23,208 +24,214 @@ const ZERO: u8 = 48;
 // The last digit.
 const NINE: u8 = 57;
 
-// Whether a field is exactly this name. All bytes are compared, without an early exit, so that the loop compiles to a few wide compares.
+// Whether a field is exactly this name.
 pub fn is(field: &[u8], name: &[u8]) -> bool
     ensures { result ≡ same field.now name.now }
 {
-    let n = name.len();
-    if field.len() != n {
-        return false;
-    }
-    let mut alike = true;
-    let mut i: usize = 0;
-    while i < n {
-        alike = alike & (field[i] == name[i]);
-        i += 1;
-    }
-    alike
+    field == name
 }
 
-// The name's code if the field is this name, else `other`: the code found among the names after it.
-fn known(field: &[u8], name: &[u8], code: u8, other: u32) -> u32
-    ensures { result ≡ cond (same field.now name.now) code other }
+// The code of the name that is the field, among names with their codes.
+fn code_in(names: &[(&[u8], u8)], field: &[u8]) -> Option<u32>
+    ensures { result ≡ code_in (as_names names.now) field.now }
 {
-    if is(field, name) { code as u32 } else { other }
+    for &(name, code) in names {
+        if is(field, name) {
+            return Some(code.into());
+        }
+    }
+    None
 }
+
+// The ten requests.
+static REQUESTS: [(&[u8], u8); 10] = [
+    (b"SnpShared", Request::SNP_SHARED.0),
+    (b"SnpClean", Request::SNP_CLEAN.0),
+    (b"SnpNotSharedDirty", Request::SNP_NOT_SHARED_DIRTY.0),
+    (b"SnpUnique", Request::SNP_UNIQUE.0),
+    (b"SnpCleanInvalid", Request::SNP_CLEAN_INVALID.0),
+    (b"SnpMakeInvalid", Request::SNP_MAKE_INVALID.0),
+    (b"SnpCleanFwd", Request::SNP_CLEAN_FWD.0),
+    (b"SnpNotSharedDirtyFwd", Request::SNP_NOT_SHARED_DIRTY_FWD.0),
+    (b"SnpPreferUnique", Request::SNP_PREFER_UNIQUE.0),
+    (b"SnpPreferUniqueFwd", Request::SNP_PREFER_UNIQUE_FWD.0),
+];
 
 // The code of a request.
-pub fn request(field: &[u8]) -> u32
-    ensures { result ≡ code_of request_names field.now }
+pub fn request(field: &[u8]) -> Option<u32>
+    ensures { result ≡ known_as (code_of request_names field.now) }
 {
-    let code = known(
-        field,
-        b"SnpPreferUniqueFwd",
-        Request::SNP_PREFER_UNIQUE_FWD.0,
-        UNKNOWN,
-    );
-    let code = known(
-        field,
-        b"SnpPreferUnique",
-        Request::SNP_PREFER_UNIQUE.0,
-        code,
-    );
-    let code = known(
-        field,
-        b"SnpNotSharedDirtyFwd",
-        Request::SNP_NOT_SHARED_DIRTY_FWD.0,
-        code,
-    );
-    let code = known(field, b"SnpCleanFwd", Request::SNP_CLEAN_FWD.0, code);
-    let code = known(field, b"SnpMakeInvalid", Request::SNP_MAKE_INVALID.0, code);
-    let code = known(
-        field,
-        b"SnpCleanInvalid",
-        Request::SNP_CLEAN_INVALID.0,
-        code,
-    );
-    let code = known(field, b"SnpUnique", Request::SNP_UNIQUE.0, code);
-    let code = known(
-        field,
-        b"SnpNotSharedDirty",
-        Request::SNP_NOT_SHARED_DIRTY.0,
-        code,
-    );
-    let code = known(field, b"SnpClean", Request::SNP_CLEAN.0, code);
-    known(field, b"SnpShared", Request::SNP_SHARED.0, code)
+    code_in(&REQUESTS, field)
 }
+
+// The two values of RetToSrc, DoNotGoToSD and excl.
+static FLAGS: [(&[u8], u8); 2] = [(b"0", 0), (b"1", 1)];
 
 // The code of a flag: RetToSrc, DoNotGoToSD or excl.
-pub fn flag(field: &[u8]) -> u32
-    ensures { result ≡ code_of flag_names field.now }
+pub fn flag(field: &[u8]) -> Option<u32>
+    ensures { result ≡ known_as (code_of flag_names field.now) }
 {
-    let code = known(field, b"1", 1, UNKNOWN);
-    known(field, b"0", 0, code)
+    code_in(&FLAGS, field)
 }
+
+// The tag states; `?` is not seen.
+static TAG_STATES: [(&[u8], u8); 4] = [
+    (b"Invalid", TagState::INVALID.0),
+    (b"Clean", TagState::CLEAN.0),
+    (b"Dirty", TagState::DIRTY.0),
+    (b"?", TagState::NOT_SEEN.0),
+];
 
 // The code of a tag state.
-pub fn tag(field: &[u8]) -> u32
-    ensures { result ≡ code_of tag_names field.now }
+pub fn tag(field: &[u8]) -> Option<u32>
+    ensures { result ≡ known_as (code_of tag_names field.now) }
 {
-    let code = known(field, b"?", TagState::NOT_SEEN.0, UNKNOWN);
-    let code = known(field, b"Dirty", TagState::DIRTY.0, code);
-    let code = known(field, b"Clean", TagState::CLEAN.0, code);
-    known(field, b"Invalid", TagState::INVALID.0, code)
+    code_in(&TAG_STATES, field)
 }
+
+// The 22 responses, each with its index.
+static RESPONSES: [(&[u8], u8); 22] = [
+    (b"SnpResp_I", 0),
+    (b"SnpResp_SC", 1),
+    (b"SnpRespData_I", 2),
+    (b"SnpRespData_SC", 3),
+    (b"SnpRespData_SD", 4),
+    (b"SnpRespData_I_PD", 5),
+    (b"SnpRespData_SC_PD", 6),
+    (b"SnpRespDataPtl_I_PD", 7),
+    (b"SnpResp_I_Fwded_SC", 8),
+    (b"SnpResp_SC_Fwded_SC", 9),
+    (b"SnpResp_SD_Fwded_SC", 10),
+    (b"SnpResp_I_Fwded_SD_PD", 11),
+    (b"SnpResp_SC_Fwded_SD_PD", 12),
+    (b"SnpResp_I_Fwded_UC", 13),
+    (b"SnpResp_I_Fwded_UD_PD", 14),
+    (b"SnpRespData_I_Fwded_SC", 15),
+    (b"SnpRespData_SC_Fwded_SC", 16),
+    (b"SnpRespData_SD_Fwded_SC", 17),
+    (b"SnpRespData_I_Fwded_SD_PD", 18),
+    (b"SnpRespData_SC_Fwded_SD_PD", 19),
+    (b"SnpRespData_I_PD_Fwded_SC", 20),
+    (b"SnpRespData_SC_PD_Fwded_SC", 21),
+];
 
 // The index of a response among the 22.
-pub fn response(field: &[u8]) -> u32
-    ensures { result ≡ code_of response_names field.now }
+pub fn response(field: &[u8]) -> Option<u32>
+    ensures { result ≡ known_as (code_of response_names field.now) }
 {
-    let code = known(field, b"SnpRespData_SC_PD_Fwded_SC", 21, UNKNOWN);
-    let code = known(field, b"SnpRespData_I_PD_Fwded_SC", 20, code);
-    let code = known(field, b"SnpRespData_SC_Fwded_SD_PD", 19, code);
-    let code = known(field, b"SnpRespData_I_Fwded_SD_PD", 18, code);
-    let code = known(field, b"SnpRespData_SD_Fwded_SC", 17, code);
-    let code = known(field, b"SnpRespData_SC_Fwded_SC", 16, code);
-    let code = known(field, b"SnpRespData_I_Fwded_SC", 15, code);
-    let code = known(field, b"SnpResp_I_Fwded_UD_PD", 14, code);
-    let code = known(field, b"SnpResp_I_Fwded_UC", 13, code);
-    let code = known(field, b"SnpResp_SC_Fwded_SD_PD", 12, code);
-    let code = known(field, b"SnpResp_I_Fwded_SD_PD", 11, code);
-    let code = known(field, b"SnpResp_SD_Fwded_SC", 10, code);
-    let code = known(field, b"SnpResp_SC_Fwded_SC", 9, code);
-    let code = known(field, b"SnpResp_I_Fwded_SC", 8, code);
-    let code = known(field, b"SnpRespDataPtl_I_PD", 7, code);
-    let code = known(field, b"SnpRespData_SC_PD", 6, code);
-    let code = known(field, b"SnpRespData_I_PD", 5, code);
-    let code = known(field, b"SnpRespData_SD", 4, code);
-    let code = known(field, b"SnpRespData_SC", 3, code);
-    let code = known(field, b"SnpRespData_I", 2, code);
-    let code = known(field, b"SnpResp_SC", 1, code);
-    known(field, b"SnpResp_I", 0, code)
+    code_in(&RESPONSES, field)
 }
+
+// TagOp.
+static TAG_OPS: [(&[u8], u8); 4] = [
+    (b"Invalid", TagOp::INVALID.0),
+    (b"Transfer", TagOp::TRANSFER.0),
+    (b"Update", TagOp::UPDATE.0),
+    (b"Match", TagOp::MATCH.0),
+];
 
 // The code of a TagOp.
-pub fn tag_op(field: &[u8]) -> u32
-    ensures { result ≡ code_of tag_op_names field.now }
+pub fn tag_op(field: &[u8]) -> Option<u32>
+    ensures { result ≡ known_as (code_of tag_op_names field.now) }
 {
-    let code = known(field, b"Match", TagOp::MATCH.0, UNKNOWN);
-    let code = known(field, b"Update", TagOp::UPDATE.0, code);
-    let code = known(field, b"Transfer", TagOp::TRANSFER.0, code);
-    known(field, b"Invalid", TagOp::INVALID.0, code)
+    code_in(&TAG_OPS, field)
 }
+
+// RespErr.
+static RESP_ERRS: [(&[u8], u8); 4] = [
+    (b"OK", RespErr::OK.0),
+    (b"EXOK", RespErr::EXOK.0),
+    (b"DERR", RespErr::DERR.0),
+    (b"NDERR", RespErr::NDERR.0),
+];
 
 // The code of a RespErr.
-pub fn resp_err(field: &[u8]) -> u32
-    ensures { result ≡ code_of resp_err_names field.now }
+pub fn resp_err(field: &[u8]) -> Option<u32>
+    ensures { result ≡ known_as (code_of resp_err_names field.now) }
 {
-    let code = known(field, b"NDERR", RespErr::NDERR.0, UNKNOWN);
-    let code = known(field, b"DERR", RespErr::DERR.0, code);
-    let code = known(field, b"EXOK", RespErr::EXOK.0, code);
-    known(field, b"OK", RespErr::OK.0, code)
+    code_in(&RESP_ERRS, field)
 }
 
+// The forwards by their FwdState; `-` is none.
+static FORWARDS: [(&[u8], u8); 5] = [
+    (b"-", FwdState::NONE.0),
+    (b"CompData_SC", FwdState::SC.0),
+    (b"CompData_UC", FwdState::UC.0),
+    (b"CompData_UD_PD", FwdState::UD_PD.0),
+    (b"CompData_SD_PD", FwdState::SD_PD.0),
+];
+
 // The FwdState of a forward; 0 for none.
-pub fn forward(field: &[u8]) -> u32
-    ensures { result ≡ code_of forward_names field.now }
+pub fn forward(field: &[u8]) -> Option<u32>
+    ensures { result ≡ known_as (code_of forward_names field.now) }
 {
-    let code = known(field, b"CompData_SD_PD", FwdState::SD_PD.0, UNKNOWN);
-    let code = known(field, b"CompData_UD_PD", FwdState::UD_PD.0, code);
-    let code = known(field, b"CompData_UC", FwdState::UC.0, code);
-    let code = known(field, b"CompData_SC", FwdState::SC.0, code);
-    known(field, b"-", FwdState::NONE.0, code)
+    code_in(&FORWARDS, field)
 }
 
 // The code of `-` in the column fwdErr: no data is forwarded. It is no error field's.
 pub const NO_FWD_ERR: u8 = 4;
 
 // The error field of forwarded data, with the names of RespErr; NO_FWD_ERR for none.
-pub fn fwd_err(field: &[u8]) -> u32
-    ensures { result ≡ code_of fwd_err_names field.now }
+pub fn fwd_err(field: &[u8]) -> Option<u32>
+    ensures { result ≡ known_as (code_of fwd_err_names field.now) }
 {
-    let code = resp_err(field);
-    known(field, b"-", NO_FWD_ERR, code)
+    if is(field, b"-") {
+        return Some(NO_FWD_ERR.into());
+    }
+    resp_err(field)
 }
+
+// The states after; `?` is not seen.
+static STATES_AFTER: [(&[u8], u8); 8] = [
+    (b"I", LineState::I.0),
+    (b"UC", LineState::UC.0),
+    (b"UCE", LineState::UCE.0),
+    (b"UD", LineState::UD.0),
+    (b"UDP", LineState::UDP.0),
+    (b"SC", LineState::SC.0),
+    (b"SD", LineState::SD.0),
+    (b"?", LineState::NOT_SEEN.0),
+];
 
 // The code of a state after.
-pub fn state_after(field: &[u8]) -> u32
-    ensures { result ≡ code_of final_names field.now }
+pub fn state_after(field: &[u8]) -> Option<u32>
+    ensures { result ≡ known_as (code_of final_names field.now) }
 {
-    let code = known(field, b"?", LineState::NOT_SEEN.0, UNKNOWN);
-    let code = known(field, b"SD", LineState::SD.0, code);
-    let code = known(field, b"SC", LineState::SC.0, code);
-    let code = known(field, b"UDP", LineState::UDP.0, code);
-    let code = known(field, b"UD", LineState::UD.0, code);
-    let code = known(field, b"UCE", LineState::UCE.0, code);
-    let code = known(field, b"UC", LineState::UC.0, code);
-    known(field, b"I", LineState::I.0, code)
+    code_in(&STATES_AFTER, field)
 }
 
-// The number that at most five digits stand for; UNKNOWN if some byte is not a digit.
-fn digits(field: &[u8]) -> u32
+// The number that at most five digits stand for; none if some byte is not a digit.
+fn digits(field: &[u8]) -> Option<u32>
     requires { length field.now ≤ most_digits }
-    ensures { result ≡ cond (all is_digit field.now) (read_decimal 0 field.now) unknown }
+    ensures { result ≡ number_in 0 field.now }
 {
-    let n = field.len();
-    let mut v: u32 = 0;
-    let mut i: usize = 0;
-    while i < n {
-        let d = field[i];
-        if !((ZERO <= d) & (d <= NINE)) {
-            return UNKNOWN;
-        }
-        v = v * 10 + ((d - ZERO) as u32);
-        i += 1;
+    let mut number: u32 = 0;
+    for &byte in field {
+        let ZERO..=NINE = byte else {
+            return None;
+        };
+        number = number * 10 + ((byte - ZERO) as u32);
     }
-    v
+    Some(number)
 }
 
 // The pair number.
-pub fn pair(field: &[u8]) -> u32
-    ensures { result ≡ pair_of field.now }
+#[tactic(auto, unfolding(crate::specs::Names::pair_of, crate::specs::Names::is_pair))]
+pub fn pair(field: &[u8]) -> Option<u32>
+    ensures { result ≡ known_as (pair_of field.now) }
 {
-    let n = field.len();
-    if !((0 < n) & (n <= MOST_DIGITS)) {
-        return UNKNOWN;
-    }
-    if (field[0] == ZERO) & (1 < n) {
-        return UNKNOWN;
+    let 1..=MOST_DIGITS = field.len() else {
+        return None;
+    };
+    if let [ZERO, _, ..] = field {
+        return None;
     }
     digits(field)
 }
 
 // The answer with this index among the 22 responses; past the last, the first. A name says nothing of the forwarded data's error field:
 // OK stands for it.
+#[tactic(auto, unfolding(crate::specs::Names::answers, crate::specs::Names::responses))]
 pub fn answer(place: u8) -> Answer
     ensures { result ≡ answer_at place }
 {
@@ -255,16 +262,15 @@ pub fn answer(place: u8) -> Answer
     }
 }
 
-// The code of a field in the column with this number.
-pub fn column(number: usize, field: &[u8]) -> u32
-    ensures { result ≡ in_column number field.now }
+// The code of a field in the column with this number, if the column knows the field.
+#[tactic(auto, unfolding(crate::specs::Names::in_column, crate::specs::Names::columns))]
+pub fn column(number: usize, field: &[u8]) -> Option<u32>
+    ensures { result ≡ known_as (in_column number field.now) }
 {
     match number {
         columns::PAIR => pair(field),
         columns::REQUEST => request(field),
-        columns::RET_TO_SRC => flag(field),
-        columns::DO_NOT_GO_TO_SD => flag(field),
-        columns::EXCL => flag(field),
+        columns::RET_TO_SRC | columns::DO_NOT_GO_TO_SD | columns::EXCL => flag(field),
         columns::TAG => tag(field),
         columns::RESPONSE => response(field),
         columns::TAG_OP => tag_op(field),
@@ -272,6 +278,6 @@ pub fn column(number: usize, field: &[u8]) -> u32
         columns::FORWARD => forward(field),
         columns::FINAL => state_after(field),
         columns::FWD_ERR => fwd_err(field),
-        _ => UNKNOWN,
+        _ => None,
     }
 }

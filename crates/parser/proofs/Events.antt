@@ -8,6 +8,7 @@ use Prim.Native.Nat.{ℕ, ◌≤◌, ◌<◌}
 use native.Mathlib.Nat.{mod-eq_of_lt}
 use native.Mathlib.Omega.{arith}
 use borrow.Author.Tests.{ltb-true, leb-true, lt-ltb, le-ltb, eq-eqb}
+use Rattle.std.specs.Prelude.{Option, Some, None}
 use lib.Dec.{eqb, ltb, leb}
 use lib.ListN.{length, drop}
 use Rattle.kinds.specs.Tests.{all}
@@ -17,7 +18,6 @@ use Rattle.fields.specs.Fields.{fields_of}
 use Rattle.names.specs.Names.{unknown, columns}
 use Rattle.names.specs.Columns.{pair_code}
 use Rattle.names.proofs.Names.{pair_limit, limits, Limited, AllLimited, none_more, one_more, columns_limited}
-use Rattle.parser.specs.declared.Found.{Found}
 use Rattle.parser.specs.Parsed.{Parsed, codes_of, line_codes, known, dashes_agree, well_formed, event_of, parsed_as, refused_parse, parsed}
 use Rattle.parser.specs.Code.{codes_in, as_byte, line_of}
 
@@ -90,16 +90,6 @@ module _ (line : List ℕ) where
   parsed_fine w h = ap₂ saying w (le-ltb highest_pair (pair_code (line_codes line)) h)
 
 -- A LINE AND ITS CODES
-pub line_high : (codes : List ℕ) → highest_pair < pair_code codes → refused_parse 3 ≡ line_of codes
-line_high codes h =
-    sym (ap (λ (b : Bool). cond b (refused_parse 3) (parsed_as (pair_code codes) (event_of (map as_byte codes)))) (lt-ltb highest_pair (pair_code codes) h))
-
-pub line_fine : (codes bytes event : List ℕ) → pair_code codes ≤ highest_pair → bytes ≡ map as_byte codes → event ≡ event_of bytes
-    → parsed_as (pair_code codes) event ≡ line_of codes
-line_fine codes bytes event h b v =
-    ap (parsed_as (pair_code codes)) (v ∙ ap event_of b)
-    ∙ sym (ap (λ (t : Bool). cond t (refused_parse 3) (parsed_as (pair_code codes) (event_of (map as_byte codes)))) (le-ltb highest_pair (pair_code codes) h))
-
 pub line_well : (line : List ℕ) → well_formed line ≡ true → line_of (line_codes line) ≡ parsed line
 unfolding parsed
 line_well line w =
@@ -108,12 +98,19 @@ line_well line w =
     ap saying (event_kept (line_codes line) (codes_under line w)) ∙ sym (ap (λ (b : Bool). cond b (saying (event_of (line_codes line))) (refused_parse 8)) w)
 
 -- the same from what `codes_of` finds
-module _ (line : List ℕ) (f : Found) (e : f ≡ codes_in line) where
-  good_so : {b : Bool} → f.good ≡ b → well_formed line ≡ b
-  good_so g = sym (ap (λ (x : Found). x.good) e) ∙ g
+module _ (line : List ℕ) (r : Option (List ℕ)) (e : r ≡ codes_in line) where
+  pub found_ill : r ≡ None → refused_parse 8 ≡ parsed line
+  found_ill f = go (well_formed line) refl (sym e ∙ f)
+    where
+      go : (b : Bool) → well_formed line ≡ b → cond b (Some (line_codes line)) None ≡ None → refused_parse 8 ≡ parsed line
+      go true k l = absurd (cc)
+      go false k l = sym (parsed_ill line k)
 
-  pub found_ill : f.good ≡ false → refused_parse 8 ≡ parsed line
-  found_ill g = sym (parsed_ill line (good_so g))
-
-  pub found_well : f.good ≡ true → line_of f.codes ≡ parsed line
-  found_well g = ap (λ (x : Found). line_of x.codes) e ∙ line_well line (good_so g)
+  pub found_well : {codes : List ℕ} → r ≡ Some codes → line_of codes ≡ parsed line
+  found_well {codes} f = go (well_formed line) refl (sym e ∙ f)
+    where
+      go : (b : Bool) → well_formed line ≡ b → cond b (Some (line_codes line)) None ≡ Some codes → line_of codes ≡ parsed line
+      go true k l =
+          let same : codes ≡ line_codes line = cc in
+          ap line_of same ∙ line_well line k
+      go false k l = absurd (cc)

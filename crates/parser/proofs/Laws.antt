@@ -1,15 +1,16 @@
 -- Laws about the fields of a line read one after another, and about an event's bytes.
 -- Assumes nothing.
 use mathlib.Core.Path.{◌≡◌, refl, sym, ◌∙◌, ap, ap₂, subst}
-use mathlib.Core.Bool.{Bool, true, false, cond, ◌&&◌, false≢true, and_assoc, and-true}
-use mathlib.Core.List.{List, [], ◌∷◌, ◌++◌, map}
+use mathlib.Core.Bool.{Bool, true, false, cond, not, ◌&&◌, false≢true, and_assoc}
+use mathlib.Core.List.{List, [], ◌∷◌, ◌++◌, append_assoc, append-nil, map}
 use Prim.Native.Nat.{ℕ, suc, ◌+◌, ◌-◌, ◌≤◌, ◌<◌}
 use native.Mathlib.Numerals.{add-one}
 use native.Mathlib.Omega.{arith}
 use borrow.Author.Tests.{le-leb, lt-leb, leb-true, leb-false, lt-ltb, le-ltb, eqb-true, eqb-false}
+use Rattle.std.specs.Prelude.{Option, Some, None}
 use lib.Dec.{eqb, ltb, leb, leb-suc-suc}
 use lib.ListN.{length, get_or, take, drop, set, length-set, drop_of_length-le}
-use lib.Seq.{drop-cons, take-suc, take-suc-set, take_all}
+use lib.Seq.{drop-cons, take-suc-set, take_all}
 use Rattle.kinds.specs.Tests.{all}
 use Rattle.kinds.specs.declared.Answer.{Answer}
 use Rattle.kinds.specs.declared.Answer.TheVariants.{SnpResp, SnpRespData, SnpRespDataPtl}
@@ -19,13 +20,12 @@ use Rattle.kinds.specs.Answers.{wire, forward_wire, forward_error}
 use Rattle.kinds.proofs.Lists.{and_right}
 use Rattle.fields.specs.Fields.{fields_of, fields_from, field_end}
 use Rattle.fields.proofs.Laws.{end_from, end_within, fields_start, fields_none, fields_step}
-use Rattle.names.specs.Names.{unknown, columns, in_column, answer_at}
+use Rattle.names.specs.Names.{unknown, known_as, columns, in_column, answer_at}
 use Rattle.names.specs.Columns.{request_code, ret_to_src_code, do_not_go_to_sd_code, excl_code, tag_code, response_code, tag_op_code, resp_err_code, final_code}
 use Rattle.parser.specs.declared.Taken.{Taken}
 use Rattle.parser.specs.declared.Codes.{Codes}
-use Rattle.parser.specs.declared.Found.{Found}
 use Rattle.parser.specs.Parsed.{codes_of, line_codes, known, dashes_agree, well_formed, sent_of, event_of}
-use Rattle.parser.specs.Code.{taken_by, taken_at, gathered_of, all_taken, codes_in, as_byte}
+use Rattle.parser.specs.Code.{taken_by, taken_at, taken_from, if_known, if_all_known, codes_in}
 
 -- ONE FIELD: within the line, and past its end.
 taken : ℕ → ℕ → Taken
@@ -42,65 +42,48 @@ unfolding taken_by taken
 taken_past column line at h =
     ap (λ b. cond b (taken (column (take (field_end line at - at) (drop at line))) (field_end line at + 1)) (taken unknown at)) (lt-leb at (length line) h)
 
-pub field_past : (number : ℕ) (line : List ℕ) (at : ℕ) → length line < at → record { code = unknown; next = at } ≡ taken_at number line at
+-- what the column makes of a field, if it knows it
+pub field_past : (number : ℕ) (line : List ℕ) (at : ℕ) → length line < at → None ≡ if_known (taken_at number line at)
 unfolding taken_at taken
-field_past number line at h = sym (taken_past (in_column number) line at h)
+field_past number line at h = sym (ap if_known (taken_past (in_column number) line at h))
 
-pub field_here : (number : ℕ) (line : List ℕ) (at end code : ℕ) → at ≤ length line → end ≡ field_end line at → code ≡ in_column number (take (end - at) (drop at line))
-    → record { code = code; next = end + 1 } ≡ taken_at number line at
-unfolding taken_at taken
-field_here number line at end code h e f =
-    ap₂ (λ (c n : ℕ). taken c (n + 1)) (f ∙ ap (λ (n : ℕ). in_column number (take (n - at) (drop at line))) e) e ∙ sym (taken_here (in_column number) line at h)
+module _ (number : ℕ) (line : List ℕ) (at end : ℕ) (h : at ≤ length line) (e : end ≡ field_end line at) (r : Option ℕ) where
+  code_at : ℕ
+  code_at = in_column number (take (end - at) (drop at line))
+
+  taken_so : taken code_at (end + 1) ≡ taken_at number line at
+  unfolding taken_at taken code_at
+  taken_so = ap (λ (n : ℕ). taken (in_column number (take (n - at) (drop at line))) (n + 1)) e ∙ sym (taken_here (in_column number) line at h)
+
+  code_known : r ≡ known_as (in_column number (take (end - at) (drop at line))) → {code : ℕ} → r ≡ Some code → (code ≡ code_at) × (known code_at ≡ true)
+  unfolding code_at
+  code_known f {code} g = go (eqb code_at unknown) refl (sym f ∙ g)
+    where
+      go : (b : Bool) → eqb code_at unknown ≡ b → cond b None (Some code_at) ≡ Some code → (code ≡ code_at) × (known code_at ≡ true)
+      go true k l = absurd (cc)
+      go false k l = (cc, ap not k)
+
+  pub field_here : r ≡ known_as (in_column number (take (end - at) (drop at line))) → {code : ℕ} → r ≡ Some code
+      → Some (record { code = code; next = end + 1 }) ≡ if_known (taken_at number line at)
+  unfolding taken code_at
+  field_here f {code} g =
+      let k = code_known f g in
+      ap (λ (c : ℕ). Some (taken c (end + 1))) k.0
+      ∙ sym (ap (λ (b : Bool). cond b (Some (taken code_at (end + 1))) None) k.1)
+      ∙ ap if_known taken_so
+
+  pub field_unknown : r ≡ known_as (in_column number (take (end - at) (drop at line))) → r ≡ None → None ≡ if_known (taken_at number line at)
+  unfolding taken code_at
+  field_unknown f g = go (eqb code_at unknown) refl (sym f ∙ g)
+    where
+      go : (b : Bool) → eqb code_at unknown ≡ b → cond b None (Some code_at) ≡ None → None ≡ if_known (taken_at number line at)
+      go true k l = sym (ap (λ (b : Bool). cond (not b) (Some (taken code_at (end + 1))) None) k) ∙ ap if_known taken_so
+      go false k l = absurd (cc)
 
 pub end_next : (line : List ℕ) (at end : ℕ) → at ≤ length line → end ≡ field_end line at → (at ≤ end) × (end ≤ length line)
 end_next line at end h e = (subst (λ n. at ≤ n) (sym e) (end_from line at), subst (λ n. n ≤ length line) (sym e) (end_within line at h))
 
--- equal fields have equal fields behind them
-behind : (number : ℕ) (line : List ℕ) {f g : Taken} → f ≡ g → taken_at number line f.next ≡ taken_at number line g.next
-behind number line e = ap (λ (f : Taken). taken_at number line f.next) e
-
--- twelve fields, each read behind the one before, are all fields of the line
-pub all_taken_lem : (line : List ℕ) {f₀ f₁ f₂ f₃ f₄ f₅ f₆ f₇ f₈ f₉ f₁₀ f₁₁ : Taken} {r : Codes}
-    → f₀ ≡ taken_at 0 line 0
-    → f₁ ≡ taken_at 1 line f₀.next
-    → f₂ ≡ taken_at 2 line f₁.next
-    → f₃ ≡ taken_at 3 line f₂.next
-    → f₄ ≡ taken_at 4 line f₃.next
-    → f₅ ≡ taken_at 5 line f₄.next
-    → f₆ ≡ taken_at 6 line f₅.next
-    → f₇ ≡ taken_at 7 line f₆.next
-    → f₈ ≡ taken_at 8 line f₇.next
-    → f₉ ≡ taken_at 9 line f₈.next
-    → f₁₀ ≡ taken_at 10 line f₉.next
-    → f₁₁ ≡ taken_at 11 line f₁₀.next
-    → r ≡ gathered_of f₀ f₁ f₂ f₃ f₄ f₅ f₆ f₇ f₈ f₉ f₁₀ f₁₁ → r ≡ all_taken line
-unfolding all_taken
-all_taken_lem line e₀ e₁ e₂ e₃ e₄ e₅ e₆ e₇ e₈ e₉ e₁₀ e₁₁ e =
-    let p₁ = e₁ ∙ behind 1 line e₀ in
-    let p₂ = e₂ ∙ behind 2 line p₁ in
-    let p₃ = e₃ ∙ behind 3 line p₂ in
-    let p₄ = e₄ ∙ behind 4 line p₃ in
-    let p₅ = e₅ ∙ behind 5 line p₄ in
-    let p₆ = e₆ ∙ behind 6 line p₅ in
-    let p₇ = e₇ ∙ behind 7 line p₆ in
-    let p₈ = e₈ ∙ behind 8 line p₇ in
-    let p₉ = e₉ ∙ behind 9 line p₈ in
-    let p₁₀ = e₁₀ ∙ behind 10 line p₉ in
-    let p₁₁ = e₁₁ ∙ behind 11 line p₁₀ in
-    e ∙ (λ i. gathered_of (e₀ i) (p₁ i) (p₂ i) (p₃ i) (p₄ i) (p₅ i) (p₆ i) (p₇ i) (p₈ i) (p₉ i) (p₁₀ i) (p₁₁ i))
-
 -- ALL FIELDS, one after another, for any list of columns
-taken_from : List (List ℕ → ℕ) → List ℕ → ℕ → Codes
-taken_from [] line at = record { codes = []; end = at }
-taken_from (c ∷ cs) line at = record {
-  codes = (taken_by c line at).code ∷ (taken_from cs line (taken_by c line at).next).codes;
-  end = (taken_from cs line (taken_by c line at).next).end;
-}
-
-one_by_one : (line : List ℕ) → all_taken line ≡ taken_from columns line 0
-unfolding all_taken taken_at in_column columns taken_from
-one_by_one line = refl
-
 -- they are the fields from there on; the end is past the line's exactly when there are no more fields than columns
 record Follows (cs : List (List ℕ → ℕ)) (line : List ℕ) (at : ℕ) : Type 0 where
   codes_so : (taken_from cs line at).codes ≡ codes_of cs (fields_from line at)
@@ -108,7 +91,6 @@ record Follows (cs : List (List ℕ → ℕ)) (line : List ℕ) (at : ℕ) : Typ
 
 module _ (line : List ℕ) (at : ℕ) where
   follows_none : Follows [] line at
-  unfolding taken_from
   follows_none = record { codes_so = refl; end_so = go (leb at (length line)) refl }
     where
       go : (b : Bool) → leb at (length line) ≡ b → ltb (length line) at ≡ leb (length (fields_from line at)) 0
@@ -121,7 +103,7 @@ module _ (line : List ℕ) (at : ℕ) where
 
   module _ (c : List ℕ → ℕ) (cs : List (List ℕ → ℕ)) where
     follows_here : at ≤ length line → Follows cs line (field_end line at + 1) → Follows (c ∷ cs) line at
-    unfolding taken_from taken
+    unfolding taken
     follows_here h f = record {
       codes_so = ap (λ (t : Taken). t.code ∷ (taken_from cs line t.next).codes) (taken_here c line at h)
           ∙ ap (λ (s : List ℕ). c (take (field_end line at - at) (drop at line)) ∷ s) f.codes_so
@@ -132,7 +114,7 @@ module _ (line : List ℕ) (at : ℕ) where
     }
 
     follows_past : length line < at → Follows cs line at → Follows (c ∷ cs) line at
-    unfolding taken_from taken
+    unfolding taken
     follows_past h f = record {
       codes_so = ap (λ (t : Taken). t.code ∷ (taken_from cs line t.next).codes) (taken_past c line at h)
           ∙ ap (λ (s : List ℕ). unknown ∷ s) (f.codes_so ∙ ap (codes_of cs) (fields_none line at h))
@@ -171,81 +153,159 @@ as_many false m n h = go (eqb m n)
     go true = refl
     go false = refl
 
-found : List ℕ → Bool → Found
-found codes good = record { codes = codes; good = good }
-
 -- THE CODES OF A LINE: it is well formed exactly when every code is known, the last field ends the line, and the dashes agree
-pub codes_found : (line : List ℕ) (t : Codes) (k d : Bool) → t ≡ all_taken line → k ≡ all known t.codes → d ≡ dashes_agree t.codes
-    → record { codes = t.codes; good = k && ltb (length line) t.end && d } ≡ codes_in line
-unfolding found well_formed
-codes_found line t k d e h g =
-    ap₂ found codes_so
-    (ap₂ (λ (a b : Bool). a && b)
-    (ap₂ (λ (a b : Bool). a && b) (h ∙ ap (all known) codes_so) end_so
-    ∙ as_many (all known (line_codes line)) (length (fields_of line)) (length columns) (none_missing columns (fields_of line)))
-    (g ∙ ap dashes_agree codes_so))
-  where
-    t_so : t ≡ taken_from columns line 0
-    t_so = e ∙ one_by_one line
+module _ (line : List ℕ) where
+  all_fields : Codes
+  all_fields = taken_from columns line 0
 
-    codes_so : t.codes ≡ line_codes line
-    codes_so = ap (λ (x : Codes). x.codes) t_so ∙ (follows columns line 0).codes_so ∙ ap (codes_of columns) (fields_start line)
+  codes_so : all_fields.codes ≡ line_codes line
+  unfolding all_fields
+  codes_so = (follows columns line 0).codes_so ∙ ap (codes_of columns) (fields_start line)
 
-    end_so : ltb (length line) t.end ≡ leb (length (fields_of line)) (length columns)
-    end_so =
-        ap (λ (x : Codes). ltb (length line) x.end) t_so ∙ (follows columns line 0).end_so
-        ∙ ap (λ (fs : List (List ℕ)). leb (length fs) (length columns)) (fields_start line)
+  well_so : all known all_fields.codes && ltb (length line) all_fields.end && dashes_agree all_fields.codes ≡ well_formed line
+  unfolding all_fields well_formed
+  well_so =
+      ap₂ (λ (a b : Bool). a && b)
+      (ap₂ (λ (a b : Bool). a && b) (ap (all known) codes_so)
+      ((follows columns line 0).end_so ∙ ap (λ (fs : List (List ℕ)). leb (length fs) (length columns)) (fields_start line))
+      ∙ as_many (all known (line_codes line)) (length (fields_of line)) (length columns) (none_missing columns (fields_of line)))
+      (ap dashes_agree codes_so)
 
--- EVERY CODE KNOWN: t says whether the first i are
-pub record KnownSoFar (codes : List ℕ) (n : ℕ) (t : Bool) (i : ℕ) : Type 0 where
-  pub within : i ≤ n
-  pub long : length codes ≡ n
-  pub rest : t && all known (drop i codes) ≡ all known codes
+  module _ (r : Option Codes) (e : r ≡ if_all_known (taken_from columns line 0)) where
+    some_so : {t : Codes} → r ≡ Some t → (t ≡ all_fields) × (all known all_fields.codes ≡ true)
+    unfolding all_fields
+    some_so {t} f = go (all known all_fields.codes) refl (sym e ∙ f)
+      where
+        go : (b : Bool) → all known all_fields.codes ≡ b → cond b (Some all_fields) None ≡ Some t → (t ≡ all_fields) × (all known all_fields.codes ≡ true)
+        go true k l = (cc, k)
+        go false k l = absurd (cc)
 
-pub known_start : (codes : List ℕ) (n : ℕ) → length codes ≡ n → KnownSoFar codes n true 0
-known_start codes n l = record { within = omega arith; long = l; rest = refl }
+    pub none_found : r ≡ None → None ≡ codes_in line
+    unfolding all_fields
+    none_found f = go (all known all_fields.codes) refl (sym e ∙ f)
+      where
+        go : (b : Bool) → all known all_fields.codes ≡ b → cond b (Some all_fields) None ≡ None → None ≡ codes_in line
+        go true k l = absurd (cc)
+        go false k l =
+            ap (λ (b : Bool). cond (b && ltb (length line) all_fields.end && dashes_agree all_fields.codes) (Some (line_codes line)) None) (sym k)
+            ∙ ap (λ (b : Bool). cond b (Some (line_codes line)) None) well_so
 
-pub known_next : {codes : List ℕ} {n : ℕ} {t : Bool} {i : ℕ} → KnownSoFar codes n t i → i < n → KnownSoFar codes n (t && known (get_or codes i 0)) (i + 1)
-known_next {codes} {n} {t} {i} k h = record {
-  within = omega arith;
-  long = k.long;
-  rest = ap (λ (j : ℕ). (t && known (get_or codes i 0)) && all known (drop j codes)) (add-one i)
-      ∙ and_assoc t (known (get_or codes i 0)) (all known (drop (suc i) codes))
-      ∙ ap (λ (s : List ℕ). t && all known s) (sym (drop-cons codes i 0 (omega (arith, k.long, h))))
-      ∙ k.rest;
-}
+    module _ {t : Codes} (f : r ≡ Some t) where
+      tests : {b : Bool} → ltb (length line) t.end && dashes_agree t.codes ≡ b → well_formed line ≡ b
+      tests {b} h =
+          sym well_so ∙ ap (λ (k : Bool). k && ltb (length line) all_fields.end && dashes_agree all_fields.codes) (some_so f).1
+          ∙ ap (λ (u : Codes). ltb (length line) u.end && dashes_agree u.codes) (sym (some_so f).0) ∙ h
 
-pub known_end : {codes : List ℕ} {n : ℕ} {t : Bool} {i : ℕ} → KnownSoFar codes n t i → n ≤ i → t ≡ all known codes
-known_end {codes} {n} {t} {i} k h =
-    sym (and-true t) ∙ ap (λ (s : List ℕ). t && all known s) (sym (drop_of_length-le codes {i = i} (omega (arith, k.long, h)))) ∙ k.rest
+      pub ill_found : ltb (length line) t.end && dashes_agree t.codes ≡ false → None ≡ codes_in line
+      ill_found h = ap (λ (b : Bool). cond b (Some (line_codes line)) None) (sym (tests h))
 
--- CODES AS BYTES: the first i are converted
-pub record CutSoFar (codes bytes : List ℕ) (n i : ℕ) : Type 0 where
-  pub within : i ≤ n
-  pub long : length codes ≡ n
-  pub as_long : length bytes ≡ n
-  pub so : take i bytes ≡ map as_byte (take i codes)
+      pub well_found : ltb (length line) t.end && dashes_agree t.codes ≡ true → Some t.codes ≡ codes_in line
+      well_found h =
+          ap (λ (u : Codes). Some u.codes) (some_so f).0 ∙ ap Some codes_so
+          ∙ ap (λ (b : Bool). cond b (Some (line_codes line)) None) (sym (tests h))
 
-map_snoc : (xs : List ℕ) (x : ℕ) → map as_byte (xs ++ (x ∷ [])) ≡ map as_byte xs ++ (as_byte x ∷ [])
-map_snoc [] x = refl
-map_snoc (y ∷ xs) x = ap (λ (s : List ℕ). as_byte y ∷ s) (map_snoc xs x)
+-- codes, and the offset behind their fields
+the_codes : List ℕ → ℕ → Codes
+the_codes codes end = record { codes = codes; end = end }
 
-pub cut_next : {codes bytes : List ℕ} {n i : ℕ} → CutSoFar codes bytes n i → i < n → CutSoFar codes (set bytes i (as_byte (get_or codes i 0))) n (i + 1)
-cut_next {codes} {bytes} {n} {i} k h = record {
-  within = omega arith;
-  long = k.long;
-  as_long = length-set bytes i (as_byte (get_or codes i 0)) ∙ k.as_long;
-  so = ap (λ (j : ℕ). take j (set bytes i (as_byte (get_or codes i 0)))) (add-one i)
-      ∙ take-suc-set bytes i (as_byte (get_or codes i 0)) (omega (arith, k.as_long, h))
-      ∙ ap (λ (s : List ℕ). s ++ (as_byte (get_or codes i 0) ∷ [])) k.so
-      ∙ sym (map_snoc (take i codes) (get_or codes i 0))
-      ∙ ap (map as_byte) (sym (take-suc codes i 0 (omega (arith, k.long, h))))
-      ∙ ap (λ (j : ℕ). map as_byte (take j codes)) (sym (add-one i));
-}
+-- THE FIRST n FIELDS are taken, and each is known
+pub record TakenSoFar (line codes : List ℕ) (at n : ℕ) : Type 0 where
+  pub long : length codes ≡ length columns
+  pub known_so : all known (take n codes) ≡ true
+  pub codes_so : take n codes ++ (taken_from (drop n columns) line at).codes ≡ (taken_from columns line 0).codes
+  pub end_so : (taken_from (drop n columns) line at).end ≡ (taken_from columns line 0).end
 
-pub cut_end : {codes bytes : List ℕ} {n i : ℕ} → CutSoFar codes bytes n i → n ≤ i → bytes ≡ map as_byte codes
-cut_end {codes} {bytes} {n} {i} k h =
-    sym (take_all i bytes (omega (arith, k.as_long, h))) ∙ k.so ∙ ap (map as_byte) (take_all i codes (omega (arith, k.long, h)))
+pub taken_start : (line codes : List ℕ) → length codes ≡ length columns → TakenSoFar line codes 0 0
+taken_start line codes h = record { long = h; known_so = refl; codes_so = refl; end_so = refl }
+
+all_append : (xs ys : List ℕ) → all known (xs ++ ys) ≡ all known xs && all known ys
+all_append [] ys = refl
+all_append (x ∷ xs) ys = ap (λ (b : Bool). known x && b) (all_append xs ys) ∙ sym (and_assoc (known x) (all known xs) (all known ys))
+
+module _ {line codes : List ℕ} {at n : ℕ} (t : TakenSoFar line codes at n) where
+  module _ (h : n < length columns) where
+    here : Taken
+    here = taken_at n line at
+
+    ahead : drop n columns ≡ in_column n ∷ drop (suc n) columns
+    unfolding in_column
+    ahead = drop-cons columns n (λ (field : List ℕ). unknown) h
+
+    rest : Codes
+    rest = taken_from (drop (suc n) columns) line here.next
+
+    first_code : (taken_from (drop n columns) line at).codes ≡ here.code ∷ rest.codes
+    unfolding taken_at here rest
+    first_code = ap (λ (cs : List (List ℕ → ℕ)). (taken_from cs line at).codes) ahead
+
+    same_end : (taken_from (drop n columns) line at).end ≡ rest.end
+    unfolding taken_at here rest
+    same_end = ap (λ (cs : List (List ℕ → ℕ)). (taken_from cs line at).end) ahead
+
+    pub unknown_next : None ≡ if_known (taken_at n line at) → None ≡ if_all_known (taken_from columns line 0)
+    unfolding here
+    unknown_next e = go (known here.code) refl e
+      where
+        go : (b : Bool) → known here.code ≡ b → None ≡ cond b (Some here) None → None ≡ if_all_known (taken_from columns line 0)
+        go true k l = absurd (cc)
+        go false k l =
+            ap (λ (b : Bool). cond b (Some (taken_from columns line 0)) None)
+            (sym (ap (all known) (sym t.codes_so ∙ ap (λ (s : List ℕ). take n codes ++ s) first_code)
+            ∙ all_append (take n codes) (here.code ∷ rest.codes)
+            ∙ ap₂ (λ (a b : Bool). a && (b && all known rest.codes)) t.known_so k))
+
+    pub known_next : {f : Taken} → Some f ≡ if_known (taken_at n line at) → TakenSoFar line (set codes n f.code) f.next (n + 1)
+    unfolding here rest
+    known_next {f} e = go (known here.code) refl e
+      where
+        go : (b : Bool) → known here.code ≡ b → Some f ≡ cond b (Some here) None → TakenSoFar line (set codes n f.code) f.next (n + 1)
+        go false k l = absurd (cc)
+        go true k l =
+            let same : f ≡ here = cc in
+            let front : take (n + 1) (set codes n f.code) ≡ take n codes ++ (here.code ∷ []) =
+            ap (λ (j : ℕ). take j (set codes n f.code)) (add-one n)
+            ∙ take-suc-set codes n f.code (omega (arith, t.long, h))
+            ∙ ap (λ (g : Taken). take n codes ++ (g.code ∷ [])) same in
+            record {
+              long = length-set codes n f.code ∙ t.long;
+              known_so = ap (all known) front ∙ all_append (take n codes) (here.code ∷ [])
+                  ∙ ap₂ (λ (a b : Bool). a && (b && true)) t.known_so k;
+              codes_so =
+                  ap₂ (λ (s : List ℕ) (u : Codes). s ++ u.codes) front (ap₂ (λ (j : ℕ) (g : Taken). taken_from (drop j columns) line g.next) (add-one n) same)
+                  ∙ append_assoc (take n codes) (here.code ∷ []) rest.codes
+                  ∙ ap (λ (s : List ℕ). take n codes ++ s) (sym first_code)
+                  ∙ t.codes_so;
+              end_so =
+                  ap₂ (λ (j : ℕ) (g : Taken). (taken_from (drop j columns) line g.next).end) (add-one n) same
+                  ∙ sym same_end ∙ t.end_so;
+            }
+
+  pub all_next : length columns ≤ n → Some (record { codes = codes; end = at }) ≡ if_all_known (taken_from columns line 0)
+  unfolding the_codes
+  all_next h =
+      ap Some as_one ∙ sym (ap (λ (b : Bool). cond b (Some (taken_from columns line 0)) None) (ap (λ (u : Codes). all known u.codes) (sym as_one) ∙ all_so))
+    where
+      none_left : drop n columns ≡ []
+      none_left = drop_of_length-le columns {i = n} h
+
+      whole : take n codes ≡ codes
+      whole = take_all n codes (omega (arith, t.long, h))
+
+      all_so : all known codes ≡ true
+      all_so = ap (all known) (sym whole) ∙ t.known_so
+
+      as_one : the_codes codes at ≡ taken_from columns line 0
+      as_one = ap₂ the_codes
+          (sym whole ∙ sym (append-nil (take n codes)) ∙ ap (λ (cs : List (List ℕ → ℕ)). take n codes ++ (taken_from cs line at).codes) (sym none_left) ∙ t.codes_so)
+          (ap (λ (cs : List (List ℕ → ℕ)). (taken_from cs line at).end) (sym none_left) ∙ t.end_so)
+
+-- A LIST WHOSE NUMBERS are those of another, each changed
+pub map_at : (f : ℕ → ℕ) (xs ys : List ℕ) → length ys ≡ length xs → ((i : ℕ) → i < length xs → get_or ys i 0 ≡ f (get_or xs i 0)) → ys ≡ map f xs
+map_at f [] [] h k = refl
+map_at f [] (y ∷ ys) h k = absurd (omega (arith, h))
+map_at f (x ∷ xs) [] h k = absurd (omega (arith, h))
+map_at f (x ∷ xs) (y ∷ ys) h k =
+    ap₂ (λ (z : ℕ) (zs : List ℕ). z ∷ zs) (k 0 (omega arith)) (map_at f xs ys (omega (arith, h)) (λ i l. k (suc i) (omega (arith, l))))
 
 -- THE EVENT'S BYTES, from their parts
 abbrev pub four : List ℕ → List ℕ → List ℕ

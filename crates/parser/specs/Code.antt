@@ -1,13 +1,13 @@
 -- What functions compute on the way to a parsed line. The claims of `gathered` and `line_of` name this file, and no other public claim.
-use Rattle.std.specs.Prelude.{ℕ, ◌+◌, ◌-◌, ◌%◌, cond, List, [], ◌∷◌, map, leb, ltb, length, take, drop}
+use Rattle.std.specs.Prelude.{ℕ, ◌+◌, ◌-◌, ◌%◌, cond, List, [], ◌∷◌, Option, Some, None, map, leb, ltb, length, take, drop}
+use Rattle.kinds.specs.Tests.{all}
 use Rattle.kinds.specs.Places.{highest_pair}
 use Rattle.fields.specs.Fields.{field_end}
 use Rattle.names.specs.Names.{unknown, in_column}
 use Rattle.names.specs.Columns.{pair_code}
 use Rattle.parser.specs.declared.Taken.{Taken}
 use Rattle.parser.specs.declared.Codes.{Codes}
-use Rattle.parser.specs.declared.Found.{Found}
-use Rattle.parser.specs.Parsed.{Parsed, line_codes, well_formed, event_of, parsed_as, refused_parse}
+use Rattle.parser.specs.Parsed.{Parsed, known, line_codes, well_formed, event_of, parsed_as, refused_parse}
 
 -- the field at an offset, read by a column, and the offset behind its comma; past the end of the line unknown, and the same offset
 unfoldable pub taken_by : (List ℕ → ℕ) → List ℕ → ℕ → Taken
@@ -27,26 +27,25 @@ gathered_of a b c d e f g h i j k l = record {
   end = l.next;
 }
 
--- twelve fields one after another, each behind the comma of the one before
-unfoldable pub all_taken : List ℕ → Codes
-all_taken line =
-    let a = taken_at 0 line 0 in
-    let b = taken_at 1 line a.next in
-    let c = taken_at 2 line b.next in
-    let d = taken_at 3 line c.next in
-    let e = taken_at 4 line d.next in
-    let f = taken_at 5 line e.next in
-    let g = taken_at 6 line f.next in
-    let h = taken_at 7 line g.next in
-    let i = taken_at 8 line h.next in
-    let j = taken_at 9 line i.next in
-    let k = taken_at 10 line j.next in
-    let l = taken_at 11 line k.next in
-    gathered_of a b c d e f g h i j k l
+-- a field, if its column knows it
+abbrev pub if_known : Taken → Option Taken
+if_known field = cond (known field.code) (Some field) None
 
--- the codes of a line's fields, and whether it is well formed
-abbrev pub codes_in : List ℕ → Found
-codes_in line = record { codes = line_codes line; good = well_formed line }
+-- a field for each column, one after another, each behind the comma of the one before
+abbrev pub taken_from : List (List ℕ → ℕ) → List ℕ → ℕ → Codes
+taken_from [] line at = record { codes = []; end = at }
+taken_from (column ∷ others) line at = record {
+  codes = (taken_by column line at).code ∷ (taken_from others line (taken_by column line at).next).codes;
+  end = (taken_from others line (taken_by column line at).next).end;
+}
+
+-- the codes, if each column knows its field
+abbrev pub if_all_known : Codes → Option Codes
+if_all_known taken = cond (all known taken.codes) (Some taken) None
+
+-- the codes of a line's fields, if it is well formed
+abbrev pub codes_in : List ℕ → Option (List ℕ)
+codes_in line = cond (well_formed line) (Some (line_codes line)) None
 
 -- a code modulo 256
 abbrev pub as_byte : ℕ → ℕ

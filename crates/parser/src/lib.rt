@@ -2,9 +2,9 @@
 #![tactic(auto)]
 
 ghost use Rattle.std.specs.Prelude.{◌≡◌, map};
-ghost use Rattle.kinds.specs.Tests.{all};
-ghost use Rattle.parser.specs.Parsed.{known, dashes_agree, event_of, in_numbers, parsed};
-ghost use Rattle.parser.specs.Code.{taken_at, gathered_of, all_taken, codes_in, as_byte, line_of};
+ghost use Rattle.names.specs.Names.{columns};
+ghost use Rattle.parser.specs.Parsed.{dashes_agree, event_of, in_numbers, parsed};
+ghost use Rattle.parser.specs.Code.{taken_at, taken_from, if_known, if_all_known, gathered_of, codes_in, as_byte, line_of};
 
 use kinds::{EVENT_BYTES, Forward, FwdState, HIGHEST_PAIR, PairNumber, Refusal, RespErr};
 use names::columns;
@@ -38,29 +38,19 @@ pub struct Codes {
     pub end: usize,
 }
 
-// The codes of a line's fields, and whether the line is well formed.
-#[derive(Clone, Copy)]
-struct Found {
-    codes: [u32; COLUMNS],
-    good: bool,
-}
-
-// Reads the field at an offset in the column with this number; unknown past the end of the line.
-fn field_at(number: usize, line: &[u8], at: usize) -> Taken
-    ensures { result ≡ taken_at number line.now at }
+// Reads the field at an offset in the column with this number; none past the end of the line, or if the column does not know the field.
+fn field_at(number: usize, line: &[u8], at: usize) -> Option<Taken>
+    ensures { result ≡ if_known (taken_at number line.now at) }
 {
     if line.len() < at {
-        return Taken {
-            code: names::UNKNOWN,
-            next: at,
-        };
+        return None;
     }
     let end = fields::end_of(line, at);
-    let code = names::column(number, &line[at..end]);
-    Taken {
+    let code = names::column(number, &line[at..end])?;
+    Some(Taken {
         code,
         next: end + 1,
-    }
+    })
 }
 
 // The codes of twelve fields, in their order.
@@ -99,51 +89,21 @@ pub fn gathered(
     }
 }
 
-// Reads the twelve fields one after another.
-fn take_all(line: &[u8]) -> Codes
-    ensures { result ≡ all_taken line.now }
+// Reads the twelve fields one after another, if each is known in its column.
+fn take_all(line: &[u8]) -> Option<Codes>
+    ensures { result ≡ if_all_known (taken_from columns line.now 0) }
 {
     let mut fields = Fields { line, at: 0 };
-    let pair = field_at(columns::PAIR, fields.line, fields.at);
-    fields.at = pair.next;
-    let request = field_at(columns::REQUEST, fields.line, fields.at);
-    fields.at = request.next;
-    let ret = field_at(columns::RET_TO_SRC, fields.line, fields.at);
-    fields.at = ret.next;
-    let sd = field_at(columns::DO_NOT_GO_TO_SD, fields.line, fields.at);
-    fields.at = sd.next;
-    let excl = field_at(columns::EXCL, fields.line, fields.at);
-    fields.at = excl.next;
-    let tag = field_at(columns::TAG, fields.line, fields.at);
-    fields.at = tag.next;
-    let response = field_at(columns::RESPONSE, fields.line, fields.at);
-    fields.at = response.next;
-    let op = field_at(columns::TAG_OP, fields.line, fields.at);
-    fields.at = op.next;
-    let error = field_at(columns::RESP_ERR, fields.line, fields.at);
-    fields.at = error.next;
-    let forward = field_at(columns::FORWARD, fields.line, fields.at);
-    fields.at = forward.next;
-    let after = field_at(columns::FINAL, fields.line, fields.at);
-    fields.at = after.next;
-    let last = field_at(columns::FWD_ERR, fields.line, fields.at);
-    gathered(
-        pair, request, ret, sd, excl, tag, response, op, error, forward, after, last,
-    )
-}
-
-// Whether every code is known.
-fn all_known(codes: &[u32]) -> bool
-    ensures { result ≡ all known codes.now }
-{
-    let n = codes.len();
-    let mut good = true;
-    let mut i: usize = 0;
-    while i < n {
-        good = good & (codes[i] != names::UNKNOWN);
-        i += 1;
+    let mut codes = [0u32; COLUMNS];
+    for number in 0..COLUMNS {
+        let field = field_at(number, fields.line, fields.at)?;
+        codes[number] = field.code;
+        fields.at = field.next;
     }
-    good
+    Some(Codes {
+        codes,
+        end: fields.at,
+    })
 }
 
 // Whether `-` stands in both of forward and fwdErr, or in neither.
@@ -152,33 +112,25 @@ pub fn dashes_agree(codes: [u32; COLUMNS]) -> bool
 {
     let no_forward = codes[columns::FORWARD] == FwdState::NONE.0 as u32;
     let no_error = codes[columns::FWD_ERR] == names::NO_FWD_ERR as u32;
-    kinds::choose(no_forward, no_error, !no_error)
+    no_forward == no_error
 }
 
-// The codes of a line's fields, and whether it is well formed: twelve fields, each known in its column, and the dashes agree.
-fn codes_of(line: &[u8]) -> Found
+// The codes of a line's fields, if it is well formed: twelve fields, each known in its column, and the dashes agree.
+fn codes_of(line: &[u8]) -> Option<[u32; COLUMNS]>
     ensures { result ≡ codes_in line.now }
 {
-    let taken = take_all(line);
-    let codes = taken.codes;
-    let agree = dashes_agree(codes);
-    Found {
-        codes,
-        good: all_known(&codes) & (line.len() < taken.end) & agree,
+    let taken = take_all(line)?;
+    if line.len() < taken.end && dashes_agree(taken.codes) {
+        return Some(taken.codes);
     }
+    None
 }
 
 // The codes as bytes.
 fn as_bytes(codes: [u32; COLUMNS]) -> [u8; COLUMNS]
     ensures { result ≡ map as_byte codes }
 {
-    let mut bytes = [0u8; COLUMNS];
-    let mut i: usize = 0;
-    while i < COLUMNS {
-        bytes[i] = (codes[i] % 256) as u8;
-        i += 1;
-    }
-    bytes
+    codes.map(|code| (code % 256) as u8)
 }
 
 // The event's bytes, from the codes of the fields (definition 8.4).
@@ -227,11 +179,8 @@ pub fn line_of(codes: [u32; COLUMNS]) -> Result<Line, Refusal>
 pub fn parse_line(line: &[u8]) -> Result<Line, Refusal>
     ensures { in_numbers result ≡ parsed line.now }
 {
-    let found = codes_of(line);
-    let good = found.good;
-    let codes = found.codes;
-    if !good {
+    let Some(codes) = codes_of(line) else {
         return Err(Refusal::Fields);
-    }
+    };
     line_of(codes)
 }

@@ -1,16 +1,9 @@
--- `names::tag_op` meets its contract: the names of the column, one after another.
-use mathlib.Core.Path.{refl}
-use lib.ListN.{drop}
-use Rattle.names.specs.Names.{code_of, tag_op_names}
-use Rattle.names.proofs.Laws.{by_name}
+-- `names::tag_op` meets its contract: its table has the names of the column.
+use Rattle.std.proofs.Common.{refl, ◌∙◌}
+use Rattle.names.specs.Names.{tag_op_names}
+use Rattle.names.proofs.Laws.{found_known}
 use Rattle.names.proofs.tag_op.Goals as goal
 
 pub returns : goal.returns
-unfolding code_of tag_op_names
-returns c =
-    let f = c.args.field.now in
-    by_name _ (drop 1 tag_op_names) f c.known.ensures
-    (by_name _ (drop 2 tag_op_names) f c.known-code-3.ensures
-    (by_name _ (drop 3 tag_op_names) f c.known-code-2.ensures
-    (by_name _ (drop 4 tag_op_names) f c.known-code.ensures
-    refl)))
+unfolding tag_op_names
+returns c = c.code_in.ensures ∙ found_known tag_op_names c.args.field.now refl
