@@ -14,8 +14,7 @@ use Rattle.rows.specs.Event.{byte}
 use Rattle.rows.specs.Rows.{Row, rows}
 use Rattle.rows.specs.Permitted.{asked, answered, tagged, some_tag, tags_allow, tag_ops, on_forward, rules_of}
 use Rattle.steps.specs.Steps.{duty}
-use Rattle.lookup.specs.Table.{keys}
-use Rattle.lookup.specs.declared.table.TheConstants.{SLOTS}
+use Rattle.lookup.specs.Table.{keys, slots}
 use Rattle.lookup.specs.Code.{kind_of, entry_of, effect_by, from, to, told, without_dirty}
 
 -- the event with this snoop and this packed answer, whose state after was not seen
@@ -103,7 +102,7 @@ all_keyed = refl
 abbrev pub taken : ℕ → Bool
 taken slot = eqb slot 0 || (slot % 2 ^ 32 ∈? keys)
 
-pub all_taken_lem : all taken SLOTS ≡ true
+pub all_taken_lem : all taken slots ≡ true
 all_taken_lem = refl
 
 -- no request has an entry for kind 0

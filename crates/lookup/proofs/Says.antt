@@ -24,8 +24,7 @@ use Rattle.steps.specs.Steps.{steps, duty}
 use Rattle.steps.specs.Code.{row_fits}
 use Rattle.steps.proofs.Walk.{by, rows_steps}
 use Rattle.steps.proofs.Passing.{all_get_d}
-use Rattle.lookup.specs.Table.{keys}
-use Rattle.lookup.specs.declared.table.TheConstants.{SLOTS}
+use Rattle.lookup.specs.Table.{keys, slots}
 use Rattle.lookup.specs.Code.{slot_of, kind_in, kind_of, entry_of, choice_of, effect_in, effect_by, looked_up, packed, effect_of, from, to, told, without_dirty}
 use Rattle.lookup.proofs.Looked.{event_of, flags_of, kept, for_answer, for_snoop, says, flag, tag_seen, right_snoop, right_snoops, right_answer, all_right}
 use Rattle.lookup.proofs.Looked.{packed_by, keyed_by, keyed, all_keyed, taken, all_taken_lem, no_kind}
@@ -174,7 +173,7 @@ module _ (e : List ℕ) (i : InRange e) where
 -- an answer that no row has is of kind 0
 no_answer : (key : ℕ) → key ∈? keys ≡ false → kind_of key ≡ 0
 unfolding kind_of
-no_answer key h = go (get_or SLOTS (slot_of key) 0) (all_get_d taken SLOTS (slot_of key) refl all_taken_lem)
+no_answer key h = go (get_or slots (slot_of key) 0) (all_get_d taken slots (slot_of key) refl all_taken_lem)
   where
     go : (slot : ℕ) → taken slot ≡ true → kind_in slot key ≡ 0
     go slot k = test (eqb (slot % 2 ^ 32) key) refl

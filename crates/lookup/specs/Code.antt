@@ -7,11 +7,11 @@ use Rattle.sets.specs.Sets.{set_of, bit}
 use Rattle.words.specs.Words.{half}
 use Rattle.rows.specs.Event.{request_of, state_after_of, forwarded_err_of, seen}
 use Rattle.steps.specs.Steps.{no_duty, lost, discarded}
-use Rattle.lookup.specs.declared.table.TheConstants.{FACTOR, SLOTS, STARTS, CHOICES, ENTRIES}
+use Rattle.lookup.specs.Table.{factor, slots, starts, choices, entries}
 
--- the slot of a packed answer: bits 24 to 31 of its product with the factor
+-- the slot of a packed answer: bits 24 to 31 of its product with the factor, counted from 256 on
 abbrev pub slot_of : ℕ → ℕ
-slot_of answer = answer % 2 ^ 32 * FACTOR / 2 ^ 24 % 256
+slot_of answer = answer % 2 ^ 32 * factor / 2 ^ 24 % 256 + 256
 
 -- the kind of a packed answer, by what its slot has
 abbrev pub kind_in : ℕ → ℕ → ℕ
@@ -19,7 +19,7 @@ kind_in slot answer = cond (eqb (slot % 2 ^ 32) answer) (slot / 2 ^ 32) 0
 
 -- the kind of a packed answer; 0 if no row has it
 unfoldable pub kind_of : ℕ → ℕ
-kind_of answer = kind_in (get_or SLOTS (slot_of answer) 0) answer
+kind_of answer = kind_in (get_or slots (slot_of answer) 0) answer
 
 -- what brings the flags of a snoop together in bits 24 to 28
 abbrev pub gather : ℕ
@@ -35,11 +35,11 @@ effect_in entry choice = entry / 2 ^ (choice * 8) % 256 + entry / 2 ^ 32 * 256
 
 -- the entry for a request and a kind of answer
 abbrev pub entry_of : ℕ → ℕ → ℕ
-entry_of request kind = get_or ENTRIES (get_or STARTS (request % 32) 0 + kind) 0
+entry_of request kind = get_or entries ((get_or starts (request % 32) 0 + kind) % 512) 0
 
 -- which of the three sets of states before holds for a kind of answer, by the flags of the snoop
 abbrev pub choice_of : ℕ → ℕ → ℕ
-choice_of kind flags = get_or CHOICES kind 0 / 2 ^ (context_of flags * 2) % 4
+choice_of kind flags = get_or choices kind 0 / 2 ^ (context_of flags * 2) % 4
 
 -- the effect of a kind of answer
 abbrev pub effect_by : ℕ → ℕ → ℕ → ℕ

@@ -1,4 +1,4 @@
-// What the rows say, as the judge looks it up. scripts/lookup-tables writes this file from the printed rows.
+// What the rows say, as the judge looks it up: the lists of Table.antt without their first 256 zeros. scripts/lookup-tables writes this file from the printed rows.
 
 // What spreads the packed answers over the slots, each in its own.
 pub const FACTOR: u64 = 3362128852;
@@ -336,7 +336,7 @@ pub static CHOICES: [u64; 32] = [
 ];
 
 // By request and kind of answer, a byte each: three sets of states before, 0, the set of states after, the duty.
-pub static ENTRIES: [u64; 224] = [
+pub static ENTRIES: [u64; 256] = [
     0, // entry 0
     0x000100270700, // entry 1: SnpResp_I, Invalid, OK
     0x000100022200, // entry 2: SnpRespData_I, Invalid, OK
@@ -561,4 +561,36 @@ pub static ENTRIES: [u64; 224] = [
     0, // entry 221
     0, // entry 222
     0, // entry 223
+    0, // entry 224
+    0, // entry 225
+    0, // entry 226
+    0, // entry 227
+    0, // entry 228
+    0, // entry 229
+    0, // entry 230
+    0, // entry 231
+    0, // entry 232
+    0, // entry 233
+    0, // entry 234
+    0, // entry 235
+    0, // entry 236
+    0, // entry 237
+    0, // entry 238
+    0, // entry 239
+    0, // entry 240
+    0, // entry 241
+    0, // entry 242
+    0, // entry 243
+    0, // entry 244
+    0, // entry 245
+    0, // entry 246
+    0, // entry 247
+    0, // entry 248
+    0, // entry 249
+    0, // entry 250
+    0, // entry 251
+    0, // entry 252
+    0, // entry 253
+    0, // entry 254
+    0, // entry 255
 ];
