@@ -3,13 +3,12 @@
 use mathlib.Core.Path.{◌≡◌, refl, sym, ◌∙◌, ap, ap₂}
 use mathlib.Core.Bool.{Bool, true, false, ◌&&◌, ◌||◌, not, false≢true, or-false, or_assoc, and_assoc}
 use mathlib.Core.List.{List, [], ◌∷◌, ◌++◌, map}
-use Prim.Native.Nat.{ℕ, zero, suc, ◌+◌, ◌/◌, ◌%◌, ◌^◌, ◌<◌, ◌≤◌}
-use native.Mathlib.Nat.{mod-eq_of_lt}
+use Prim.Native.Nat.{ℕ, zero, suc, ◌<◌}
 use native.Mathlib.Omega.{arith}
-use borrow.Author.Tests.{eqb-true, eqb-false, ltb-true}
-use lib.Dec.{eqb, ltb}
+use borrow.Author.Tests.{eqb-true}
+use lib.Dec.{eqb}
 use lib.ListN.{get_or}
-use Rattle.kinds.specs.Tests.{any, all, same, ◌∈?◌, beyond, beside}
+use Rattle.kinds.specs.Tests.{any, all, same, ◌∈?◌}
 use Rattle.kinds.specs.Codes.{I, UC, UCE, UD, UDP, SC, SD, states}
 
 -- the element is in the list
@@ -23,17 +22,6 @@ same_truth true true f g = refl
 same_truth true false f g = sym (f refl)
 same_truth false true f g = g refl
 same_truth false false f g = refl
-
--- the two tests say the same
-abbrev pub agree : Bool → Bool → Bool
-agree true b = b
-agree false b = not b
-
--- then they are equal
-pub agree_same : (a b : Bool) → agree a b ≡ true → a ≡ b
-agree_same true b h = sym h
-agree_same false true h = h
-agree_same false false h = refl
 
 -- `&&` and `||` from their two sides, and back
 pub and_left : (a b : Bool) → a && b ≡ true → a ≡ true
@@ -156,35 +144,6 @@ one_of p n ns h k =
     let f = any_found (eqb n) ns h in
     ap p (eqb-true n f.one f.passes) ∙ all_at p k f.inside
 
--- every number below n passes the test
-abbrev pub every_below : (ℕ → Bool) → ℕ → Bool
-every_below p zero = true
-every_below p (suc n) = p n && every_below p n
-
--- a test that is computed for every number below n holds for each
-pub each_below : (p : ℕ → Bool) (n : ℕ) → every_below p n ≡ true → (k : ℕ) → k < n → p k ≡ true
-each_below p zero h k l = absurd (omega arith)
-each_below p (suc n) h k l = go (eqb k n) refl (each_below p n (and_right (p n) (every_below p n) h) k)
-  where
-    go : (t : Bool) → eqb k n ≡ t → (k < n → p k ≡ true) → p k ≡ true
-    go true e f = ap p (eqb-true k n e) ∙ and_left (p n) (every_below p n) h
-    go false e f = let d = eqb-false k n e in f (omega arith)
-
--- the numbers of a list as bits of one word: bit k is set exactly when k is in the list, for every k below the number of bits
-pub of_bits : (w bits : ℕ) (ns : List ℕ) → all (λ k. ltb k bits) ns ≡ true
-    → every_below (λ k. agree (eqb (w / 2 ^ k % 2) 1) (k ∈? ns)) bits ≡ true
-    → (n : ℕ) → ltb n bits && eqb (w / 2 ^ (n % bits) % 2) 1 ≡ n ∈? ns
-of_bits w bits ns few right n = go (ltb n bits) refl (n ∈? ns) refl
-  where
-    go : (t : Bool) → ltb n bits ≡ t → (u : Bool) → n ∈? ns ≡ u → t && eqb (w / 2 ^ (n % bits) % 2) 1 ≡ u
-    go true e u f =
-        let l = ltb-true n bits e in
-        ap (λ (k : ℕ). eqb (w / 2 ^ k % 2) 1) (mod-eq_of_lt l)
-        ∙ agree_same (eqb (w / 2 ^ n % 2) 1) (n ∈? ns) (each_below (λ k. agree (eqb (w / 2 ^ k % 2) 1) (k ∈? ns)) bits right n l)
-        ∙ f
-    go false e true f = sym e ∙ one_of (λ k. ltb k bits) n ns f few
-    go false e false f = refl
-
 -- two lists that are the same number by number are equal
 pub same_equal : (xs ys : List ℕ) → same xs ys ≡ true → xs ≡ ys
 same_equal [] [] h = refl
@@ -192,13 +151,3 @@ same_equal [] (y ∷ ys) h = absurd (false≢true h)
 same_equal (x ∷ xs) [] h = absurd (false≢true h)
 same_equal (x ∷ xs) (y ∷ ys) h =
     ap₂ ◌∷◌ (eqb-true x y (and_left (eqb x y) (same xs ys) h)) (same_equal xs ys (and_right (eqb x y) (same xs ys) h))
-
--- a number that is none of the first n is not below n
-pub beyond_le : (n number : ℕ) → beyond number n → n ≤ number
-beyond_le zero number h = omega arith
-beyond_le (suc n) number h = omega (arith, beyond_le n number h.0, h.1)
-
--- a number that is none of n from `first` on, and not below `first`, is past them
-pub beside_le : (first n number : ℕ) → beside number first n → first ≤ number → first + n ≤ number
-beside_le first zero number h k = omega arith
-beside_le first (suc n) number h k = omega (arith, beside_le first n number h.0 k, h.1)

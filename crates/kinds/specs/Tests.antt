@@ -2,7 +2,7 @@
 -- How to read these files: `f x y` is f of x and y. A definition is a line with its type and a line with its value. The words before the
 -- name (abbrev, unfoldable, pub) concern the checker only. `a ∷ b ∷ []` is the list of a and b. `cond t a b` is a if t is true, else b.
 -- `λ x. ..` is the function of x. `&&`, `||` and `not` are and, or and not. `r.field` is a field of r.
-use Rattle.std.specs.Prelude.{ℕ, zero, suc, ◌+◌, ◌≡◌, Bool, true, false, ◌&&◌, ◌||◌, List, [], ◌∷◌, eqb}
+use Rattle.std.specs.Prelude.{ℕ, Bool, true, false, ◌&&◌, ◌||◌, List, [], ◌∷◌, eqb}
 
 -- some element of the list passes the test
 abbrev pub any {ℓ} : {A : Type ℓ} → (A → Bool) → List A → Bool
@@ -25,13 +25,3 @@ same [] [] = true
 same [] (y ∷ ys) = false
 same (x ∷ xs) [] = false
 same (x ∷ xs) (y ∷ ys) = eqb x y && same xs ys
-
--- the number is none of the first n: what the last arm of a `match` with n arms knows
-abbrev pub beyond : ℕ → ℕ → Type 0
-beyond number zero = Unit
-beyond number (suc n) = beyond number n × (number ≡ n → ⊥)
-
--- the same for a `match` whose arms start at `first`
-abbrev pub beside : ℕ → ℕ → ℕ → Type 0
-beside number first zero = Unit
-beside number first (suc n) = beside number first n × (number ≡ first + n → ⊥)

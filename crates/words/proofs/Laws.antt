@@ -9,8 +9,8 @@ use native.Mathlib.Omega.{arith}
 use borrow.Author.Tests.{ltb-true, ltb-false, leb-true, leb-false, eq-eqb, ne_eqb}
 use lib.Bits.{bit_and, and_zero_r, and_block, and_high}
 use lib.Dec.{eqb, ltb, leb}
-use lib.ListN.{replicate, get_or-replicate, length, get_or, take, drop, length-drop, drop_of_length-le, get_or-eq_default}
-use lib.Seq.{take_all, drop-cons, get_or-drop, drop-append_seam}
+use lib.ListN.{replicate, get_or-replicate, length, get_or, drop, length-drop, drop_of_length-le, get_or-eq_default}
+use lib.Seq.{drop-cons, get_or-drop, drop-append_seam}
 use Rattle.std.proofs.lemmas.List.{length-append}
 use lib.Pow.{pow_pos, pow-lt, mod-pow-add}
 use Rattle.words.specs.Words.{half, word, word_of}
@@ -56,21 +56,6 @@ word_sum b at =
     let i₆ : at + 4 + 2 ≡ at + 6 = omega arith in
     let i₇ : at + 4 + 3 ≡ at + 7 = omega arith in
     rw (i₅, i₆, i₇) (omega arith)
-
--- the bytes of a part are bytes of the whole
-bytes_drop : (b : List ℕ) (at i n : ℕ) → bytes_from (drop at b) i n ≡ bytes_from b (at + i) n
-bytes_drop b at i zero = refl
-bytes_drop b at i (suc n) =
-    let next : at + suc i ≡ suc (at + i) = omega arith in
-    ap₂ ◌∷◌ (get_or-drop at b i 0) (bytes_drop b at (suc i) n ∙ ap (λ (j : ℕ). bytes_from b j n) next)
-
--- the first eight bytes of the part from an offset on
-pub word_part : (b : List ℕ) (at : ℕ) → word (take (length b - at) (drop at b)) 0 ≡ word b at
-word_part b at =
-    ap (λ (l : List ℕ). word l 0) (take_all (length b - at) (drop at b) (simp length-drop (omega arith)))
-    ∙ word_of_lem (drop at b) 0
-    ∙ ap word_of (bytes_drop b at 0 8 ∙ ap (λ (i : ℕ). bytes_from b i 8) (add-zero at))
-    ∙ sym (word_of_lem b at)
 
 -- the bytes to the end are as many as one likes, for those past it are 0
 from_drop : (b : List ℕ) (n at : ℕ) → length b ≤ at + n → word_of (drop at b) ≡ word_of (bytes_from b at n)
