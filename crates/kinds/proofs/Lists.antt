@@ -5,7 +5,7 @@ use mathlib.Core.Bool.{Bool, true, false, ◌&&◌, ◌||◌, not, false≢true,
 use mathlib.Core.List.{List, [], ◌∷◌, ◌++◌, map}
 use Prim.Native.Nat.{ℕ, zero, suc, ◌<◌}
 use native.Mathlib.Omega.{arith}
-use borrow.Author.Tests.{eqb-true}
+use borrow.Author.Tests.{eqb-true, eqb-false}
 use lib.Dec.{eqb}
 use lib.ListN.{get_or}
 use Rattle.kinds.specs.Tests.{any, all, same, ◌∈?◌}
@@ -143,6 +143,20 @@ pub one_of : (p : ℕ → Bool) (n : ℕ) (ns : List ℕ) → n ∈? ns ≡ true
 one_of p n ns h k =
     let f = any_found (eqb n) ns h in
     ap p (eqb-true n f.one f.passes) ∙ all_at p k f.inside
+
+-- every number below n passes the test
+abbrev pub every_below : (ℕ → Bool) → ℕ → Bool
+every_below p zero = true
+every_below p (suc n) = p n && every_below p n
+
+-- a test that is computed for every number below n holds for each
+pub each_below : (p : ℕ → Bool) (n : ℕ) → every_below p n ≡ true → (k : ℕ) → k < n → p k ≡ true
+each_below p zero h k l = absurd (omega arith)
+each_below p (suc n) h k l = go (eqb k n) refl (each_below p n (and_right (p n) (every_below p n) h) k)
+  where
+    go : (t : Bool) → eqb k n ≡ t → (k < n → p k ≡ true) → p k ≡ true
+    go true e f = ap p (eqb-true k n e) ∙ and_left (p n) (every_below p n) h
+    go false e f = let d = eqb-false k n e in f (omega arith)
 
 -- two lists that are the same number by number are equal
 pub same_equal : (xs ys : List ℕ) → same xs ys ≡ true → xs ≡ ys

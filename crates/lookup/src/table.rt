@@ -1,4 +1,5 @@
-// What the rows say, as the judge looks it up: the lists of Table.antt without their first 256 zeros. scripts/lookup-tables writes this file from the printed rows.
+// What the rows say, as the judge looks it up: the lists of Table.antt without their first 256 zeros.
+// scripts/lookup-tables writes this file from the printed rows.
 
 // What spreads the packed answers over the slots, each in its own.
 pub const FACTOR: u64 = 3362128852;
