@@ -3,7 +3,7 @@
 use mathlib.Core.Path.{◌≡◌, refl, sym, ◌∙◌, ap, subst}
 use mathlib.Core.Bool.{Bool, true, false, cond}
 use mathlib.Core.List.{List}
-use Prim.Native.Nat.{ℕ, ◌*◌, ◌%◌, ◌<◌, ◌≤◌}
+use Prim.Native.Nat.{ℕ, ◌*◌, ◌<◌, ◌≤◌}
 use native.Mathlib.Omega.{arith}
 use borrow.Author.Tests.{leb-true, leb-false}
 use lib.Dec.{eqb, leb}
@@ -71,7 +71,7 @@ given q room = let s = some_row q room in subst (Given issue_e q room) (sym (giv
 
 -- no list is longer than `most_answers`
 short : Question → Bool
-short q = leb (span_of q % 64) most_answers
+short q = leb (span_of q).1 most_answers
 
 all_short : all (λ b. short (question_at b)) questions ≡ true
 unfolding short questions span_of
@@ -81,7 +81,7 @@ pub most : (q : Question) → Good issue_e q → length (answers_to issue_e q) �
 unfolding short
 most q g =
     subst (λ (n : ℕ). n ≤ most_answers) (sym (list_length q (good_fault q g)))
-    (leb-true (span_of q % 64) most_answers (every_question short all_short q (good_fault q g)))
+    (leb-true (span_of q).1 most_answers (every_question short all_short q (good_fault q g)))
 
 -- whatever is asked and lent: the number is small, the place is 0, and the count is at most `most_answers`
 pub record Small (l : ListLeft) : Type 0 where

@@ -3,7 +3,7 @@
 use mathlib.Core.Path.{◌≡◌, refl, sym, ◌∙◌, ap}
 use mathlib.Core.Bool.{Bool, true, false, cond, ◌&&◌}
 use mathlib.Core.List.{List, [], ◌∷◌, ◌++◌, map}
-use Prim.Native.Nat.{ℕ, ◌/◌, ◌%◌}
+use Prim.Native.Nat.{ℕ, ◌%◌}
 use native.Mathlib.Omega.{arith}
 use lib.Dec.{eqb, ltb}
 use lib.ListN.{length, get_or, take, drop}
@@ -120,5 +120,5 @@ table_right q h = same_members (answers_in (span_of q)) (answers_to issue_e q) a
     members a =
         of_rows a
         ∙ added_test (eqb (length a) answer_length) (permits q a) (below a 0 (answer_limits issue_e))
-        (λ k. all_member (λ x. below x 0 (answer_limits issue_e)) (answers_in (span_of q)) a (all_in_range (take (span_of q % 64) (drop (span_of q / 64) NUMBERS))) (of_rows a ∙ k))
+        (λ k. all_member (λ x. below x 0 (answer_limits issue_e)) (answers_in (span_of q)) a (all_in_range (take (span_of q).1 (drop (span_of q).0 NUMBERS))) (of_rows a ∙ k))
         ∙ sym (answers_members q a)

@@ -3,7 +3,7 @@
 use mathlib.Core.Path.{◌≡◌, refl, sym, ◌∙◌, ap, ap₂, subst}
 use mathlib.Core.Bool.{Bool, true, cond, ◌&&◌}
 use mathlib.Core.List.{List, ◌++◌, map}
-use Prim.Native.Nat.{ℕ, ◌+◌, ◌*◌, ◌/◌, ◌%◌, ◌<◌, ◌≤◌}
+use Prim.Native.Nat.{ℕ, ◌+◌, ◌*◌, ◌<◌, ◌≤◌}
 use native.Mathlib.Omega.{arith}
 use borrow.Author.Tests.{eq-eqb, ne_eqb, le-leb, lt-leb, leb-true, ltb-true}
 use lib.Dec.{leb, ltb}
@@ -45,21 +45,21 @@ in_spans q h = ltb-true _ _ (and_right (ltb (context_of q) (length LISTS)) (ltb 
 
 -- a span lies within the numbers
 span_fits_lem : Question → Bool
-span_fits_lem q = leb (span_of q / 64 + span_of q % 64) (length NUMBERS)
+span_fits_lem q = leb ((span_of q).0 + (span_of q).1) (length NUMBERS)
 
 all_fit : all (λ b. span_fits_lem (question_at b)) questions ≡ true
 unfolding span_fits_lem questions span_of
 all_fit = refl
 
-pub span_fits : (q : Question) → fault_of issue_e q ≡ 0 → span_of q / 64 + span_of q % 64 ≤ length NUMBERS
+pub span_fits : (q : Question) → fault_of issue_e q ≡ 0 → (span_of q).0 + (span_of q).1 ≤ length NUMBERS
 unfolding span_fits_lem
 span_fits q h =
-    leb-true (span_of q / 64 + span_of q % 64) (length NUMBERS) (every_question span_fits_lem all_fit q h)
+    leb-true ((span_of q).0 + (span_of q).1) (length NUMBERS) (every_question span_fits_lem all_fit q h)
 
 -- the number of answers is told by the span
-pub list_length : (q : Question) → fault_of issue_e q ≡ 0 → length (answers_to issue_e q) ≡ span_of q % 64
+pub list_length : (q : Question) → fault_of issue_e q ≡ 0 → length (answers_to issue_e q) ≡ (span_of q).1
 unfolding answers_in
-list_length q h = ap length (sym (table_right q h)) ∙ answers_length (span_of q / 64) (span_of q % 64) (span_fits q h)
+list_length q h = ap length (sym (table_right q h)) ∙ answers_length (span_of q).0 (span_of q).1 (span_fits q h)
 
 -- what is left, by whether the question is refused with 4 or 5, and by whether the room is enough
 pub left_fault : (q : Question) (room : List ℕ) → (fault_of issue_e q ≡ 0 → ⊥) → listed issue_e q room ≡ refused_list (fault_of issue_e q) room
@@ -85,18 +85,18 @@ left_accepted q room h l =
 pub refused_question : (q : Question) (room : List ℕ) (r : Refusal) → refusal_number r ≡ fault_of issue_e q → list_left (in_numbers (Err r)) room ≡ listed issue_e q room
 refused_question q room r h = ap (λ (n : ℕ). list_left (result n 0 0) room) h ∙ sym (left_fault q room (λ z. not_accepted r (h ∙ z)))
 
-module _ (q : Question) (room : List ℕ) (span : ℕ) (ok : fault_of issue_e q ≡ 0) (s : span ≡ span_of q) where
-  counted : length (answers_to issue_e q) ≡ span % 64
-  counted = list_length q ok ∙ ap (λ (n : ℕ). n % 64) (sym s)
+module _ (q : Question) (room : List ℕ) (span : ℕ × ℕ) (ok : fault_of issue_e q ≡ 0) (s : span ≡ span_of q) where
+  counted : length (answers_to issue_e q) ≡ span.1
+  counted = list_length q ok ∙ ap (λ (x : ℕ × ℕ). x.1) (sym s)
 
-  pub short_room : length room < span % 64 * answer_length → list_left (in_numbers (Err Room)) room ≡ listed issue_e q room
+  pub short_room : length room < span.1 * answer_length → list_left (in_numbers (Err Room)) room ≡ listed issue_e q room
   short_room l = sym (left_short q room ok (omega (arith, counted)))
 
-  pub fitting : span / 64 + span % 64 ≤ length NUMBERS
-  fitting = subst (λ (n : ℕ). n / 64 + n % 64 ≤ length NUMBERS) (sym s) (span_fits q ok)
+  pub fitting : span.0 + span.1 ≤ length NUMBERS
+  fitting = subst (λ (x : ℕ × ℕ). x.0 + x.1 ≤ length NUMBERS) (sym s) (span_fits q ok)
 
-  pub accepted_question : (ns room' : List ℕ) → span % 64 * answer_length ≤ length room → ns ≡ take (span % 64) (drop (span / 64) NUMBERS)
-      → room' ≡ joined (map answer_at ns) ++ drop (answer_length * length ns) room → list_left (in_numbers (Ok (span % 64))) room' ≡ listed issue_e q room
+  pub accepted_question : (ns room' : List ℕ) → span.1 * answer_length ≤ length room → ns ≡ take span.1 (drop span.0 NUMBERS)
+      → room' ≡ joined (map answer_at ns) ++ drop (answer_length * length ns) room → list_left (in_numbers (Ok span.1)) room' ≡ listed issue_e q room
   unfolding answers_in
   accepted_question ns room' l n put =
       let these : map answer_at ns ≡ answers_to issue_e q = ap (map answer_at) n ∙ ap answers_in s ∙ table_right q ok in

@@ -1,5 +1,5 @@
 -- What private functions compute. No public claim names this file.
-use Rattle.std.specs.Prelude.{ℕ, ◌<◌, ◌+◌, ◌*◌, ◌/◌, ◌%◌, cond, List, [], ◌∷◌, ◌++◌, map, eqb, ltb, length, get_or, take, drop}
+use Rattle.std.specs.Prelude.{ℕ, ◌<◌, ◌+◌, ◌*◌, ◌%◌, cond, List, [], ◌∷◌, ◌++◌, map, eqb, ltb, length, get_or, take, drop}
 use Rattle.kinds.specs.Tests.{◌∈?◌}
 use Rattle.kinds.specs.Codes.{SnpUnique, SnpCleanInvalid, SnpMakeInvalid, SnpCleanFwd, SnpNotSharedDirtyFwd, SnpPreferUniqueFwd, tag_dirty, OK, DERR}
 use Rattle.answers.specs.declared.Question.{Question}
@@ -38,9 +38,13 @@ context_of q =
 abbrev pub list_at : ℕ → ℕ
 list_at context = get_or LISTS context 0
 
--- where the list of a question starts, times 64, plus how many answers it has
-unfoldable pub span_of : Question → ℕ
-span_of q = get_or SPANS (list_at (context_of q)) 0
+-- the span of no list
+abbrev pub no_span : ℕ × ℕ
+no_span = (0, 0)
+
+-- where the list of a question starts, and how many answers it has
+unfoldable pub span_of : Question → ℕ × ℕ
+span_of q = get_or SPANS (list_at (context_of q)) no_span
 
 -- what is added to the number of an answer with DERR on its forwarded data
 abbrev pub with_derr : ℕ
@@ -63,5 +67,5 @@ abbrev pub answers_at : ℕ → ℕ → List (List ℕ)
 answers_at start count = map answer_at (take count (drop start NUMBERS))
 
 -- the answers of a span
-unfoldable pub answers_in : ℕ → List (List ℕ)
-answers_in span = answers_at (span / 64) (span % 64)
+unfoldable pub answers_in : ℕ × ℕ → List (List ℕ)
+answers_in span = answers_at span.0 span.1

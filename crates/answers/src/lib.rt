@@ -95,13 +95,14 @@ fn context(q: Question) -> usize
     (snoop * 2 + dirty) * 7 + q.before.0 as usize
 }
 
-// The span of the list of a question, which is where it starts, times 64, plus its number of answers. The question is not refused.
-fn span(q: Question) -> u16
+// Where the list of a question that is not refused starts among the numbers, and how many answers it has.
+fn span(q: Question) -> (usize, usize)
     requires { fault_of issue_e q ≡ 0 }
     ensures { result ≡ span_of q }
 {
     let list = table::LISTS[context(q)];
-    table::SPANS[list as usize]
+    let (start, count) = table::SPANS[list as usize];
+    (start as usize, count as usize)
 }
 
 // The bytes of an answer of the table.
@@ -143,9 +144,7 @@ pub fn list_answers(question: Question, room: &mut [u8]) -> Result<usize, Refusa
     ensures { list_left (in_numbers result) room.new ≡ listed issue_e question room.old }
 {
     fault(question)?;
-    let span = span(question) as usize;
-    let start = span / table::SPAN;
-    let count = span % table::SPAN;
+    let (start, count) = span(question);
     if room.len() < count * ANSWER_BYTES {
         return Err(Refusal::Room);
     }

@@ -1,8 +1,5 @@
 // The lists of permitted answers as the code reads them. scripts/answer-lists writes this file from the printed rows.
 
-// What the start of a list is multiplied by in its span.
-pub const SPAN: usize = 64;
-
 // The list of each context: by tables, RetToSrc, DoNotGoToSD, Dirty tags and state before.
 pub static LISTS: [u8; 392] = [
     0, 1, 0, 2, 3, 4, 2, 5, 5, 5, 6, 5, 5, 6, 0, 1, 0, 7, 3, 4, 7, 5, 5, 5, 8, 5, 5, 8, 0, 1, 0, 2,
@@ -21,11 +18,47 @@ pub static LISTS: [u8; 392] = [
     0, 0, 0, 0, 0, 0, 0, 0, 5, 5, 5, 0, 5, 5, 0,
 ];
 
-// The span of each list: where it starts among the numbers, times 64, plus how many answers it has.
-pub static SPANS: [u16; 39] = [
-    2, 144, 1169, 2243, 2436, 2688, 2697, 3277, 4103, 4557, 5383, 5857, 7951, 8927, 10893, 11737,
-    13369, 16977, 18097, 21187, 21387, 22087, 22537, 23109, 23433, 24017, 25097, 25669, 26001,
-    27081, 27663, 28615, 29067, 29783, 31243, 31942, 32325, 32643, 32837,
+// Where each list starts among the numbers, and how many answers it has.
+pub static SPANS: [(u16, u8); 39] = [
+    (0, 2),
+    (2, 16),
+    (18, 17),
+    (35, 3),
+    (38, 4),
+    (42, 0),
+    (42, 9),
+    (51, 13),
+    (64, 7),
+    (71, 13),
+    (84, 7),
+    (91, 33),
+    (124, 15),
+    (139, 31),
+    (170, 13),
+    (183, 25),
+    (208, 57),
+    (265, 17),
+    (282, 49),
+    (331, 3),
+    (334, 11),
+    (345, 7),
+    (352, 9),
+    (361, 5),
+    (366, 9),
+    (375, 17),
+    (392, 9),
+    (401, 5),
+    (406, 17),
+    (423, 9),
+    (432, 15),
+    (447, 7),
+    (454, 11),
+    (465, 23),
+    (488, 11),
+    (499, 6),
+    (505, 5),
+    (510, 3),
+    (513, 5),
 ];
 
 // The numbers of the answers of each list, one list after another; 128 more with DERR on the forwarded data.

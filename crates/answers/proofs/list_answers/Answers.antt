@@ -1,7 +1,7 @@
 -- `answers::list_answers` meets its contract: refused with 4 or 5 at the `?`, with 9 at the `return`, accepted at the end.
 use mathlib.Core.Path.{◌≡◌, sym, ap}
 use native.Mathlib.Omega.{arith}
-use Prim.Native.Nat.{◌+◌, ◌-◌, ◌/◌, ◌%◌, ◌≤◌}
+use Prim.Native.Nat.{◌+◌, ◌-◌, ◌≤◌}
 use Rattle.std.proofs.Common.{rules, Err, ℕ, take, drop}
 use Rattle.answers.specs.declared.table.TheConstants.{NUMBERS}
 use Rattle.answers.proofs.Laws.{numbers_of_answers}
@@ -15,23 +15,35 @@ returns-in_err-fault c =
 
 pub returns-then-room-count : goal.returns-then-room-count
 returns-then-room-count c =
-    short_room c.args.question c.args.room.now c.span-span.result (sym c.in_ok-fault.ensures) c.span-span.ensures c.if-room-count.true
+    short_room c.args.question c.args.room.now c.span-start.result (sym c.in_ok-fault.ensures) c.span-start.ensures c.if-room-count.true
+
+pub overflow_mul-count : goal.overflow_mul-count
+overflow_mul-count c =
+    let h : c.span-start.result.0 + c.span-start.result.1 ≤ 518 =
+    fitting c.args.question c.args.room.now c.span-start.result (sym c.in_ok-fault.ensures) c.span-start.ensures in
+    omega (arith, h)
+
+pub overflow_add-start : goal.overflow_add-start
+overflow_add-start c =
+    let h : c.span-start.result.0 + c.span-start.result.1 ≤ 518 =
+    fitting c.args.question c.args.room.now c.span-start.result (sym c.in_ok-fault.ensures) c.span-start.ensures in
+    omega (arith, h)
 
 pub slice_bounds-put_answers-end : goal.slice_bounds-put_answers-end
 slice_bounds-put_answers-end c =
-    let h : c.span-span.result / 64 + c.span-span.result % 64 ≤ 518 =
-    fitting c.args.question c.args.room.now c.span-span.result (sym c.in_ok-fault.ensures) c.span-span.ensures in
+    let h : c.span-start.result.0 + c.span-start.result.1 ≤ 518 =
+    fitting c.args.question c.args.room.now c.span-start.result (sym c.in_ok-fault.ensures) c.span-start.ensures in
     search (rules, h)
 
 pub put_answers-requires-clause-in_table : goal.put_answers-requires-clause-in_table
 put_answers-requires-clause-in_table c =
-    let start = c.span-span.result / 64 in
-    numbers_of_answers start (start + c.span-span.result % 64 - start)
+    let start = c.span-start.result.0 in
+    numbers_of_answers start (start + c.span-start.result.1 - start)
 
 pub returns : goal.returns
 returns c =
-    let start = c.span-span.result / 64 in
-    let count = c.span-span.result % 64 in
+    let start = c.span-start.result.0 in
+    let count = c.span-start.result.1 in
     let many : start + count - start ≡ count = omega arith in
-    accepted_question c.args.question c.args.room.now c.span-span.result (sym c.in_ok-fault.ensures) c.span-span.ensures _ _ c.if-room-count.false
+    accepted_question c.args.question c.args.room.now c.span-start.result (sym c.in_ok-fault.ensures) c.span-start.ensures _ _ c.if-room-count.false
     (ap (λ (n : ℕ). take n (drop start NUMBERS)) many) c.put_answers.ensures
