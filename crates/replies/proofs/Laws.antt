@@ -19,7 +19,7 @@ use Rattle.replies.specs.Laid.{laid, lay, lay_all, concat}
 use Rattle.replies.specs.Replies.{room, space, decimal_text, Word, word_for, verdict_names, duty_names, verdict_text, duty_text}
 use Rattle.replies.specs.Replies.{states_text, header_line, answer_line, refused_line, state_text, states_texts, answer_texts, refusal_texts}
 use Rattle.replies.specs.Code.{explained_text}
-pub use Rattle.replies.proofs.Laying.{lay_fits, lay_short, lay_nothing, lay_lay, lay_all_lem, lay_all_append, length_in, length_lay, length_lay_all}
+pub use Rattle.replies.proofs.Laying.{lay_fits, lay_short, lay_nothing, lay_lay, lay_all_lem, lay_all_append, length_in, length_lay}
 pub use Rattle.replies.proofs.Decimal.{decimal_one, decimal_small, decimal_step, decimal_short}
 pub use Rattle.replies.proofs.States.{concat_states}
 

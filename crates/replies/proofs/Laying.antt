@@ -44,10 +44,6 @@ length_by false l s e = ap (λ (k : Laid). length k.out) (lay_short l s (leb-fal
 pub length_lay : (l : Laid) (s : List ℕ) → length (lay l s).out ≡ length l.out
 length_lay l s = length_by _ l s refl
 
-pub length_lay_all : (l : Laid) (ss : List (List ℕ)) → length (lay_all l ss).out ≡ length l.out
-length_lay_all l [] = refl
-length_lay_all l (s ∷ ss) = length_lay_all (lay l s) ss ∙ length_lay l s
-
 empty_in : (at : ℕ) (out : List ℕ) → laid (at + 0) (take at out ++ [] ++ drop (at + 0) out) ≡ laid at out
 empty_in at out =
     ap₂ laid (add-zero at)
@@ -114,6 +110,10 @@ behind_by false l s e = let same : (lay l s).at ≡ l.at = ap (λ (k : Laid). k.
 -- the offset moves by no more than the texts' length
 pub behind : {r : Laid} (l : Laid) (s : List ℕ) → r ≡ lay l s → r.at ≤ l.at + length s
 behind l s e = let same = ap (λ (k : Laid). k.at) e in omega (arith, same, behind_by _ l s refl)
+
+-- there is as much room behind a text as was left for
+pub room_left : {r : Laid} (l : Laid) (s : List ℕ) (count : ℕ) → r ≡ lay l s → l.at + length s + count ≤ length l.out → r.at + count ≤ length r.out
+room_left l s count e h = omega (arith, h, behind l s e, ap (λ (k : Laid). length k.out) e ∙ length_lay l s)
 
 -- What `lay` and `put` leave.
 

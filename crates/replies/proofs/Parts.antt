@@ -17,7 +17,7 @@ use Rattle.verdicts.specs.declared.Finding.{Finding}
 use Rattle.text.specs.Text.{bytes, comma, eol}
 use Rattle.replies.specs.Laid.{Laid, lay, lay_all, concat}
 use Rattle.replies.specs.Replies.{decimal_text}
-use Rattle.replies.specs.Replies.{state_text, states_texts, header_line, answer_texts, refusal_texts}
+use Rattle.replies.specs.Replies.{state_text, states_texts, answer_texts, refusal_texts}
 use Rattle.replies.specs.Code.{two_digits, verdict_part, duty_part, explained_text, last_texts, judged_texts}
 use Rattle.replies.proofs.Laying.{lay_lay, lay_one, lay_all_append}
 use Rattle.replies.proofs.Decimal.{most, decimal_hundreds, decimal_short}
@@ -77,11 +77,6 @@ pub refused : {r₀ r₁ r₂ r₃ r₄ : Laid} (l : Laid) (number line : ℕ) �
     → r₃ ≡ lay r₂ (decimal_text line) → r₄ ≡ lay r₃ eol → r₄ ≡ lay_all l (refusal_texts number line)
 unfolding refusal_texts
 refused l number line e₀ e₁ e₂ e₃ e₄ = then _ e₄ (then _ e₃ (then _ e₂ (then _ e₁ e₀)))
-
--- the header
-pub headed : {r : Laid} (l : Laid) → r ≡ lay l (bytes "event,verdict,duty,states" ++ eol) → r ≡ lay l header_line
-unfolding header_line
-headed l e = e
 
 -- the text of a state with its name
 abbrev pub item_text : ℕ → LineState × Bor (List ℕ) → List ℕ

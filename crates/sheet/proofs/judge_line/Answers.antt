@@ -7,7 +7,7 @@ use native.Mathlib.Omega.{arith}
 use Rattle.sheet.specs.Sheet.{header}
 use Rattle.sheet.proofs.Good.{line_no_fault}
 use Rattle.sheet.proofs.Laws.{header_good, header_bad, line_too_many, line_too_long, line_read, refused_told, goes_by}
-use Rattle.sheet.proofs.judge_line.Goals.{then-lines-gt-MOST_LINES-via-then-lines-gt-MOST_LINES, then-lines-gt-MOST_LINES-via-else-lines-gt-MOST_LINES+then-line-gt-LONGEST}
+use Rattle.std.proofs.Common.{inl, inr}
 use Rattle.sheet.proofs.judge_line.Goals as goal
 
 pub returns-then-eq : goal.returns-then-eq
@@ -26,10 +26,9 @@ returns-else-eq c = record {
 pub returns-then-lines-gt-MOST_LINES : goal.returns-then-lines-gt-MOST_LINES
 returns-then-lines-gt-MOST_LINES c = record {
   told_so =
-      elim c.then-lines-gt-MOST_LINES.branch [
-        | then-lines-gt-MOST_LINES-via-then-lines-gt-MOST_LINES w ↦ line_too_many c.args.lines c.args.line.now c.args.table.now c.if-lines-eq0.false w.if-lines-gt-MOST_LINES.true
-        | then-lines-gt-MOST_LINES-via-else-lines-gt-MOST_LINES+then-line-gt-LONGEST w ↦
-            line_too_long c.args.lines c.args.line.now c.args.table.now c.if-lines-eq0.false w.if-lines-gt-MOST_LINES.false w.if-line-gt-LONGEST.true
+      elim c.then-lines-gt-MOST_LINES.either [
+        inl many ↦ line_too_many c.args.lines c.args.line.now c.args.table.now c.if-lines-eq0.false many
+      | inr long ↦ line_too_long c.args.lines c.args.line.now c.args.table.now c.if-lines-eq0.false long.0 long.1
       ];
   out_so = refl;
   table_so = refl;
