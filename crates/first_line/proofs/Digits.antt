@@ -1,5 +1,6 @@
 -- Laws about a pair number that is read in place, digit by digit, and about a flag.
 -- Assumes nothing.
+use Rattle.std.proofs.Common.{Some}
 use mathlib.Core.Path.{◌≡◌, refl, sym, ◌∙◌, ap, ap₂, subst}
 use mathlib.Core.Bool.{Bool, true, false, not, cond, ◌&&◌, ◌||◌, false≢true}
 use mathlib.Core.List.{List, [], ◌∷◌, ◌++◌}
@@ -15,12 +16,11 @@ use Rattle.kinds.specs.Tests.{all}
 use Rattle.kinds.proofs.Lists.{and_left, and_right, and_both, neither, all_append}
 use Rattle.text.specs.Text.{comma, CR}
 use Rattle.names.specs.Names.{code_of, flag_names, unknown, most_digits, is_digit, read_decimal, pair_of}
-use Rattle.names.proofs.Laws.{digit_high, pair_digits}
+use Rattle.names.proofs.Laws.{pair_digits}
 use Rattle.parser.specs.declared.Taken.{Taken}
 use Rattle.first_line.specs.declared.in_place.Digits.{Digits}
 use Rattle.parser.specs.Parsed.{known}
-use Rattle.first_line.specs.InPlace.{word_length, Passed, taken_as, plain, Takes, DigitsAt}
-use Rattle.first_line.proofs.Matching.{took_name}
+use Rattle.first_line.specs.InPlace.{word_length, Passed, plain, Takes, DigitsAt}
 
 -- the number of some digits and one more
 read_snoc : (v : ℕ) (s : List ℕ) (d : ℕ) → read_decimal v (s ++ (d ∷ [])) ≡ read_decimal v s * 10 + (d - 48)
@@ -40,7 +40,7 @@ one_more : (p v d : ℕ) → v < p → d ≤ 57 → v * 10 + (d - 48) < p * 10
 one_more p v d h k = omega arith
 
 pub reading_next : {text : List ℕ} {at value count : ℕ} → Reading text at value count → count < most_digits → at + word_length ≤ length text
-    → not (is_digit (get_or text (at + count) 0)) ≡ false → Reading text at (value * 10 + (get_or text (at + count) 0 - 48)) (count + 1)
+    → is_digit (get_or text (at + count) 0) ≡ true → Reading text at (value * 10 + (get_or text (at + count) 0 - 48)) (count + 1)
 reading_next {text} {at} {value} {count} r h room t =
     let d : ℕ = get_or text (at + count) 0 in
     let s : List ℕ = drop at text in
@@ -49,8 +49,8 @@ reading_next {text} {at} {value} {count} r h room t =
     ∙ ap (λ (x : ℕ). take count s ++ (x ∷ [])) (get_or-drop at text count 0) in
     record {
       few = omega arith;
-      small = rw (add-one, pow-suc) (one_more (10 ^ count) value d r.small (digit_high d t));
-      digits_so = ap (all is_digit) more ∙ all_append is_digit (take count s) (d ∷ []) ∙ and_both r.digits_so (and_both (not-false (is_digit d) t) refl);
+      small = rw (add-one, pow-suc) (one_more (10 ^ count) value d r.small (leb-true d 57 (and_right (leb 48 d) (leb d 57) t)));
+      digits_so = ap (all is_digit) more ∙ all_append is_digit (take count s) (d ∷ []) ∙ and_both r.digits_so (and_both t refl);
       value_so = ap (λ (v : ℕ). v * 10 + (d - 48)) r.value_so ∙ sym (ap (read_decimal 0) more ∙ read_snoc 0 (take count s) d);
     }
 
@@ -86,7 +86,7 @@ pair_known count value few small =
 pub pair_met : (text : List ℕ) (at : ℕ) (found : Digits) → DigitsAt text at found → at + word_length ≤ length text
     → eqb found.count 0 || not (eqb (get_or text (at + found.count) 0) comma) ≡ false
     → eqb (get_or text at 0) 48 && ltb 1 found.count ≡ false
-    → Takes pair_of (comma ∷ []) text at (record { code = found.value; next = at + found.count + 1 })
+    → Takes [] pair_of (comma ∷ []) text at (Some (record { code = found.value; next = at + found.count + 1 }))
 pair_met text at found d room h z =
     let count : ℕ = found.count in
     let s : List ℕ = drop at text in
@@ -99,43 +99,16 @@ pair_met text at found d room h z =
     let long : length s ≡ length text - at = length-drop at text in
     let front : length field ≡ count = length-take-le count s (omega arith) in
     let start : get_or field 0 0 ≡ get_or text at 0 = get_or-take count s 0 0 pos ∙ get_or-drop at text 0 0 ∙ ap (λ (i : ℕ). get_or text i 0) (add-zero at) in
-    took_name field refl (front_then text at count (omega arith) ends) (digits_plain field d.digits_so)
-    (sym (pair_digits field
-    (ap not (and_both (lt-ltb 0 (length field) (omega arith)) (le-leb (length field) most_digits (omega arith))))
-    (ap₂ (λ (x n : ℕ). eqb x 48 && ltb 1 n) start front ∙ z)
-    (d.value_so ∙ ap (λ (b : Bool). cond b (read_decimal 0 field) unknown) (sym d.digits_so))))
-    (pair_known count found.value d.few d.small)
-
--- a flag's digit is its code, which is known
-record FlagDigit (d : ℕ) : Type 0 where
-  code : code_of flag_names (d ∷ []) ≡ d - 48
-  digit : is_digit d ≡ true
-  knows : known (d - 48) ≡ true
-
-flag_digit : (d : ℕ) → eqb d 48 || eqb d 49 ≡ true → FlagDigit d
-unfolding code_of flag_names
-flag_digit d h = go (eqb d 48) refl (eqb d 49) refl h
-  where
-    go : (a : Bool) → eqb d 48 ≡ a → (b : Bool) → eqb d 49 ≡ b → a || b ≡ true → FlagDigit d
-    go true e b f h = subst FlagDigit (sym (eqb-true d 48 e)) (record { code = refl; digit = refl; knows = refl })
-    go false e true f h = subst FlagDigit (sym (eqb-true d 49 f)) (record { code = refl; digit = refl; knows = refl })
-    go false e false f h = absurd (false≢true h)
-
-pub flag_low : (d : ℕ) (b : Bool) → (eqb d 48 || eqb d 49) && b ≡ true → 48 ≤ d
-flag_low d b h = leb-true 48 d (and_left (leb 48 d) (leb d 57) (flag_digit d (and_left (eqb d 48 || eqb d 49) b h)).digit)
-
--- the field of a flag: its digit, then a comma
-pub flag_met : {r : Taken} (text : List ℕ) (at : ℕ) → at + word_length ≤ length text
-    → (eqb (get_or text at 0) 48 || eqb (get_or text at 0) 49) && eqb (get_or text (at + 1) 0) comma ≡ true
-    → r ≡ taken_as (get_or text at 0 - 48) (at + 2) → Takes (code_of flag_names) (comma ∷ []) text at r
-flag_met {r} text at room h e =
-    let d : ℕ = get_or text at 0 in
-    let s : List ℕ = drop at text in
-    let ends : get_or text (at + 1) 0 ≡ comma = eqb-true (get_or text (at + 1) 0) comma (and_right (eqb d 48 || eqb d 49) (eqb (get_or text (at + 1) 0) comma) h) in
-    let flag : FlagDigit d = flag_digit d (and_left (eqb d 48 || eqb d 49) (eqb (get_or text (at + 1) 0) comma) h) in
-    let one : take 1 s ≡ d ∷ [] =
-    take-suc s 0 0 (subst (λ (n : ℕ). 0 < n) (sym (length-drop at text)) (omega arith))
-    ∙ ap (λ (x : ℕ). x ∷ []) (get_or-drop at text 0 0 ∙ ap (λ (i : ℕ). get_or text i 0) (add-zero at)) in
-    took_name (d ∷ []) e
-    (subst (λ (f : List ℕ). Passed (f ++ (comma ∷ [])) text at (at + 2)) one (subst (Passed (take 1 s ++ (comma ∷ [])) text at) (omega arith) (front_then text at 1 (omega arith) ends)))
-    (and_both (digit_plain d flag.digit) refl) flag.code flag.knows
+    record {
+      met = record {
+        rest = field;
+        stands = front_then text at count (omega arith) ends;
+        plainly = digits_plain field d.digits_so;
+        code_so =
+            sym (pair_digits field
+            (ap not (and_both (lt-ltb 0 (length field) (omega arith)) (le-leb (length field) most_digits (omega arith))))
+            (ap₂ (λ (x n : ℕ). eqb x 48 && ltb 1 n) start front ∙ z)
+            (d.value_so ∙ ap (λ (b : Bool). cond b (read_decimal 0 field) unknown) (sym d.digits_so)));
+        known_so = pair_known count found.value d.few d.small;
+      };
+    }

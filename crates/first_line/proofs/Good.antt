@@ -1,5 +1,6 @@
 -- A line whose fields are all met in place: it is the first line of the text, and the general way reads the same codes.
 -- Assumes nothing.
+use Rattle.std.proofs.Common.{Some}
 use mathlib.Core.Path.{◌≡◌, refl, sym, ◌∙◌, ap, ap₂, subst}
 use mathlib.Core.Bool.{Bool, true, false, cond, not, ◌&&◌, ◌||◌, false≢true}
 use mathlib.Core.List.{List, [], ◌∷◌, ◌++◌, append_assoc}
@@ -26,64 +27,29 @@ use Rattle.parser.specs.Parsed.{Parsed, codes_of, known, dashes_agree, well_form
 use Rattle.parser.specs.Code.{gathered_of, line_of}
 use Rattle.parser.proofs.Events.{line_well}
 use Rattle.first_line.specs.First.{First, line_to, first_line}
-use Rattle.first_line.specs.InPlace.{plain, Met, Takes, took, left, MetAll, last, more, no_cr, Leads}
-use Rattle.first_line.proofs.Matching.{passed_within}
+use Rattle.first_line.specs.InPlace.{plain, Met, Takes, MetAll, last, more, no_cr, Leads}
 
--- a field that is known is met
-known_met : {column : List ℕ → ℕ} {mark text : List ℕ} {at : ℕ} {f : Taken} → Takes column mark text at f → known f.code ≡ true → Met column mark text at f
-known_met (took m) k = m
-known_met (left e) k = absurd (false≢true (sym (ap (λ (x : Taken). known x.code) e) ∙ k))
+-- a field that is met stands first, with the others behind it, and the last one with CR LF
+pub met_more : {column : List ℕ → ℕ} {others : List (List ℕ → ℕ)} {text after : List ℕ} {at next : ℕ} {r : Taken} {codes : List ℕ} {end : ℕ}
+    → Takes [] column (comma ∷ []) text at (Some r) → after ≡ text → next ≡ r.next → MetAll others after next codes end
+    → MetAll (column ∷ others) text at (r.code ∷ codes) end
+met_more {others = others} {text} {next = next} {codes = codes} {end} t e f m =
+    more t.met (subst (λ (n : ℕ). MetAll others text n codes end) f (subst (λ (s : List ℕ). MetAll others s next codes end) e m))
 
--- so is one with a field that is met behind it
-before_met : {column other : List ℕ → ℕ} {mark text : List ℕ} {x : ℕ} {at : ℕ} {f g : Taken} → Takes column (comma ∷ []) text at f
-    → Met other (x ∷ mark) text f.next g → Met column (comma ∷ []) text at f
-before_met (took m) n = m
-before_met {mark = mark} {x = x} {f = f} (left e) n =
-    absurd (omega (arith, passed_within (omega (arith, length-append n.field (x ∷ mark))) n.stands, ap (λ (t : Taken). t.next) e))
-
--- twelve fields, each taken behind the one before, are all met if the last one is known
-pub all_met : (text : List ℕ) {f₀ f₁ f₂ f₃ f₄ f₅ f₆ f₇ f₈ f₉ f₁₀ f₁₁ : Taken} {r : Codes}
-    → Takes pair_of (comma ∷ []) text 0 f₀
-    → Takes (code_of request_names) (comma ∷ []) text f₀.next f₁
-    → Takes (code_of flag_names) (comma ∷ []) text f₁.next f₂
-    → Takes (code_of flag_names) (comma ∷ []) text f₂.next f₃
-    → Takes (code_of flag_names) (comma ∷ []) text f₃.next f₄
-    → Takes (code_of tag_names) (comma ∷ []) text f₄.next f₅
-    → Takes (code_of response_names) (comma ∷ []) text f₅.next f₆
-    → Takes (code_of tag_op_names) (comma ∷ []) text f₆.next f₇
-    → Takes (code_of resp_err_names) (comma ∷ []) text f₇.next f₈
-    → Takes (code_of forward_names) (comma ∷ []) text f₈.next f₉
-    → Takes (code_of final_names) (comma ∷ []) text f₉.next f₁₀
-    → Takes (code_of fwd_err_names) eol text f₁₀.next f₁₁
-    → r ≡ gathered_of f₀ f₁ f₂ f₃ f₄ f₅ f₆ f₇ f₈ f₉ f₁₀ f₁₁
-    → known (fwd_err_code r.codes) ≡ true → MetAll columns text 0 r.codes r.end
-unfolding columns
-all_met text {f₀} {f₁} {f₂} {f₃} {f₄} {f₅} {f₆} {f₇} {f₈} {f₉} {f₁₀} {f₁₁} {r} t₀ t₁ t₂ t₃ t₄ t₅ t₆ t₇ t₈ t₉ t₁₀ t₁₁ e k =
-    let m₁₁ = known_met t₁₁ (subst (λ (c : Codes). known (fwd_err_code c.codes) ≡ true) e k) in
-    let m₁₀ = before_met t₁₀ m₁₁ in
-    let m₉ = before_met t₉ m₁₀ in
-    let m₈ = before_met t₈ m₉ in
-    let m₇ = before_met t₇ m₈ in
-    let m₆ = before_met t₆ m₇ in
-    let m₅ = before_met t₅ m₆ in
-    let m₄ = before_met t₄ m₅ in
-    let m₃ = before_met t₃ m₄ in
-    let m₂ = before_met t₂ m₃ in
-    let m₁ = before_met t₁ m₂ in
-    let m₀ = before_met t₀ m₁ in
-    subst (λ (c : Codes). MetAll columns text 0 c.codes c.end) (sym e)
-    (more m₀ (more m₁ (more m₂ (more m₃ (more m₄ (more m₅ (more m₆ (more m₇ (more m₈ (more m₉ (more m₁₀ (last m₁₁))))))))))))
+pub met_last : {column : List ℕ → ℕ} {text : List ℕ} {at : ℕ} {r : Taken} → Takes [] column eol text at (Some r)
+    → MetAll (column ∷ []) text at (r.code ∷ []) r.next
+met_last t = last t.met
 
 -- THE LINE OF SUCH FIELDS
 
 -- a field that is met stands in the text, with its mark behind it
-parted : {column : List ℕ → ℕ} {mark text : List ℕ} {at : ℕ} {r : Taken} (m : Met column mark text at r)
-    → drop at text ≡ m.field ++ (mark ++ drop r.next text)
+parted : {column : List ℕ → ℕ} {mark text : List ℕ} {at : ℕ} {r : Taken} (m : Met [] column mark text at r)
+    → drop at text ≡ m.rest ++ (mark ++ drop r.next text)
 parted {column} {mark} {text} {at} {r} m =
-    let n : ℕ = length (m.field ++ mark) in
+    let n : ℕ = length (m.rest ++ mark) in
     sym (take-append-drop n (drop at text))
     ∙ ap₂ ◌++◌ m.stands.here (drop-drop n at text ∙ ap (λ (k : ℕ). drop k text) (sym m.stands.next_so))
-    ∙ append_assoc m.field mark (drop r.next text)
+    ∙ append_assoc m.rest mark (drop r.next text)
 
 plain_comma : (b : ℕ) → plain b ≡ true → eqb b comma ≡ false
 plain_comma b h = not-true (eqb b comma) (and_left (not (eqb b comma)) (not (eqb b CR)) h)
@@ -118,27 +84,27 @@ pub record LineMet (cs : List (List ℕ → ℕ)) (text : List ℕ) (at : ℕ) (
 
 pub line_met : {cs : List (List ℕ → ℕ)} {text : List ℕ} {at : ℕ} {codes : List ℕ} {end : ℕ} → MetAll cs text at codes end → LineMet cs text at codes end
 line_met (last {column} {text} {at} {r} m) = record {
-  line = m.field;
+  line = m.rest;
   starts_so = parted m;
-  codes_so = ap (codes_of (column ∷ [])) (one_field m.field m.plainly) ∙ ap (λ (c : ℕ). c ∷ []) m.code_so;
-  many = ap length (one_field m.field m.plainly);
+  codes_so = ap (codes_of (column ∷ [])) (one_field m.rest m.plainly) ∙ ap (λ (c : ℕ). c ∷ []) m.code_so;
+  many = ap length (one_field m.rest m.plainly);
   all_known = and_both m.known_so refl;
-  no_cr = plain_cr m.field m.plainly;
-  end_so = let n : length (m.field ++ eol) ≡ length m.field + 2 = length-append m.field eol in omega (arith, m.stands.next_so);
+  no_cr = plain_cr m.rest m.plainly;
+  end_so = let n : length (m.rest ++ eol) ≡ length m.rest + 2 = length-append m.rest eol in omega (arith, m.stands.next_so);
 }
 line_met (more {column} {others} {text} {at} {r} {codes} {end} m rest) = behind_it (line_met rest)
   where
     behind_it : LineMet others text r.next codes end → LineMet (column ∷ others) text at (r.code ∷ codes) end
     behind_it l = record {
-      line = m.field ++ (comma ∷ l.line);
-      starts_so = parted m ∙ ap (λ (s : List ℕ). m.field ++ (comma ∷ s)) l.starts_so ∙ sym (append_assoc m.field (comma ∷ l.line) (eol ++ drop end text));
-      codes_so = ap (codes_of (column ∷ others)) (field_then m.field l.line m.plainly) ∙ ap₂ ◌∷◌ m.code_so l.codes_so;
-      many = ap length (field_then m.field l.line m.plainly) ∙ ap suc l.many;
+      line = m.rest ++ (comma ∷ l.line);
+      starts_so = parted m ∙ ap (λ (s : List ℕ). m.rest ++ (comma ∷ s)) l.starts_so ∙ sym (append_assoc m.rest (comma ∷ l.line) (eol ++ drop end text));
+      codes_so = ap (codes_of (column ∷ others)) (field_then m.rest l.line m.plainly) ∙ ap₂ ◌∷◌ m.code_so l.codes_so;
+      many = ap length (field_then m.rest l.line m.plainly) ∙ ap suc l.many;
       all_known = and_both m.known_so l.all_known;
-      no_cr = all_append no_cr m.field (comma ∷ l.line) ∙ and_both (plain_cr m.field m.plainly) l.no_cr;
+      no_cr = all_append no_cr m.rest (comma ∷ l.line) ∙ and_both (plain_cr m.rest m.plainly) l.no_cr;
       end_so =
-          let n : length (m.field ++ (comma ∷ l.line)) ≡ length m.field + suc (length l.line) = length-append m.field (comma ∷ l.line) in
-          let k : length (m.field ++ (comma ∷ [])) ≡ length m.field + 1 = length-append m.field (comma ∷ []) in
+          let n : length (m.rest ++ (comma ∷ l.line)) ≡ length m.rest + suc (length l.line) = length-append m.rest (comma ∷ l.line) in
+          let k : length (m.rest ++ (comma ∷ [])) ≡ length m.rest + 1 = length-append m.rest (comma ∷ []) in
           omega (arith, m.stands.next_so, l.end_so);
     }
 
@@ -184,19 +150,15 @@ first_good text n r ended few l =
     ends : crlf (drop (reach too_long text) text) ≡ true
     ends = ap crlf (ap₂ drop reaches whole_text ∙ drop_at l.line (eol ++ behind) (length l.line) refl)
 
--- the test of `good_line`: the last code is known
-pub last_known : {code : ℕ} → (code ≡ unknown → ⊥) → known code ≡ true
-last_known {code} h = ap not (ne_eqb code unknown h)
-
 -- what `good_line` sees: the last code is known, and the dashes agree
-pub good_leads : {text : List ℕ} (t : Codes) {d : Bool} {line : Parsed} → MetAll columns text 0 t.codes t.end → d ≡ dashes_agree t.codes → not d ≡ false
+pub good_leads : {text : List ℕ} (t : Codes) {line : Parsed} → MetAll columns text 0 t.codes t.end → dashes_agree t.codes ≡ true
     → line ≡ line_of t.codes → Leads text (record { line = line; end = t.end - 2; whole = true })
 unfolding well_formed columns
-good_leads {text} t {d} {line} m f g e =
+good_leads {text} t {line} m f e =
     let l = line_met m in
     let well : well_formed l.line ≡ true =
     ap₂ (λ (n : ℕ) (cs : List ℕ). eqb n (length columns) && all known cs && dashes_agree cs) l.many l.codes_so
-    ∙ ap₂ (λ (a b : Bool). eqb (length columns) (length columns) && a && b) l.all_known (sym f ∙ not-false d g) in
+    ∙ ap₂ (λ (a b : Bool). eqb (length columns) (length columns) && a && b) l.all_known f in
     let end : t.end - 2 ≡ length l.line = omega (arith, l.end_so) in
     record {
       line = l.line;

@@ -1,45 +1,44 @@
 -- Laws about bytes matched in place, and the fields that are made of them.
 -- Assumes nothing.
+use Rattle.std.proofs.Common.{Option, None, Some, MatchOption, IfSome}
 use mathlib.Core.Path.{◌≡◌, refl, sym, ◌∙◌, ap, ap₂, subst}
-use mathlib.Core.Bool.{Bool, true, false, not}
+use mathlib.Core.Bool.{Bool, true, false, not, ◌&&◌}
 use mathlib.Core.List.{List, [], ◌∷◌, ◌++◌, append_assoc}
 use Prim.Native.Nat.{ℕ, zero, suc, ◌+◌, ◌-◌, ◌*◌, ◌/◌, ◌%◌, ◌^◌, ◌≤◌, ◌<◌}
-use native.Mathlib.Nat.{pow-suc, pow-le-pow_right, mod-eq_of_lt}
+use native.Mathlib.Nat.{pow-suc, pow-le-pow_right, mod-eq_of_lt, one-mul, mul-suc}
+use lib.Pow.{pow-add, pow-lt}
 use native.Mathlib.Omega.{arith}
-use borrow.Author.Tests.{not-false, leb-true, le-leb}
+use borrow.Author.Tests.{not-false, leb-true, le-leb, eqb-true}
 use mir.Syntax.{w8}
 use mir.Val.{Fits}
 use lib.Arith.{mod-mul}
-use lib.Dec.{leb}
+use lib.Dec.{eqb, leb}
 use lib.ListN.{length, get_or, take, drop, length-append, length-take, length-drop}
 use lib.Seq.{drop-cons, drop-drop, take-add}
-use Rattle.kinds.specs.Tests.{all}
-use Rattle.kinds.proofs.Lists.{and_both, all_append, same_truth}
+use Rattle.kinds.specs.Tests.{all, same}
+use Rattle.kinds.proofs.Lists.{and_left, and_right, and_both, all_append, same_truth, same_equal}
 use Rattle.words.specs.Words.{word, word_of}
 use Rattle.words.proofs.Laws.{bytes_from, word_of_lem, word_last}
 use Rattle.parser.specs.declared.Taken.{Taken}
 use Rattle.parser.specs.Parsed.{known}
-use Rattle.first_line.specs.InPlace.{word_length, Passed, taken_as, Ends, ended, passed_by, plain, rest_of, Takes, took, left}
+use Rattle.first_line.specs.InPlace.{word_length, Passed, Behind, Ended, Ends, plain, Met, Takes}
 
 -- BYTES AND NUMBERS
 
--- the test of `at_hand`
-pub hand_test : (len at : ℕ) → word_length ≤ len → leb at (len - word_length) ≡ leb (at + word_length) len
-hand_test len at h = same_truth (leb at (len - word_length)) (leb (at + word_length) len)
-    (λ t. le-leb (at + word_length) len (omega (arith, leb-true at (len - word_length) t)))
-    (λ t. le-leb at (len - word_length) (omega (arith, leb-true (at + word_length) len t)))
-
 -- enough bytes are at hand
-pub roomy : {b : Bool} (at len : ℕ) → b ≡ leb (at + word_length) len → not b ≡ false → at + word_length ≤ len
-roomy {b} at len e h = leb-true (at + word_length) len (sym e ∙ not-false b h)
+pub roomy : (at len : ℕ) → true ≡ leb (at + word_length) len → at + word_length ≤ len
+roomy at len e = leb-true (at + word_length) len (sym e)
 
--- no bytes are the number 0
-pub no_bytes : (w n : ℕ) → n ≡ 0 → 0 ≡ w % 256 ^ n
-no_bytes w n e = rw e (omega arith)
+-- a number modulo a power of 256, by its bits
+pub shifted : (w n : ℕ) → n < 8 → w % (1 * 2 ^ (8 * n) % 2 ^ 64) ≡ w % 256 ^ n
+shifted w n h = ap (λ (m : ℕ). w % m) (rw one-mul (mod-eq_of_lt small) ∙ bits n)
+  where
+    bits : (k : ℕ) → 2 ^ (8 * k) ≡ 256 ^ k
+    bits zero = refl
+    bits (suc k) = ap (λ (m : ℕ). 2 ^ m) (mul-suc 8 k) ∙ pow-add 2 (8 * k) 8 ∙ ap (λ (m : ℕ). m * 256) (bits k) ∙ sym (pow-suc 256 k)
 
--- a number that is at least k, and not k, is above it
-pub not_yet : (k : ℕ) {n : ℕ} → k ≤ n → (n ≡ k → ⊥) → suc k ≤ n
-not_yet k h e = omega (arith, e)
+    small : 2 ^ (8 * n) < 2 ^ 64
+    small = pow-lt {j = 64} (omega arith)
 
 -- a word has no more than eight bytes
 pub whole_word : (w n : ℕ) → w < 2 ^ 64 → 8 ≤ n → w ≡ w % 256 ^ n
@@ -72,14 +71,16 @@ same_bytes b bytes (x ∷ p) small at (suc n) l e k =
         (omega arith, omega arith)
 
 -- the test of `behind`
-pub matched : (text name : List ℕ) {at n next w v f : ℕ} → ((i : ℕ) → Fits w8 (get_or text i 0)) → ((i : ℕ) → Fits w8 (get_or name i 0))
-    → n ≡ length name → n ≤ word_length → at + word_length ≤ length text → w ≡ word text at → f ≡ w % 256 ^ n → v ≡ word name 0 → f ≡ v → next ≡ at + n
-    → Passed name text at next
-matched text name {at} {n} {next} {w} {v} {f} bytes small e k room h g m t s = record {
-  here = same_bytes text (λ i. (bytes i).fits) name (λ i. (small i).fits) at 8 (omega arith)
-      (ap₂ (λ (x y : ℕ). x % 256 ^ y) (sym (word_of_lem text at)) (sym e) ∙ ap (λ (x : ℕ). x % 256 ^ n) (sym h) ∙ sym g ∙ t ∙ m ∙ sym (word_last name 0 (omega arith)))
-      (omega arith);
-  next_so = s ∙ ap (λ (x : ℕ). at + x) e;
+pub matched : (text name : List ℕ) {at w v f : ℕ} → ((i : ℕ) → Fits w8 (get_or text i 0)) → ((i : ℕ) → Fits w8 (get_or name i 0))
+    → length name ≤ word_length → at + word_length ≤ length text → w ≡ word text at → f ≡ w % 256 ^ length name → v ≡ word name 0 → f ≡ v
+    → Behind name text at (Some (at + length name))
+matched text name {at} {w} {v} {f} bytes small k room h g m t = record {
+  passed = record {
+    here = same_bytes text (λ i. (bytes i).fits) name (λ i. (small i).fits) at 8 k
+        (ap (λ (x : ℕ). x % 256 ^ length name) (sym (word_of_lem text at) ∙ sym h) ∙ sym g ∙ t ∙ m ∙ sym (word_last name 0 (omega arith)))
+        (omega arith);
+    next_so = refl;
+  };
 }
 
 -- a second part stands right behind a first
@@ -92,38 +93,69 @@ passed_both {p} {q} {text} {at} {next} {end} a b = record {
   next_so = let n : length (p ++ q) ≡ length p + length q = length-append p q in omega (arith, a.next_so, b.next_so);
 }
 
--- what stands in the text ends in it
-pub passed_within : {p text : List ℕ} {at next : ℕ} → 0 < length p → Passed p text at next → at < length text
-passed_within {p} {text} {at} {next} pos a =
-    omega (arith, ap length a.here, length-take (length p) (drop at text), length-drop at text)
-
 -- A FIELD
 
--- one whose name stands there with its mark
-pub took_name : {column : List ℕ → ℕ} {mark text : List ℕ} {at code next : ℕ} {r : Taken} (field : List ℕ) → r ≡ taken_as code next
-    → Passed (field ++ mark) text at next → all plain field ≡ true → column field ≡ code → known code ≡ true → Takes column mark text at r
-took_name {column} {mark} {text} {at} {code} {next} {r} field e p l c k = took (record {
-  field = field;
-  stands = subst (Passed (field ++ mark) text at) (sym (ap (λ (x : Taken). x.next) e)) p;
-  plainly = l;
-  code_so = c ∙ sym (ap (λ (x : Taken). x.code) e);
-  known_so = ap (λ (x : Taken). known x.code) e ∙ k;
-})
+-- behind a front, a column knows the rest of a field by this code; the mark stands behind it, and no comma or CR is in it
+abbrev pub names : List ℕ → (List ℕ → ℕ) → List ℕ → List ℕ → ℕ → Bool
+names front column mark name code =
+    let rest : List ℕ = take (length name - length mark) name in
+    same (rest ++ mark) name && (all plain rest && (eqb (column (front ++ rest)) code && known code))
 
 -- one whose name ends there
-pub took_end : {column : List ℕ → ℕ} {mark text : List ℕ} {at code : ℕ} {r : Taken} (field : List ℕ) → Ends (field ++ mark) code text at r
-    → all plain field ≡ true → column field ≡ code → known code ≡ true → Takes column mark text at r
-took_end field (ended p e) l c k = took_name field e p l c k
-took_end field (passed_by e) l c k = left e
+pub took_end : {front mark text name : List ℕ} {column : List ℕ → ℕ} {at code : ℕ} {r : Option Taken} → Ends name code text at r
+    → names front column mark name code ≡ true → Takes front column mark text at r
+took_end {r = None} e h = record { met = tt }
+took_end {front} {mark} {text} {name} {column} {at} {code} {r = Some t} e h =
+    let rest : List ℕ = take (length name - length mark) name in
+    let known_so : Bool = eqb (column (front ++ rest)) code && known code in
+    let h₁ = and_right (same (rest ++ mark) name) (all plain rest && known_so) h in
+    let h₂ = and_right (all plain rest) known_so h₁ in
+    record {
+      met = record {
+        rest = rest;
+        stands =
+            subst (λ (s : List ℕ). Passed s text at t.next)
+            (sym (same_equal (rest ++ mark) name (and_left (same (rest ++ mark) name) (all plain rest && known_so) h))) e.ended.stands;
+        plainly = and_left (all plain rest) known_so h₁;
+        code_so = eqb-true (column (front ++ rest)) code (and_left (eqb (column (front ++ rest)) code) (known code) h₂) ∙ sym e.ended.code_so;
+        known_so = ap known e.ended.code_so ∙ and_right (eqb (column (front ++ rest)) code) (known code) h₂;
+      };
+    }
 
--- one whose name begins there
-pub took_rest : {column : List ℕ → ℕ} {mark text : List ℕ} {at next : ℕ} {r : Taken} (front : List ℕ) → Takes (rest_of front column) mark text next r
-    → Passed front text at next → all plain front ≡ true → Takes column mark text at r
-took_rest {column} {mark} {text} {at} {next} {r} front (took m) p l = took (record {
-  field = front ++ m.field;
-  stands = subst (λ (s : List ℕ). Passed s text at r.next) (sym (append_assoc front m.field mark)) (passed_both p m.stands);
-  plainly = all_append plain front m.field ∙ and_both l m.plainly;
-  code_so = m.code_so;
-  known_so = m.known_so;
-})
-took_rest front (left e) p l = left e
+-- a part of a field stands there, and the rest of the field is taken behind it
+pub took_rest : {front part further mark text : List ℕ} {column : List ℕ → ℕ} {at next : ℕ} {b : Option ℕ} {r : Option Taken} → Behind part text at b → b ≡ Some next
+    → Takes further column mark text next r → same (front ++ part) further && all plain part ≡ true → Takes front column mark text at r
+took_rest {r = None} p e m h = record { met = tt }
+took_rest {front} {part} {further} {mark} {text} {column} {at} {next} {b} {r = Some t} p e m h = record {
+  met = record {
+    rest = part ++ m.met.rest;
+    stands = subst (λ (s : List ℕ). Passed s text at t.next) (sym (append_assoc part m.met.rest mark)) (passed_both (subst (λ (o : Option ℕ). IfSome o (Passed part text at)) e p.passed) m.met.stands);
+    plainly = all_append plain part m.met.rest ∙ and_both (and_right (same (front ++ part) further) (all plain part) h) m.met.plainly;
+    code_so =
+        ap column (sym (append_assoc front part m.met.rest)
+        ∙ ap (λ (s : List ℕ). s ++ m.met.rest) (same_equal (front ++ part) further (and_left (same (front ++ part) further) (all plain part) h)))
+        ∙ m.met.code_so;
+    known_so = m.met.known_so;
+  };
+}
+
+-- two parts stand there, and a field ends with them
+pub ends_both : {p q text : List ℕ} {code at next : ℕ} {b : Option ℕ} {r : Option Taken} → Behind p text at b → b ≡ Some next
+    → Ends q code text next r → Ends (p ++ q) code text at r
+ends_both {r = None} p e m = record { ended = tt }
+ends_both {p} {q} {text} {at = at} {r = Some t} b e m = record {
+  ended = record {
+    stands = passed_both (subst (λ (o : Option ℕ). IfSome o (Passed p text at)) e b.passed) m.ended.stands;
+    code_so = m.ended.code_so;
+  };
+}
+
+-- one of two, the first that is taken
+pub took_either : {front mark text : List ℕ} {column : List ℕ → ℕ} {at : ℕ} {r s : Option Taken} {P : Type 0}
+    → Takes front column mark text at r → MatchOption r P (λ (t : Taken). s ≡ Some t) → (P → Takes front column mark text at s)
+    → Takes front column mark text at s
+took_either {front} {mark} {text} {column} {at} {r = Some t} a m b = subst (Takes front column mark text at) (sym m) a
+took_either {r = None} a m b = b m
+
+-- the laws by which a field is taken
+pub ruleset fields = (took_end, took_rest, took_either)

@@ -2,17 +2,14 @@
 // line goes the general way, and both ways give the same.
 #![tactic(auto)]
 
-ghost use Rattle.std.specs.Prelude.{◌≡◌, true, IfSome};
+ghost use Rattle.std.specs.Prelude.{◌≡◌, IfSome};
 ghost use Rattle.names.specs.Names.{columns};
-ghost use Rattle.names.specs.Columns.{fwd_err_code};
-ghost use Rattle.parser.specs.Parsed.{known};
 ghost use Rattle.first_line.specs.First.{first_line, in_numbers};
 ghost use Rattle.first_line.specs.InPlace.{MetAll, Leads};
 
 use kinds::Refusal;
 use lines::LONGEST;
-use names::columns;
-use parser::{Codes, Fields, Line};
+use parser::{Codes, Fields, Line, Taken};
 
 mod in_place;
 
@@ -27,50 +24,50 @@ pub struct FirstLine {
     pub whole: bool,
 }
 
-// Takes the twelve fields of the line at the front of a text, one after another, by matching names in place. If the last is known, all are.
-fn meet_all(text: &[u8]) -> Codes
-    ensures { known (fwd_err_code result.codes) ≡ true → MetAll columns text.now 0 result.codes result.end }
+// Takes the next field as its column does.
+fn take<F: Fn(&[u8], usize) -> Option<Taken>>(fields: &mut Fields, column: F) -> Option<Taken>
+    requires { F.IsAlwaysCallable column }
+    ensures taken { F.post column fields.old.line fields.old.at result }
+    ensures line { fields.new.line.now ≡ fields.old.line.now }
+    ensures at { IfSome result (λ taken. fields.new.at ≡ taken.next) }
+{
+    let taken = column(fields.line, fields.at)?;
+    fields.at = taken.next;
+    Some(taken)
+}
+
+// Takes the twelve fields of the line at the front of a text, one after another, by matching names in place.
+fn meet_all(text: &[u8]) -> Option<Codes>
+    ensures { IfSome result (λ met. MetAll columns text.now 0 met.codes met.end) }
 {
     let mut fields = Fields { line: text, at: 0 };
-    let pair = in_place::pair(fields.line, fields.at);
-    fields.at = pair.next;
-    let request = in_place::request(fields.line, fields.at);
-    fields.at = request.next;
-    let ret = in_place::flag(fields.line, fields.at);
-    fields.at = ret.next;
-    let sd = in_place::flag(fields.line, fields.at);
-    fields.at = sd.next;
-    let excl = in_place::flag(fields.line, fields.at);
-    fields.at = excl.next;
-    let tag = in_place::tag(fields.line, fields.at);
-    fields.at = tag.next;
-    let response = in_place::response(fields.line, fields.at);
-    fields.at = response.next;
-    let op = in_place::tag_op(fields.line, fields.at);
-    fields.at = op.next;
-    let error = in_place::resp_err(fields.line, fields.at);
-    fields.at = error.next;
-    let forward = in_place::forward(fields.line, fields.at);
-    fields.at = forward.next;
-    let after = in_place::state_after(fields.line, fields.at);
-    fields.at = after.next;
-    let last = in_place::fwd_err(fields.line, fields.at);
-    parser::gathered(
+    let pair = take(&mut fields, in_place::pair)?;
+    let request = take(&mut fields, in_place::request)?;
+    let ret = take(&mut fields, in_place::flag)?;
+    let sd = take(&mut fields, in_place::flag)?;
+    let excl = take(&mut fields, in_place::flag)?;
+    let tag = take(&mut fields, in_place::tag)?;
+    let response = take(&mut fields, in_place::response)?;
+    let op = take(&mut fields, in_place::tag_op)?;
+    let error = take(&mut fields, in_place::resp_err)?;
+    let forward = take(&mut fields, in_place::forward)?;
+    let after = take(&mut fields, in_place::state_after)?;
+    let last = take(&mut fields, in_place::fwd_err)?;
+    Some(parser::gathered(
         pair, request, ret, sd, excl, tag, response, op, error, forward, after, last,
-    )
+    ))
 }
 
 // The well-formed line at the front of a text, if its fields are taken in place.
 fn good_line(text: &[u8]) -> Option<FirstLine>
     ensures { IfSome result (λ line. Leads text.now (in_numbers line)) }
 {
-    let met = meet_all(text);
-    let codes = met.codes;
-    if codes[columns::FWD_ERR] == names::UNKNOWN || !parser::dashes_agree(codes) {
+    let met = meet_all(text)?;
+    if !parser::dashes_agree(met.codes) {
         return None;
     }
     Some(FirstLine {
-        line: parser::line_of(codes),
+        line: parser::line_of(met.codes),
         end: met.end - 2,
         whole: true,
     })

@@ -1,7 +1,9 @@
--- `first_line::in_place::first_bytes` meets its contract: a power of 256 for each number of bytes.
-use native.Mathlib.Omega.{arith}
-use Rattle.first_line.proofs.Matching.{whole_word}
+-- `first_line::in_place::first_bytes` meets its contract: the numbers of so many bytes lie below a power of 256.
+use Rattle.first_line.proofs.Matching.{shifted, whole_word}
 use Rattle.first_line.proofs.in_place.first_bytes.Goals as goal
 
-pub returns-in_default : goal.returns-in_default
-returns-in_default c = whole_word _ _ c.ranges.word.fits (omega arith)
+pub returns-then-count-lt-WORD : goal.returns-then-count-lt-WORD
+returns-then-count-lt-WORD c = shifted c.args.word c.args.count c.if-count-lt-WORD.true
+
+pub returns-else-count-lt-WORD : goal.returns-else-count-lt-WORD
+returns-else-count-lt-WORD c = whole_word c.args.word c.args.count c.ranges.word.fits c.if-count-lt-WORD.false
