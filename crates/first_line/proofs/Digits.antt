@@ -2,7 +2,7 @@
 -- Assumes nothing.
 use Rattle.std.proofs.Common.{Some}
 use mathlib.Core.Path.{◌≡◌, refl, sym, ◌∙◌, ap, ap₂, subst}
-use mathlib.Core.Bool.{Bool, true, false, not, cond, ◌&&◌, ◌||◌, false≢true}
+use mathlib.Core.Bool.{Bool, true, false, not, cond, ◌&&◌, ◌||◌}
 use mathlib.Core.List.{List, [], ◌∷◌, ◌++◌}
 use Prim.Native.Nat.{ℕ, suc, ◌+◌, ◌-◌, ◌*◌, ◌^◌, ◌≤◌, ◌<◌}
 use native.Mathlib.Nat.{add-zero, pow-suc, pow-le-pow_right}
@@ -15,9 +15,8 @@ use lib.Seq.{take-suc, get_or-drop, length-take-le, get_or-take}
 use Rattle.kinds.specs.Tests.{all}
 use Rattle.kinds.proofs.Lists.{and_left, and_right, and_both, neither, all_append}
 use Rattle.text.specs.Text.{comma, CR}
-use Rattle.names.specs.Names.{code_of, flag_names, unknown, most_digits, is_digit, read_decimal, pair_of}
+use Rattle.names.specs.Names.{unknown, most_digits, is_digit, read_decimal, pair_of}
 use Rattle.names.proofs.Laws.{pair_digits}
-use Rattle.parser.specs.declared.Taken.{Taken}
 use Rattle.first_line.specs.declared.in_place.Digits.{Digits}
 use Rattle.parser.specs.Parsed.{known}
 use Rattle.first_line.specs.InPlace.{word_length, Passed, plain, Takes, DigitsAt}

@@ -2,12 +2,12 @@
 -- Assumes nothing.
 use Rattle.std.proofs.Common.{Some}
 use mathlib.Core.Path.{◌≡◌, refl, sym, ◌∙◌, ap, ap₂, subst}
-use mathlib.Core.Bool.{Bool, true, false, cond, not, ◌&&◌, ◌||◌, false≢true}
+use mathlib.Core.Bool.{Bool, true, false, cond, not, ◌&&◌, ◌||◌}
 use mathlib.Core.List.{List, [], ◌∷◌, ◌++◌, append_assoc}
 use Prim.Native.Nat.{ℕ, zero, suc, ◌+◌, ◌-◌, ◌≤◌}
 use native.Mathlib.Nat.{zero-add}
 use native.Mathlib.Omega.{arith}
-use borrow.Author.Tests.{not-true, not-false, le-leb, ne_eqb}
+use borrow.Author.Tests.{not-true, le-leb}
 use lib.Dec.{eqb}
 use lib.ListN.{length, take, drop, length-append, length-take, take-append-drop}
 use lib.Seq.{drop-drop, drop_at, take_at}
@@ -19,12 +19,11 @@ use Rattle.lines.specs.Seen.{longest, too_long, reach, line_end}
 use Rattle.lines.proofs.Laws.{first_CR}
 use Rattle.lines.proofs.Parting.{reach_within}
 use Rattle.fields.specs.Fields.{fields_of}
-use Rattle.names.specs.Names.{unknown, code_of, pair_of, request_names, flag_names, tag_names, response_names, tag_op_names, resp_err_names, forward_names, final_names, fwd_err_names, columns}
-use Rattle.names.specs.Columns.{fwd_err_code}
+use Rattle.names.specs.Names.{columns}
 use Rattle.parser.specs.declared.Taken.{Taken}
 use Rattle.parser.specs.declared.Codes.{Codes}
 use Rattle.parser.specs.Parsed.{Parsed, codes_of, known, dashes_agree, well_formed, refused_parse, parsed}
-use Rattle.parser.specs.Code.{gathered_of, line_of}
+use Rattle.parser.specs.Code.{line_of}
 use Rattle.parser.proofs.Events.{line_well}
 use Rattle.first_line.specs.First.{First, line_to, first_line}
 use Rattle.first_line.specs.InPlace.{plain, Met, Takes, MetAll, last, more, no_cr, Leads}

@@ -2,26 +2,26 @@
 -- Assumes nothing.
 use Rattle.std.proofs.Common.{Option, None, Some, MatchOption, IfSome}
 use mathlib.Core.Path.{◌≡◌, refl, sym, ◌∙◌, ap, ap₂, subst}
-use mathlib.Core.Bool.{Bool, true, false, not, ◌&&◌}
+use mathlib.Core.Bool.{Bool, true, ◌&&◌}
 use mathlib.Core.List.{List, [], ◌∷◌, ◌++◌, append_assoc}
 use Prim.Native.Nat.{ℕ, zero, suc, ◌+◌, ◌-◌, ◌*◌, ◌/◌, ◌%◌, ◌^◌, ◌≤◌, ◌<◌}
 use native.Mathlib.Nat.{pow-suc, pow-le-pow_right, mod-eq_of_lt, one-mul, mul-suc}
 use lib.Pow.{pow-add, pow-lt}
 use native.Mathlib.Omega.{arith}
-use borrow.Author.Tests.{not-false, leb-true, le-leb, eqb-true}
+use borrow.Author.Tests.{leb-true, eqb-true}
 use mir.Syntax.{w8}
 use mir.Val.{Fits}
 use lib.Arith.{mod-mul}
 use lib.Dec.{eqb, leb}
-use lib.ListN.{length, get_or, take, drop, length-append, length-take, length-drop}
+use lib.ListN.{length, get_or, take, drop, length-append}
 use lib.Seq.{drop-cons, drop-drop, take-add}
 use Rattle.kinds.specs.Tests.{all, same}
-use Rattle.kinds.proofs.Lists.{and_left, and_right, and_both, all_append, same_truth, same_equal}
+use Rattle.kinds.proofs.Lists.{and_left, and_right, and_both, all_append, same_equal}
 use Rattle.words.specs.Words.{word, word_of}
 use Rattle.words.proofs.Laws.{bytes_from, word_of_lem, word_last}
 use Rattle.parser.specs.declared.Taken.{Taken}
 use Rattle.parser.specs.Parsed.{known}
-use Rattle.first_line.specs.InPlace.{word_length, Passed, Behind, Ended, Ends, plain, Met, Takes}
+use Rattle.first_line.specs.InPlace.{word_length, Passed, Behind, Ends, plain, Takes}
 
 -- BYTES AND NUMBERS
 

@@ -1,5 +1,5 @@
 -- `first_line::in_place::behind` meets its contract: as many bytes of the text as the name has are the same number.
-use Rattle.std.proofs.Common.{refl, length}
+use Rattle.std.proofs.Common.{length}
 use Rattle.first_line.proofs.Matching.{roomy, matched}
 use Rattle.first_line.proofs.in_place.behind.Goals as goal
 
