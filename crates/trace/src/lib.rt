@@ -70,9 +70,8 @@ impl<'a> Trace<'a> {
         ensures { OnTable self.entry.events.now self.entry.pairs.now k.0 table.old result table.new }
     {
         let pair = k.pair_in(self.pairs);
-        let states = &mut table[pair.0 as usize];
-        let found = verdicts::found(self.event(k), *states);
-        *states = found.after;
+        let found = verdicts::found(self.event(k), pair.set_in(table));
+        pair.put_in(table, found.after);
         found
     }
 
