@@ -28,15 +28,14 @@ use Rattle.parser.proofs.Events.{line_well}
 use Rattle.first_line.specs.First.{First, line_to, first_line}
 use Rattle.first_line.specs.InPlace.{plain, Met, Takes, MetAll, last, more, no_cr, Leads}
 
--- a field that is met stands first, with the others behind it, and the last one with CR LF
-pub met_more : {column : List ℕ → ℕ} {others : List (List ℕ → ℕ)} {text after : List ℕ} {at next : ℕ} {r : Taken} {codes : List ℕ} {end : ℕ}
-    → Takes [] column (comma ∷ []) text at (Some r) → after ≡ text → next ≡ r.next → MetAll others after next codes end
-    → MetAll (column ∷ others) text at (r.code ∷ codes) end
-met_more {others = others} {text} {next = next} {codes = codes} {end} t e f m =
-    more t.met (subst (λ (n : ℕ). MetAll others text n codes end) f (subst (λ (s : List ℕ). MetAll others s next codes end) e m))
+-- a field that is taken stands first, with the others behind it; the last one stands with CR LF
+pub met_more : {column : List ℕ → ℕ} {others : List (List ℕ → ℕ)} {text after : List ℕ} {at code next : ℕ} {codes : List ℕ} {end : ℕ}
+    → Takes [] column (comma ∷ []) text at (Some (record { code = code; next = next })) → after ≡ text → MetAll others after next codes end
+    → MetAll (column ∷ others) text at (code ∷ codes) end
+met_more {others = others} {next = next} {codes = codes} {end} t e m = more t.met (subst (λ (s : List ℕ). MetAll others s next codes end) e m)
 
-pub met_last : {column : List ℕ → ℕ} {text : List ℕ} {at : ℕ} {r : Taken} → Takes [] column eol text at (Some r)
-    → MetAll (column ∷ []) text at (r.code ∷ []) r.next
+pub met_last : {column : List ℕ → ℕ} {text : List ℕ} {at code next : ℕ} → Takes [] column eol text at (Some (record { code = code; next = next }))
+    → MetAll (column ∷ []) text at (code ∷ []) next
 met_last t = last t.met
 
 -- THE LINE OF SUCH FIELDS

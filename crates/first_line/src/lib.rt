@@ -24,16 +24,15 @@ pub struct FirstLine {
     pub whole: bool,
 }
 
-// Takes the next field as its column does.
-fn take<F: Fn(&[u8], usize) -> Option<Taken>>(fields: &mut Fields, column: F) -> Option<Taken>
+// Takes the next field as its column does: its code.
+fn take<F: Fn(&[u8], usize) -> Option<Taken>>(fields: &mut Fields, column: F) -> Option<u32>
     requires { F.IsAlwaysCallable column }
-    ensures taken { F.post column fields.old.line fields.old.at result }
+    ensures taken { IfSome result (λ code. F.post column fields.old.line fields.old.at (Some (record { code = code; next = fields.new.at }))) }
     ensures line { fields.new.line.now ≡ fields.old.line.now }
-    ensures at { IfSome result (λ taken. fields.new.at ≡ taken.next) }
 {
     let taken = column(fields.line, fields.at)?;
     fields.at = taken.next;
-    Some(taken)
+    Some(taken.code)
 }
 
 // Takes the twelve fields of the line at the front of a text, one after another, by matching names in place.
@@ -41,21 +40,24 @@ fn meet_all(text: &[u8]) -> Option<Codes>
     ensures { IfSome result (λ met. MetAll columns text.now 0 met.codes met.end) }
 {
     let mut fields = Fields { line: text, at: 0 };
-    let pair = take(&mut fields, in_place::pair)?;
-    let request = take(&mut fields, in_place::request)?;
-    let ret = take(&mut fields, in_place::flag)?;
-    let sd = take(&mut fields, in_place::flag)?;
-    let excl = take(&mut fields, in_place::flag)?;
-    let tag = take(&mut fields, in_place::tag)?;
-    let response = take(&mut fields, in_place::response)?;
-    let op = take(&mut fields, in_place::tag_op)?;
-    let error = take(&mut fields, in_place::resp_err)?;
-    let forward = take(&mut fields, in_place::forward)?;
-    let after = take(&mut fields, in_place::state_after)?;
-    let last = take(&mut fields, in_place::fwd_err)?;
-    Some(parser::gathered(
-        pair, request, ret, sd, excl, tag, response, op, error, forward, after, last,
-    ))
+    let codes = [
+        take(&mut fields, in_place::pair)?,
+        take(&mut fields, in_place::request)?,
+        take(&mut fields, in_place::flag)?, // RetToSrc
+        take(&mut fields, in_place::flag)?, // DoNotGoToSD
+        take(&mut fields, in_place::flag)?, // excl
+        take(&mut fields, in_place::tag)?,
+        take(&mut fields, in_place::response)?,
+        take(&mut fields, in_place::tag_op)?,
+        take(&mut fields, in_place::resp_err)?,
+        take(&mut fields, in_place::forward)?,
+        take(&mut fields, in_place::state_after)?,
+        take(&mut fields, in_place::fwd_err)?,
+    ];
+    Some(Codes {
+        codes,
+        end: fields.at,
+    })
 }
 
 // The well-formed line at the front of a text, if its fields are taken in place.

@@ -6,27 +6,27 @@ use Rattle.first_line.proofs.meet_all.Goals as goal
 pub returns : goal.returns
 unfolding columns
 returns c =
-    let pair = c.in_ok-pair.ensures in
-    let request = c.in_ok-request.ensures in
-    let ret = c.in_ok-ret.ensures in
-    let sd = c.in_ok-sd.ensures in
-    let excl = c.in_ok-excl.ensures in
-    let tag = c.in_ok-tag.ensures in
-    let response = c.in_ok-response.ensures in
-    let op = c.in_ok-op.ensures in
-    let error = c.in_ok-error.ensures in
-    let forward = c.in_ok-forward.ensures in
-    let after = c.in_ok-after.ensures in
-    rw c.gathered.ensures
-    (met_more pair.taken pair.line pair.at
-    (met_more request.taken request.line request.at
-    (met_more ret.taken ret.line ret.at
-    (met_more sd.taken sd.line sd.at
-    (met_more excl.taken excl.line excl.at
-    (met_more tag.taken tag.line tag.at
-    (met_more response.taken response.line response.at
-    (met_more op.taken op.line op.at
-    (met_more error.taken error.line error.at
-    (met_more forward.taken forward.line forward.at
-    (met_more after.taken after.line after.at
-    (met_last c.in_ok-last.ensures.taken))))))))))))
+    let pair = c.in_ok-take.ensures in
+    let request = c.in_ok-take-2.ensures in
+    let ret_to_src = c.in_ok-take-3.ensures in
+    let do_not_go_to_sd = c.in_ok-take-4.ensures in
+    let excl = c.in_ok-take-5.ensures in
+    let tag = c.in_ok-take-6.ensures in
+    let response = c.in_ok-take-7.ensures in
+    let tag_op = c.in_ok-take-8.ensures in
+    let resp_err = c.in_ok-take-9.ensures in
+    let forward = c.in_ok-take-10.ensures in
+    let final = c.in_ok-take-11.ensures in
+    let fwd_err = c.in_ok-take-12.ensures in
+    met_more pair.taken pair.line
+    (met_more request.taken request.line
+    (met_more ret_to_src.taken ret_to_src.line
+    (met_more do_not_go_to_sd.taken do_not_go_to_sd.line
+    (met_more excl.taken excl.line
+    (met_more tag.taken tag.line
+    (met_more response.taken response.line
+    (met_more tag_op.taken tag_op.line
+    (met_more resp_err.taken resp_err.line
+    (met_more forward.taken forward.line
+    (met_more final.taken final.line
+    (met_last fwd_err.taken)))))))))))
