@@ -2,8 +2,7 @@
 use Rattle.std.specs.Prelude.{ℕ, Bool, cond, ◌&&◌, ◌||◌, List, leb, take, drop}
 use Rattle.lines.specs.Lines.{crlf}
 use Rattle.lines.specs.Seen.{longest, too_long, reach}
-use Rattle.parser.specs.Parsed as parser
-use Rattle.parser.specs.Parsed.{Parsed, refused_parse, parsed}
+use Rattle.parser.specs.Parsed.{Parsed, in_numbers, refused_parse, parsed}
 use Rattle.first_line.specs.declared.FirstLine.{FirstLine}
 
 -- the first line of a text: parsed, the offset at which it ends, and whether its CR LF is there
@@ -13,8 +12,8 @@ pub record First : Type 0 where
   pub whole : Bool
 
 -- what the code hands back, in numbers
-abbrev pub in_numbers : FirstLine → First
-in_numbers found = record { line = parser.in_numbers found.line; end = found.end; whole = found.whole }
+abbrev pub first_in_numbers : FirstLine → First
+first_in_numbers found = record { line = in_numbers found.line; end = found.end; whole = found.whole }
 
 -- a line that ends at an offset, parsed if it is to be parsed and is not too long
 abbrev pub line_to : Bool → ℕ → List ℕ → Parsed

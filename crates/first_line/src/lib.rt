@@ -4,7 +4,7 @@
 
 ghost use Rattle.std.specs.Prelude.{◌≡◌, IfSome};
 ghost use Rattle.names.specs.Names.{columns};
-ghost use Rattle.first_line.specs.First.{first_line, in_numbers};
+ghost use Rattle.first_line.specs.First.{first_line, first_in_numbers};
 ghost use Rattle.first_line.specs.InPlace.{MetAll, Leads};
 
 use kinds::Refusal;
@@ -62,7 +62,7 @@ fn meet_all(text: &[u8]) -> Option<Codes>
 
 // The well-formed line at the front of a text, if its fields are taken in place.
 fn good_line(text: &[u8]) -> Option<FirstLine>
-    ensures { IfSome result (λ line. Leads text.now (in_numbers line)) }
+    ensures { IfSome result (λ line. Leads text.now (first_in_numbers line)) }
 {
     let met = meet_all(text)?;
     if !parser::dashes_agree(met.codes) {
@@ -77,7 +77,7 @@ fn good_line(text: &[u8]) -> Option<FirstLine>
 
 // The first line of a text, whatever it is. It is parsed if that is asked for, its end is known and it is not too long.
 fn any_line(text: &[u8], ended: bool, asked: bool) -> FirstLine
-    ensures { in_numbers result ≡ first_line asked ended text.now }
+    ensures { first_in_numbers result ≡ first_line asked ended text.now }
 {
     let end = lines::line_end(text, 0);
     let whole = lines::ends_line(text, end);
@@ -92,7 +92,7 @@ fn any_line(text: &[u8], ended: bool, asked: bool) -> FirstLine
 // Finds the first line of a text, and parses it if that is asked for. If `ended`, nothing follows the text. Fields are taken in place if as
 // many bytes are at hand as a line has at most.
 pub fn parse(text: &[u8], ended: bool, asked: bool) -> FirstLine
-    ensures { in_numbers result ≡ first_line asked ended text.now }
+    ensures { first_in_numbers result ≡ first_line asked ended text.now }
 {
     if asked && WINDOW <= text.len() {
         if let Some(good) = good_line(&text[..WINDOW]) {

@@ -22,7 +22,7 @@ use Rattle.trace.specs.Events.{moved}
 use Rattle.kinds.specs.declared.Refusal.{Refusal}
 use Rattle.kinds.specs.Refusals.{refusal_number}
 use Rattle.parser.specs.Parsed.{Parsed, parsed_as, refused_parse, parsed}
-use Rattle.first_line.specs.First.{First, first_line, in_numbers}
+use Rattle.first_line.specs.First.{First, first_line, first_in_numbers}
 use Rattle.first_line.specs.declared.FirstLine.{FirstLine}
 use Rattle.replies.specs.Laid.{Laid, laid, lay, lay_all}
 use Rattle.replies.specs.Replies.{room, header_line, answer_line, answer_texts, refused_line, refusal_texts}
@@ -244,7 +244,7 @@ refused_more {out = out} {put = put} {lines = lines} {number = number} {put' = p
 }
 
 -- whether enough is known of the line that starts at an offset, from what is the first line of the rest
-pub sure_seen : (ended : Bool) (lines : ℕ) (piece : List ℕ) (start : ℕ) (first : FirstLine) → in_numbers first ≡ first_line (ltb 0 lines) ended (drop start piece)
+pub sure_seen : (ended : Bool) (lines : ℕ) (piece : List ℕ) (start : ℕ) (first : FirstLine) → first_in_numbers first ≡ first_line (ltb 0 lines) ended (drop start piece)
     → (first.whole || ltb too_long (length piece - start)) || (ended && (ltb 0 (length piece - start) || eqb lines 0)) ≡ sure ended lines (drop start piece)
 unfolding first_line sure whole
 sure_seen ended lines piece start first e =
@@ -252,7 +252,7 @@ sure_seen ended lines piece start first e =
     ∙ ap₂ (λ (f : First) (n : ℕ). f.whole || (ltb too_long n || (ended && (ltb 0 n || eqb lines 0)))) e (sym (length-drop start piece))
 
 -- that line
-pub next_seen : (ended : Bool) (lines : ℕ) (piece : List ℕ) (start behind : ℕ) (first : FirstLine) → in_numbers first ≡ first_line (ltb 0 lines) ended (drop start piece)
+pub next_seen : (ended : Bool) (lines : ℕ) (piece : List ℕ) (start behind : ℕ) (first : FirstLine) → first_in_numbers first ≡ first_line (ltb 0 lines) ended (drop start piece)
     → sure ended lines (drop start piece) ≡ true → behind ≡ start + first.end + cond first.whole 2 0
     → IsNext ended lines piece start (record { end = start + first.end; start = behind; line = first.line })
 unfolding first_line taken whole
@@ -267,7 +267,7 @@ next_seen ended lines piece start behind first e s g = record {
 pub rest_of : (piece : List ℕ) (start : ℕ) → take (length piece - start) (drop start piece) ≡ drop start piece
 rest_of piece start = take_all (length piece - start) (drop start piece) (le_of_eq (length-drop start piece))
 
-pub first_within : (piece : List ℕ) (start : ℕ) (asked ended : Bool) (first : FirstLine) → start ≤ length piece → in_numbers first ≡ first_line asked ended (drop start piece)
+pub first_within : (piece : List ℕ) (start : ℕ) (asked ended : Bool) (first : FirstLine) → start ≤ length piece → first_in_numbers first ≡ first_line asked ended (drop start piece)
     → start + first.end ≤ length piece
 unfolding first_line
 first_within piece start asked ended first h e =
