@@ -5,7 +5,7 @@ ghost use Rattle.std.specs.Prelude.{◌≡◌};
 ghost use Rattle.fields.specs.Fields.{field_end};
 
 // Separates two fields.
-const COMMA: u8 = 44;
+const COMMA: u8 = b',';
 
 // The offset at which a field ends: at the next comma, or at the end of the line.
 pub fn end_of(line: &[u8], at: usize) -> usize

@@ -142,20 +142,6 @@ looked_on {s} {start} {last} {at} {next} l e = record {
     gap : last - at - k ≡ last - (at + k)
     gap = omega arith
 
-pub looked_here : {s : List ℕ} {start last at : ℕ} → Looked s start last at → at < last → crlf (drop at s) ≡ true → at ≡ line_end s start
-looked_here {s} {start} {last} {at} l h t = sym (l.so ∙ ap (λ n. at + reach n (drop at s)) (one_left last at h) ∙ ap (λ n. at + n) here ∙ add-zero at)
-  where
-    here : reach (suc (last - (at + 1))) (drop at s) ≡ 0
-    here =
-        ap (reach (suc (last - (at + 1)))) (drop-cons s at 0 (omega (arith, h, l.inside)))
-        ∙ ap (λ b. cond b 0 (suc (reach (last - (at + 1)) (drop (suc at) s)))) (sym (ap crlf (drop-cons s at 0 (omega (arith, h, l.inside)))) ∙ t)
-
-pub looked_end : {s : List ℕ} {start last at : ℕ} → Looked s start last at → last ≤ at → at ≡ line_end s start
-looked_end {s} {start} {last} {at} l h = sym (l.so ∙ ap (λ n. at + reach n (drop at s)) gap ∙ add-zero at)
-  where
-    gap : last - at ≡ 0
-    gap = omega (arith, h)
-
 pub past_end : (s : List ℕ) (start : ℕ) → length s ≤ start → start ≡ line_end s start
 unfolding line_end
 past_end s start h = sym (ap (λ r. start + reach too_long r) (drop_of_length-le s h) ∙ add-zero start)

@@ -13,9 +13,9 @@ pub const LONGEST: usize = 160;
 pub const TOO_LONG: usize = LONGEST + 1;
 
 // CR and LF together end a line.
-const CR: u8 = 13;
+const CR: u8 = b'\r';
 
-const LF: u8 = 10;
+const LF: u8 = b'\n';
 
 // The offset up to which a line has to be searched for its CR LF.
 fn last_seen(text: &[u8], start: usize) -> usize

@@ -60,11 +60,6 @@ module _ {f : List ℕ} {v i : ℕ} (r : Read f v i) where
   digits_ahead : i < length f → number_in v (drop i f) ≡ number_in v (get_or f i 0 ∷ drop (suc i) f)
   digits_ahead h = ap (number_in v) (drop-cons f i 0 h)
 
-  pub read_other : i < length f → is_digit (get_or f i 0) ≡ false → None ≡ number_in 0 f
-  read_other h t =
-      sym (digits_ahead h ∙ ap (λ (b : Bool). cond (b && all is_digit (drop (suc i) f)) (Some (read_decimal v (get_or f i 0 ∷ drop (suc i) f))) None) t)
-      ∙ r.rest
-
   pub read_next : i < length f → 48 ≤ get_or f i 0 → get_or f i 0 ≤ 57 → Read f (v * 10 + (get_or f i 0 - 48)) (i + 1)
   unfolding read_decimal
   read_next h low high = record {

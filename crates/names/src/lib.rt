@@ -1,11 +1,10 @@
 // Finds the code of a field by its name (definition 8.4).
 #![tactic(auto)]
 
-ghost use Rattle.std.specs.Prelude.{◌≡◌, cond, ◌≤◌, length};
-ghost use Rattle.kinds.specs.Tests.{same, all};
+ghost use Rattle.std.specs.Prelude.{◌≡◌, ◌≤◌, length};
+ghost use Rattle.kinds.specs.Tests.{same};
 ghost use Rattle.names.specs.Names.{code_of, request_names, flag_names, tag_names, response_names, tag_op_names, resp_err_names};
-ghost use Rattle.names.specs.Names.{forward_names, final_names, fwd_err_names, unknown, most_digits, is_digit, read_decimal, pair_of};
-ghost use Rattle.names.specs.Names.{known_as, answer_at, in_column};
+ghost use Rattle.names.specs.Names.{forward_names, final_names, fwd_err_names, most_digits, pair_of, known_as, answer_at, in_column};
 ghost use Rattle.names.specs.Code.{code_in, as_names, number_in};
 
 use kinds::{Answer, Forward, FwdState, LineState, Request, Resp, RespErr, TagOp, TagState};
@@ -19,10 +18,10 @@ pub const UNKNOWN: u32 = 4294967295;
 pub const MOST_DIGITS: usize = 5;
 
 // The first digit.
-const ZERO: u8 = 48;
+const ZERO: u8 = b'0';
 
 // The last digit.
-const NINE: u8 = 57;
+const NINE: u8 = b'9';
 
 // Whether a field is exactly this name.
 pub fn is(field: &[u8], name: &[u8]) -> bool

@@ -8,7 +8,10 @@ use Prim.Native.Nat.{ℕ, ◌≤◌, ◌<◌}
 use native.Mathlib.Nat.{mod-eq_of_lt}
 use native.Mathlib.Omega.{arith}
 use borrow.Author.Tests.{ltb-true, leb-true, lt-ltb, le-ltb, eq-eqb}
-use Rattle.std.specs.Prelude.{Option, Some, None}
+use Rattle.std.specs.Prelude.{Option, Some, None, Result, Ok, Err}
+use Rattle.kinds.specs.declared.Refusal.{Refusal}
+use Rattle.kinds.proofs.Refusals.{one_to_one, not_accepted}
+use Rattle.parser.specs.declared.Line.{Line}
 use lib.Dec.{eqb, ltb, leb}
 use lib.ListN.{length, drop}
 use Rattle.kinds.specs.Tests.{all}
@@ -18,7 +21,7 @@ use Rattle.fields.specs.Fields.{fields_of}
 use Rattle.names.specs.Names.{unknown, columns}
 use Rattle.names.specs.Columns.{pair_code}
 use Rattle.names.proofs.Names.{pair_limit, limits, Limited, AllLimited, none_more, one_more, columns_limited}
-use Rattle.parser.specs.Parsed.{Parsed, codes_of, line_codes, known, dashes_agree, well_formed, event_of, parsed_as, refused_parse, parsed}
+use Rattle.parser.specs.Parsed.{Parsed, codes_of, line_codes, known, dashes_agree, well_formed, event_of, parsed_as, refused_parse, in_numbers, parsed}
 use Rattle.parser.specs.Code.{codes_in, as_byte, line_of}
 
 -- as many numbers as limits, each below its own
@@ -114,3 +117,10 @@ module _ (line : List ℕ) (r : Option (List ℕ)) (e : r ≡ codes_in line) whe
           let same : codes ≡ line_codes line = cc in
           ap line_of same ∙ line_well line k
       go false k l = absurd (cc)
+
+-- NO TWO RESULTS HAVE THE SAME NUMBERS.
+pub same_numbers : (r s : Result Line Refusal) → in_numbers r ≡ in_numbers s → r ≡ s
+same_numbers (Ok l) (Ok m) h = ap (λ (p : Parsed). Ok (record { pair = record { 0 = p.pair }; event = p.event })) h
+same_numbers (Ok l) (Err s) h = absurd (not_accepted s (sym (ap (λ (p : Parsed). p.number) h)))
+same_numbers (Err r) (Ok m) h = absurd (not_accepted r (ap (λ (p : Parsed). p.number) h))
+same_numbers (Err r) (Err s) h = ap (λ (x : Refusal). Err x) (one_to_one (ap (λ (p : Parsed). p.number) h))

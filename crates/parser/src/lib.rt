@@ -137,27 +137,26 @@ fn as_bytes(codes: [u32; COLUMNS]) -> [u8; COLUMNS]
 fn event_of(codes: [u8; COLUMNS]) -> [u8; EVENT_BYTES]
     ensures { result ≡ event_of codes }
 {
-    let answer = names::answer(codes[columns::RESPONSE]).wire();
+    let [channel, opcode, resp, fwd_state, ..] = names::answer(codes[columns::RESPONSE]).wire();
     let state = FwdState(codes[columns::FORWARD]);
     let forward = Forward::from_state(state, RespErr(codes[columns::FWD_ERR]));
-    let sent = forward.wire();
-    let error = forward.error();
+    let [present, fwd_resp] = forward.wire();
     [
         codes[columns::REQUEST],
         codes[columns::RET_TO_SRC],
         codes[columns::DO_NOT_GO_TO_SD],
         codes[columns::EXCL],
         codes[columns::TAG],
-        answer[0],
-        answer[1],
-        answer[2],
-        answer[3],
+        channel,
+        opcode,
+        resp,
+        fwd_state,
         codes[columns::TAG_OP],
         codes[columns::RESP_ERR],
-        sent[0],
-        sent[1],
+        present,
+        fwd_resp,
         codes[columns::FINAL],
-        error.0,
+        forward.error().0,
     ]
 }
 

@@ -4,10 +4,5 @@ use Rattle.parser.proofs.event_of.Goals as goal
 
 pub returns : goal.returns
 returns c =
-    let wire2 = c.wire-sent in
-    let from-state = c.from_state-forward in
-    let wire = c.wire-answer in
-    let answer = c.answer in
-    let args = c.args in
-    event_parts args.codes wire.result wire2.result c.error-error.result.0 answer.ensures wire.ensures from-state.ensures
-    wire2.ensures c.error-error.ensures
+    event_parts c.args.codes c.wire.result c.wire-2.result c.error.result.0 c.answer.ensures c.wire.ensures c.from_state-forward.ensures
+    c.wire-2.ensures c.error.ensures
