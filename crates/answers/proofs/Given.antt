@@ -3,7 +3,7 @@
 use mathlib.Core.Path.{◌≡◌, refl, sym, ◌∙◌, ap, subst}
 use mathlib.Core.Bool.{Bool, true, false, cond}
 use mathlib.Core.List.{List}
-use Prim.Native.Nat.{ℕ, ◌*◌, ◌<◌, ◌≤◌}
+use Prim.Native.Nat.{ℕ, ◌*◌, ◌%◌, ◌<◌, ◌≤◌}
 use native.Mathlib.Omega.{arith}
 use borrow.Author.Tests.{leb-true, leb-false}
 use lib.Dec.{eqb, leb}
@@ -15,6 +15,7 @@ use Rattle.answers.specs.declared.Question.{Question}
 use Rattle.answers.specs.Answers.{question_bytes, answers_to}
 use Rattle.answers.specs.Listed.{answer_length, most_answers, asking, fault_of, ListLeft, accepted_list, refused_list, listed}
 use Rattle.answers.specs.Given.{Good, Given, bad_byte, bad_request, short_room, accepted}
+use Rattle.answers.specs.Table.{spans}
 use Rattle.answers.specs.Code.{span_of}
 use Rattle.answers.proofs.Laws.{fault_tests}
 use Rattle.answers.proofs.Lists.{questions, question_at, every_question}
@@ -71,17 +72,17 @@ given q room = let s = some_row q room in subst (Given issue_e q room) (sym (giv
 
 -- no list is longer than `most_answers`
 short : Question → Bool
-short q = leb (span_of q).1 most_answers
+short q = leb (span_of q % 64) most_answers
 
 all_short : all (λ b. short (question_at b)) questions ≡ true
-unfolding short questions span_of
+unfolding short questions span_of spans
 all_short = refl
 
 pub most : (q : Question) → Good issue_e q → length (answers_to issue_e q) ≤ most_answers
 unfolding short
 most q g =
     subst (λ (n : ℕ). n ≤ most_answers) (sym (list_length q (good_fault q g)))
-    (leb-true (span_of q).1 most_answers (every_question short all_short q (good_fault q g)))
+    (leb-true (span_of q % 64) most_answers (every_question short all_short q (good_fault q g)))
 
 -- whatever is asked and lent: the number is small, the place is 0, and the count is at most `most_answers`
 pub record Small (l : ListLeft) : Type 0 where

@@ -3,7 +3,7 @@
 use mathlib.Core.Path.{◌≡◌, refl, sym, ◌∙◌, ap, ap₂}
 use mathlib.Core.Bool.{Bool, true, false, cond}
 use mathlib.Core.List.{List, [], ◌∷◌, ◌++◌, map, append_assoc, append-nil}
-use Prim.Native.Nat.{ℕ, zero, suc, ◌+◌, ◌*◌, ◌%◌, ◌<◌, ◌≤◌}
+use Prim.Native.Nat.{ℕ, zero, suc, ◌+◌, ◌*◌, ◌/◌, ◌%◌, ◌<◌, ◌≤◌}
 use native.Mathlib.Nat.{le_of_suc-le-suc}
 use native.Mathlib.Numerals.{add-one}
 use native.Mathlib.Omega.{arith}
@@ -16,20 +16,21 @@ use lib.Seq.{take-suc, take_at, drop-append-add, drop-drop, length-take-le}
 use Rattle.std.proofs.lemmas.List.{set-append_right}
 use Rattle.std.proofs.lemmas.List.Elements.{All-take, All-drop}
 use Rattle.std.specs.List.{All}
-use Rattle.kinds.specs.Tests.{all, ◌∈?◌}
-use Rattle.kinds.specs.Codes.{OK, DERR}
+use Rattle.kinds.specs.Tests.{all, same, ◌∈?◌}
+use Rattle.kinds.specs.Codes.{RSP, DAT, OK, DERR}
 use Rattle.kinds.specs.declared.Refusal.{Refusal}
 use Rattle.kinds.specs.declared.RespErr.{RespErr}
 use Rattle.kinds.proofs.Refusals.{one_to_one, not_accepted}
 use Rattle.std.specs.Prelude.{Result, Ok, Err}
-use Rattle.kinds.proofs.Lists.{and_left, and_right}
+use Rattle.kinds.proofs.Lists.{and_left, and_right, each_below, same_equal}
 use Rattle.rows.specs.Event.{request_of}
 use Rattle.event.specs.Refusals.{issue_e, below, fault}
 use Rattle.answers.specs.declared.Question.{Question}
 use Rattle.answers.specs.Answers.{question_bytes}
-use Rattle.answers.specs.declared.table.TheConstants.{NUMBERS, ANSWERS}
+use Rattle.answers.specs.declared.table.TheConstants.{LISTS, SPANS, NUMBERS, ANSWERS}
+use Rattle.answers.specs.Table.{spans, numbers, answers, number_count, answer_count, first_on_dat}
 use Rattle.answers.specs.Listed.{answer_length, asking, fault_of, joined, Listed, in_numbers}
-use Rattle.answers.specs.Code.{with_derr, IsAnswer, nine_zeros, answer_at, answers_at}
+use Rattle.answers.specs.Code.{list_at, ten_of, with_derr, IsAnswer, answer_at, answers_at}
 use Rattle.answers.specs.declared.Tables.{Tables}
 use Rattle.answers.specs.declared.Tables.TheVariants.{B46, B57, B59, B59WithB60, Unique, CleanInvalid, MakeInvalid}
 use Rattle.answers.specs.contracts.Tables.{the_type}
@@ -49,10 +50,13 @@ pub bit_below : (b : Bool) → bool_byte b < 2
 bit_below true = omega arith
 bit_below false = omega arith
 
--- the byte of an error field that is one of two
-pub error_by : (b : Bool) (e : RespErr) → e ≡ cond b (record { 0 = OK }) (record { 0 = DERR }) → e.0 ≡ cond b OK DERR
-error_by true e h = ap (λ (x : RespErr). x.0) h
-error_by false e h = ap (λ (x : RespErr). x.0) h
+-- the error field that a number stands for
+pub error_by : (n : ℕ) (e : RespErr) → n < 256 → e ≡ cond (ltb n with_derr) (record { 0 = OK }) (record { 0 = DERR }) → e.0 ≡ n / with_derr % 2 * DERR
+error_by n e l h = go (ltb n with_derr) h ∙ eqb-true _ _ (each_below (λ (k : ℕ). eqb (cond (ltb k with_derr) OK DERR) (k / with_derr % 2 * DERR)) 256 refl n l)
+  where
+    go : (b : Bool) → e ≡ cond b (record { 0 = OK }) (record { 0 = DERR }) → e.0 ≡ cond b OK DERR
+    go true k = ap (λ (x : RespErr). x.0) k
+    go false k = ap (λ (x : RespErr). x.0) k
 
 -- a byte behind nine
 pub nine_and_one : (front slot : List ℕ) (x : ℕ) → length front ≡ 9 → length slot ≡ 10 → set (front ++ drop 9 slot) 9 x ≡ front ++ (x ∷ [])
@@ -73,15 +77,40 @@ map_snoc : (f : ℕ → List ℕ) (ns : List ℕ) (n : ℕ) → map f (ns ++ (n 
 map_snoc f [] n = refl
 map_snoc f (m ∷ ns) n = ap (λ (x : List (List ℕ)). f m ∷ x) (map_snoc f ns n)
 
--- what all lists and the list d pass, the list at i passes, and d past the end
-pub all_get : (p : List ℕ → Bool) (ls : List (List ℕ)) (d : List ℕ) (i : ℕ) → p d ≡ true → all p ls ≡ true → p (get_or ls i d) ≡ true
-all_get p [] d i h k = h
-all_get p (l ∷ ls) d zero h k = and_left (p l) (all p ls) k
-all_get p (l ∷ ls) d (suc i) h k = all_get p ls d i h (and_right (p l) (all p ls) k)
+-- THE CODE'S ARRAYS ARE THE LISTS OF THE DEFINITIONS, each computed: its lists of contexts,
+pub list_there : (n : ℕ) → n < length LISTS → get_or LISTS n 0 ≡ list_at n
+list_there n h = eqb-true _ _ (each_below (λ (k : ℕ). eqb (get_or LISTS k 0) (list_at k)) (length LISTS) refl n h)
+
+-- its spans, in two numbers,
+pub start_there : (n : ℕ) → n < length SPANS → (get_or SPANS n (0, 0)).0 ≡ get_or spans n 0 / 64
+unfolding spans
+start_there n h = eqb-true _ _ (each_below (λ (k : ℕ). eqb ((get_or SPANS k (0, 0)).0) (get_or spans k 0 / 64)) (length SPANS) refl n h)
+
+pub count_there : (n : ℕ) → n < length SPANS → (get_or SPANS n (0, 0)).1 ≡ get_or spans n 0 % 64
+unfolding spans
+count_there n h = eqb-true _ _ (each_below (λ (k : ℕ). eqb ((get_or SPANS k (0, 0)).1) (get_or spans k 0 % 64)) (length SPANS) refl n h)
+
+-- its numbers,
+pub numbers_there : NUMBERS ≡ numbers
+unfolding numbers
+numbers_there = refl
+
+pub numbers_length : length numbers ≡ number_count
+unfolding numbers
+numbers_length = refl
+
+-- and its answers, with any error field behind them
+nine_of : ℕ → List ℕ
+nine_of n = take 9 (ten_of (cond (ltb n first_on_dat) RSP DAT) (get_or answers n 0) 0)
+
+pub answer_there : (n : ℕ) → n < answer_count → (error : ℕ) → get_or ANSWERS n [] ++ (error ∷ []) ≡ ten_of (cond (ltb n first_on_dat) RSP DAT) (get_or answers n 0) error
+unfolding nine_of
+answer_there n h error =
+    ap (λ (l : List ℕ). l ++ (error ∷ [])) (same_equal _ _ (each_below (λ (k : ℕ). same (get_or ANSWERS k []) (nine_of k)) answer_count refl n h))
 
 -- the numbers of the table are those of answers
 is_answer : ℕ → Bool
-is_answer n = ltb (n % with_derr) (length ANSWERS)
+is_answer n = ltb (n % with_derr) answer_count
 
 all_answers : (ns : List ℕ) → all is_answer ns ≡ true → All IsAnswer ns
 unfolding is_answer
@@ -89,29 +118,20 @@ all_answers [] h k d l = absurd (omega arith)
 all_answers (n ∷ ns) h zero d l = ltb-true _ _ (and_left (is_answer n) (all is_answer ns) h)
 all_answers (n ∷ ns) h (suc k) d l = all_answers ns (and_right (is_answer n) (all is_answer ns) h) k d (le_of_suc-le-suc l)
 
-pub numbers_of_answers : (start count : ℕ) → All IsAnswer (take count (drop start NUMBERS))
-unfolding is_answer
-numbers_of_answers start count = All-take IsAnswer count (drop start NUMBERS) (All-drop IsAnswer start NUMBERS (all_answers NUMBERS refl))
+pub numbers_of_answers : (start count : ℕ) → All IsAnswer (take count (drop start numbers))
+unfolding is_answer numbers
+numbers_of_answers start count = All-take IsAnswer count (drop start numbers) (All-drop IsAnswer start numbers (all_answers numbers refl))
 
--- answers have ten bytes each
-nine : List ℕ → Bool
-nine l = eqb (length l) 9
-
-row_length : (i : ℕ) → length (get_or ANSWERS i nine_zeros) ≡ 9
-unfolding nine
-row_length i = eqb-true _ _ (all_get nine ANSWERS nine_zeros i refl refl)
-
+-- answers joined have ten bytes each
 joined_length : (ns : List ℕ) → length (joined (map answer_at ns)) ≡ answer_length * length ns
 unfolding answer_at
 joined_length [] = refl
-joined_length (n ∷ ns) =
-    length-append (answer_at n) (joined (map answer_at ns))
-    ∙ omega (arith, joined_length ns, length-append (get_or ANSWERS (n % with_derr) nine_zeros) (cond (ltb n with_derr) OK DERR ∷ []), row_length (n % with_derr))
+joined_length (n ∷ ns) = length-append (answer_at n) (joined (map answer_at ns)) ∙ omega (arith, joined_length ns)
 
 -- answers at numbers that are there
-pub answers_length : (start count : ℕ) → start + count ≤ length NUMBERS → length (answers_at start count) ≡ count
+pub answers_length : (start count : ℕ) → start + count ≤ length numbers → length (answers_at start count) ≡ count
 answers_length start count h =
-    length-map (take count (drop start NUMBERS)) answer_at ∙ length-take-le count (drop start NUMBERS) (omega (arith, length-drop start NUMBERS))
+    length-map (take count (drop start numbers)) answer_at ∙ length-take-le count (drop start numbers) (omega (arith, length-drop start numbers))
 
 -- one answer more
 answers_next : (ns : List ℕ) (k : ℕ) → k < length ns → joined (map answer_at (take (k + 1) ns)) ≡ joined (map answer_at (take k ns)) ++ answer_at (get_or ns k 0)

@@ -2,26 +2,27 @@
 -- Assumes nothing.
 use mathlib.Core.Path.{◌≡◌, refl, sym, ◌∙◌, ap}
 use mathlib.Core.Bool.{Bool, true, false, cond, ◌&&◌}
-use mathlib.Core.List.{List, [], ◌∷◌, ◌++◌, map}
-use Prim.Native.Nat.{ℕ, ◌%◌}
+use mathlib.Core.List.{List, [], ◌∷◌, map}
+use Prim.Native.Nat.{ℕ, zero, suc, ◌*◌, ◌/◌, ◌%◌, ◌<◌}
+use native.Mathlib.Nat.{mod-lt}
 use native.Mathlib.Omega.{arith}
 use lib.Dec.{eqb, ltb}
 use lib.ListN.{length, get_or, take, drop}
 use Rattle.kinds.specs.Tests.{any, all, same, ◌∈?◌}
-use Rattle.kinds.specs.Codes.{OK, DERR}
+use Rattle.kinds.specs.Codes.{RSP, DAT, OK, DERR}
 use Rattle.kinds.proofs.Lists.{one_of, and_left, and_right, and_both}
 use Rattle.rows.specs.Event.{byte}
 use Rattle.rows.specs.Rows.{rows}
 use Rattle.rows.specs.Permitted.{asked}
+use Rattle.steps.proofs.Passing.{all_get_d}
 use Rattle.event.specs.Refusals.{issue_e, below, fault}
 use Rattle.answers.specs.declared.Question.{Question}
 use Rattle.answers.specs.Answers.{question, question_bytes, answer_limits, permits, numbers_from, choices, all_below, answers_to}
 use Rattle.answers.specs.Ascending.{ascending}
 use Rattle.answers.specs.Listed.{answer_length, asking, fault_of}
-use Rattle.answers.specs.declared.table.TheConstants.{NUMBERS, ANSWERS}
-use Rattle.answers.specs.Code.{span_of, with_derr, nine_zeros, answer_at, answers_in}
+use Rattle.answers.specs.Table.{spans, numbers, answers, first_on_dat}
+use Rattle.answers.specs.Code.{span_of, ten_of, with_derr, answer_at, answers_in}
 use Rattle.answers.proofs.Ascending.{all_member, same_members}
-use Rattle.answers.proofs.Laws.{all_get}
 use Rattle.answers.proofs.Choices.{choices_members, chosen_below, all_below-members, all_below-ascending, keep_members, keep_ascending}
 use Rattle.answers.proofs.OfRows.{row_choices, row_asked, answers_of, rows_members}
 use Rattle.answers.proofs.Sorted.{order, insert, sorted, alike, alike_equal, sorted_members}
@@ -57,32 +58,46 @@ right_list q = ascending (answers_in (span_of q)) && alike (answers_in (span_of 
 
 -- THE COMPUTED FACT
 all_right : all (λ b. right_list (question_at b)) questions ≡ true
-unfolding right_list questions rows asked row_choices row_asked answers_of order insert sorted alike span_of answer_at answers_in
+unfolding right_list questions rows asked row_choices row_asked answers_of order insert sorted alike spans numbers span_of answer_at answers_in
 all_right = refl
 
--- every answer of the table is in range, with either error field
-in_range : List ℕ → Bool
-in_range row = all (λ error. below (row ++ (error ∷ [])) 0 (answer_limits issue_e)) (OK ∷ DERR ∷ [])
+-- every answer of the table is in range, on either channel and with either error field
+in_range : ℕ → ℕ → ℕ → Bool
+in_range w channel error = below (ten_of channel w error) 0 (answer_limits issue_e)
 
-rows_in_range : all in_range ANSWERS ≡ true
-unfolding in_range
-rows_in_range = refl
+word_in_range : ℕ → Bool
+word_in_range w = all (λ channel. all (in_range w channel) (OK ∷ DERR ∷ [])) (RSP ∷ DAT ∷ [])
 
-zeros_in_range : in_range nine_zeros ≡ true
-unfolding in_range
-zeros_in_range = refl
+words_in_range : all word_in_range answers ≡ true
+unfolding word_in_range in_range
+words_in_range = refl
+
+zero_in_range : word_in_range 0 ≡ true
+unfolding word_in_range in_range
+zero_in_range = refl
+
+-- the channel and the error field that a number stands for
+on_either : (b : Bool) (m w : ℕ) → m < 2 → word_in_range w ≡ true → in_range w (cond b RSP DAT) (m * DERR) ≡ true
+unfolding word_in_range
+on_either b m w l h = error m l (one_of (λ channel. all (in_range w channel) (OK ∷ DERR ∷ [])) (cond b RSP DAT) (RSP ∷ DAT ∷ []) (channel b) h)
+  where
+    channel : (t : Bool) → cond t RSP DAT ∈? (RSP ∷ DAT ∷ []) ≡ true
+    channel true = refl
+    channel false = refl
+
+    error : (n : ℕ) → n < 2 → all (in_range w (cond b RSP DAT)) (OK ∷ DERR ∷ []) ≡ true → in_range w (cond b RSP DAT) (n * DERR) ≡ true
+    error zero k r = one_of (in_range w (cond b RSP DAT)) OK (OK ∷ DERR ∷ []) refl r
+    error (suc zero) k r = one_of (in_range w (cond b RSP DAT)) DERR (OK ∷ DERR ∷ []) refl r
+    error (suc (suc n)) k r = absurd (omega arith)
 
 all_in_range : (ns : List ℕ) → all (λ a. below a 0 (answer_limits issue_e)) (map answer_at ns) ≡ true
 unfolding answer_at in_range
 all_in_range [] = refl
 all_in_range (n ∷ ns) =
     and_both
-    (either (get_or ANSWERS (n % with_derr) nine_zeros) (ltb n with_derr) (all_get in_range ANSWERS nine_zeros (n % with_derr) zeros_in_range rows_in_range))
+    (on_either (ltb (n % with_derr) first_on_dat) (n / with_derr % 2) (get_or answers (n % with_derr) 0) (mod-lt (n / with_derr) (omega arith))
+    (all_get_d word_in_range answers (n % with_derr) zero_in_range words_in_range))
     (all_in_range ns)
-  where
-    either : (row : List ℕ) (b : Bool) → in_range row ≡ true → below (row ++ (cond b OK DERR ∷ [])) 0 (answer_limits issue_e) ≡ true
-    either row true h = one_of (λ error. below (row ++ (error ∷ [])) 0 (answer_limits issue_e)) OK (OK ∷ DERR ∷ []) refl h
-    either row false h = one_of (λ error. below (row ++ (error ∷ [])) 0 (answer_limits issue_e)) DERR (OK ∷ DERR ∷ []) refl h
 
 -- a test that follows from the other two
 added_test : (n p b : Bool) → (n && p ≡ true → b ≡ true) → n && p ≡ p && (n && b)
@@ -120,5 +135,5 @@ table_right q h = same_members (answers_in (span_of q)) (answers_to issue_e q) a
     members a =
         of_rows a
         ∙ added_test (eqb (length a) answer_length) (permits q a) (below a 0 (answer_limits issue_e))
-        (λ k. all_member (λ x. below x 0 (answer_limits issue_e)) (answers_in (span_of q)) a (all_in_range (take (span_of q).1 (drop (span_of q).0 NUMBERS))) (of_rows a ∙ k))
+        (λ k. all_member (λ x. below x 0 (answer_limits issue_e)) (answers_in (span_of q)) a (all_in_range (take (span_of q % 64) (drop (span_of q / 64) numbers))) (of_rows a ∙ k))
         ∙ sym (answers_members q a)

@@ -2,4 +2,5 @@ pub mod Answers
 pub mod Ascending
 pub mod Listed
 pub mod Given
+pub mod Table
 pub mod Code

@@ -1,12 +1,13 @@
 // Every answer that a cache could have given to a snoop, listed (definition 11).
 #![tactic(auto)]
 
-ghost use Rattle.std.specs.Prelude.{◌*◌, ◌≤◌, ◌≡◌, ◌++◌, All, map, length, get_or, drop, ◌<◌};
+ghost use Rattle.std.specs.Prelude.{ℕ, ◌*◌, ◌/◌, ◌%◌, ◌<◌, ◌≤◌, ◌≡◌, cond, [], ◌∷◌, ◌++◌, All, map, ltb, length, get_or, drop};
+ghost use Rattle.kinds.specs.Codes.{RSP, DAT};
 ghost use Rattle.kinds.specs.Refusals.{number_of};
 ghost use Rattle.event.specs.Refusals.{issue_e};
 ghost use Rattle.answers.specs.Listed.{answer_length, most_answers, joined, fault_of, in_numbers, list_left, listed};
-ghost use Rattle.answers.specs.Code.{number_of_tables, tables_of, context_of, span_of, IsAnswer, nine_zeros, answer_at};
-ghost use Rattle.answers.specs.declared.table.TheConstants.{ANSWERS};
+ghost use Rattle.answers.specs.Code.{number_of_tables, tables_of, context_of, span_of, ten_of, IsAnswer, answer_at};
+ghost use Rattle.answers.specs.Table.{answers, answer_count, first_on_dat};
 
 use kinds::{LineState, Refusal, Request, RespErr, TagState};
 
@@ -92,23 +93,25 @@ fn context(q: Question) -> usize
     let tables = tables_for(q.request, q.excl) as usize;
     let dirty = usize::from(q.tag == TagState::DIRTY);
     let snoop = (tables * 2 + q.ret_to_src as usize) * 2 + q.do_not_go_to_sd as usize;
-    (snoop * 2 + dirty) * 7 + q.before.0 as usize
+    (snoop * 2 + dirty) * 8 + q.before.0 as usize
 }
 
 // Where the list of a question that is not refused starts among the numbers, and how many answers it has.
 fn span(q: Question) -> (usize, usize)
     requires { fault_of issue_e q ≡ 0 }
-    ensures { result ≡ span_of q }
+    ensures start { result.0 ≡ span_of q / 64 }
+    ensures count { result.1 ≡ span_of q % 64 }
 {
     let list = table::LISTS[context(q)];
     let (start, count) = table::SPANS[list as usize];
     (start as usize, count as usize)
 }
 
-// The bytes of an answer of the table.
+// The bytes of an answer of the table, all but the error field of its forwarded data.
 fn row(answer: u8) -> [u8; FORWARDED_ERR]
-    requires { answer < length ANSWERS }
-    ensures { result ≡ get_or ANSWERS answer nine_zeros }
+    requires { answer < answer_count }
+    ensures { (error : ℕ) → result ++ error ∷ []
+        ≡ ten_of (cond (ltb answer first_on_dat) RSP DAT) (get_or answers answer 0) error }
 {
     table::ANSWERS[answer as usize]
 }

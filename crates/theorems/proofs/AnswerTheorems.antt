@@ -27,6 +27,7 @@ use Rattle.theorems.specs.Alone.{set_from}
 use Rattle.theorems.specs.Listing.{InRange, is_listed, nderr_answer, no_such_tags, longest_question}
 -- their proofs
 use Rattle.kinds.proofs.Lists.{and_left, and_right, and_both}
+use Rattle.answers.specs.Table.{spans}
 use Rattle.answers.specs.Code.{span_of}
 use Rattle.answers.proofs.Laws.{same_numbers}
 use Rattle.answers.proofs.Ascending.{not_itself, ascending_at}
@@ -93,7 +94,7 @@ pub longest_good : Good issue_e longest_question
 longest_good = record { in_range = refl; known = refl }
 
 pub longest : length (answers_to issue_e longest_question) ≡ most_answers
-unfolding span_of
+unfolding span_of spans
 longest = list_length longest_question (good_fault longest_question longest_good)
 
 -- So 9 is never met with a room of 570 bytes.

@@ -21,6 +21,7 @@ use Rattle.answers.specs.declared.Question.{Question}
 use Rattle.answers.specs.Answers.{question_bytes, event_with, answer_limits, answers_to}
 use Rattle.answers.specs.Listed.{asking}
 use Rattle.answers.specs.Given.{Good}
+use Rattle.answers.specs.Table.{spans, numbers}
 use Rattle.answers.specs.Code.{span_of, answer_at, answers_in}
 use Rattle.answers.proofs.Lists.{questions, question_at, every_question, table_right}
 use Rattle.answers.proofs.Given.{good_fault}
@@ -131,7 +132,7 @@ with_nderr : Question → Bool
 with_nderr q = cond (no_such_tags q) (eqb (length (answers_in (span_of q))) 0) (any (same nderr_answer) (answers_in (span_of q)))
 
 all_with_nderr : all (λ b. with_nderr (question_at b)) questions ≡ true
-unfolding with_nderr questions span_of answer_at answers_in
+unfolding with_nderr questions spans numbers span_of answer_at answers_in
 all_with_nderr = refl
 
 pub nderr_test : (q : Question) → Good issue_e q → cond (no_such_tags q) (eqb (length (answers_to issue_e q)) 0) (any (same nderr_answer) (answers_to issue_e q)) ≡ true
