@@ -23,6 +23,17 @@ same_truth true false f g = sym (f refl)
 same_truth false true f g = g refl
 same_truth false false f g = refl
 
+-- the two tests say the same
+abbrev pub agree : Bool → Bool → Bool
+agree true b = b
+agree false b = not b
+
+-- then they are equal
+pub agree_same : (a b : Bool) → agree a b ≡ true → a ≡ b
+agree_same true b h = sym h
+agree_same false true h = h
+agree_same false false h = refl
+
 -- `&&` and `||` from their two sides, and back
 pub and_left : (a b : Bool) → a && b ≡ true → a ≡ true
 and_left true b h = refl
