@@ -98,13 +98,13 @@ fn lengths_fit(trace: Trace, table: &[u8], verdicts: &[u8], duties: &[u8], after
         verdicts.now duties.now afters.now) }
 {
     let n = trace.events.len() / EVENT_BYTES;
-    (trace.events.len() % EVENT_BYTES == 0)
-        & (n <= MOST_EVENTS)
-        & (table.len() <= MOST_PAIRS)
-        & (trace.pairs.len() == n)
-        & (verdicts.len() == n)
-        & (duties.len() == n)
-        & (afters.len() == n)
+    trace.events.len() % EVENT_BYTES == 0
+        && n <= MOST_EVENTS
+        && table.len() <= MOST_PAIRS
+        && trace.pairs.len() == n
+        && verdicts.len() == n
+        && duties.len() == n
+        && afters.len() == n
 }
 
 // The top bit of each of eight bytes: no set up to 127 has it.
