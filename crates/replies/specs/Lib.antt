@@ -1,3 +1,4 @@
 pub mod Laid
 pub mod Replies
 pub mod Code
+pub mod Page

@@ -36,6 +36,8 @@ struct Page<'a> {
 }
 
 impl<'a> Page<'a> {
+    ghost use Rattle.replies.specs.Page.{page};
+
     // Whether so many more bytes fit.
     fn has_room(&self, count: usize) -> bool
         ensures { IsTrue result ↔ (self.now.at + count ≤ length self.now.out.now) }
@@ -49,7 +51,7 @@ impl<'a> Page<'a> {
     fn lay(&mut self, text: &[u8])
         requires { self.old.at + length text.now ≤ length self.old.out.now }
         ensures same_buffer { self.new.out.ghost_name ≡ self.old.out.ghost_name }
-        ensures written { laid self.new.at self.new.out.now ≡ lay (laid self.old.at self.old.out.now) text.now }
+        ensures written { page self.new ≡ lay (page self.old) text.now }
     {
         let end = self.at + text.len();
         self.out[self.at..end].copy_from_slice(text);
@@ -59,7 +61,7 @@ impl<'a> Page<'a> {
     // Writes a text. One that does not fit is left out.
     fn put(&mut self, text: &[u8])
         ensures same_buffer { self.new.out.ghost_name ≡ self.old.out.ghost_name }
-        ensures written { laid self.new.at self.new.out.now ≡ lay (laid self.old.at self.old.out.now) text.now }
+        ensures written { page self.new ≡ lay (page self.old) text.now }
     {
         if self.has_room(text.len()) {
             self.lay(text);
@@ -69,7 +71,7 @@ impl<'a> Page<'a> {
     // Writes a number in decimal.
     fn put_number(&mut self, n: u64)
         ensures same_buffer { self.new.out.ghost_name ≡ self.old.out.ghost_name }
-        ensures written { laid self.new.at self.new.out.now ≡ lay (laid self.old.at self.old.out.now) (decimal_text n) }
+        ensures written { page self.new ≡ lay (page self.old) (decimal_text n) }
     {
         let mut digits = [ZERO; 20];
         let mut first = 19;
@@ -87,8 +89,8 @@ impl<'a> Page<'a> {
     #[tactic(auto, unfolding(crate::specs::Replies::verdict_text))]
     fn put_verdict(&mut self, verdict: Verdict)
         ensures same_buffer { self.new.out.ghost_name ≡ self.old.out.ghost_name }
-        ensures written { laid self.new.at self.new.out.now ≡
-            lay (laid self.old.at self.old.out.now) (comma ∷ verdict_text verdict.0 ++ comma ∷ []) }
+        ensures written { page self.new ≡
+            lay (page self.old) (comma ∷ verdict_text verdict.0 ++ comma ∷ []) }
     {
         self.put(match verdict {
             Verdict::EXPLAINED => b",explained,",
@@ -102,7 +104,7 @@ impl<'a> Page<'a> {
     #[tactic(auto, unfolding(crate::specs::Replies::duty_text))]
     fn put_duty(&mut self, duty: Duty)
         ensures same_buffer { self.new.out.ghost_name ≡ self.old.out.ghost_name }
-        ensures written { laid self.new.at self.new.out.now ≡ lay (laid self.old.at self.old.out.now) (duty_text duty.0 ++ comma ∷ []) }
+        ensures written { page self.new ≡ lay (page self.old) (duty_text duty.0 ++ comma ∷ []) }
     {
         self.put(match duty {
             Duty::NONE => b"none,",
@@ -119,8 +121,8 @@ impl<'a> Page<'a> {
         requires is_state { state.0 < 7 }
         requires is_spaced { spaced.now ≡ space ∷ drop 1 spaced.now }
         ensures same_buffer { self.new.out.ghost_name ≡ self.old.out.ghost_name }
-        ensures written { laid self.new.at self.new.out.now ≡
-            lay (laid self.old.at self.old.out.now) (state_text states state.0 (drop 1 spaced.now)) }
+        ensures written { page self.new ≡
+            lay (page self.old) (state_text states state.0 (drop 1 spaced.now)) }
     {
         if sets::has(states, state) {
             if states % (1 << state.0) == 0 {
@@ -134,7 +136,7 @@ impl<'a> Page<'a> {
     // Writes the names of the states of a set, with spaces between them.
     fn put_states(&mut self, states: u8)
         ensures same_buffer { self.new.out.ghost_name ≡ self.old.out.ghost_name }
-        ensures written { laid self.new.at self.new.out.now ≡ lay_all (laid self.old.at self.old.out.now) (states_texts states) }
+        ensures written { page self.new ≡ lay_all (page self.old) (states_texts states) }
     {
         for (state, spaced) in STATES {
             self.put_state(states, state, spaced);
@@ -146,7 +148,7 @@ impl<'a> Page<'a> {
         requires few_digits { n < 100 }
         requires has_room { self.old.at + 2 ≤ length self.old.out.now }
         ensures same_buffer { self.new.out.ghost_name ≡ self.old.out.ghost_name }
-        ensures written { laid self.new.at self.new.out.now ≡ lay (laid self.old.at self.old.out.now) (two_digits n) }
+        ensures written { page self.new ≡ lay (page self.old) (two_digits n) }
     {
         self.lay(&[ZERO + (n / 10) as u8, ZERO + (n % 10) as u8]);
     }
@@ -156,7 +158,7 @@ impl<'a> Page<'a> {
         requires few_digits { n < 100 }
         requires has_room { self.old.at + 2 ≤ length self.old.out.now }
         ensures same_buffer { self.new.out.ghost_name ≡ self.old.out.ghost_name }
-        ensures written { laid self.new.at self.new.out.now ≡ lay (laid self.old.at self.old.out.now) (decimal_text n) }
+        ensures written { page self.new ≡ lay (page self.old) (decimal_text n) }
     {
         if n < 10 {
             self.lay(&[ZERO + n as u8]);
@@ -166,12 +168,12 @@ impl<'a> Page<'a> {
     }
 
     // Writes a number below ten thousand in decimal.
-    // Stays: its twin below is one step longer, and a constant parameter can be no quotient of another.
+    // Stays: one function for this and the next would take its bound and its room as constants, which cannot be computed from each other.
     fn lay_upto_four(&mut self, n: u32)
         requires few_digits { n < 10000 }
         requires has_room { self.old.at + 4 ≤ length self.old.out.now }
         ensures same_buffer { self.new.out.ghost_name ≡ self.old.out.ghost_name }
-        ensures written { laid self.new.at self.new.out.now ≡ lay (laid self.old.at self.old.out.now) (decimal_text n) }
+        ensures written { page self.new ≡ lay (page self.old) (decimal_text n) }
     {
         if n < 100 {
             self.lay_upto_two(n);
@@ -186,7 +188,7 @@ impl<'a> Page<'a> {
         requires few_digits { n < 1000000 }
         requires has_room { self.old.at + 6 ≤ length self.old.out.now }
         ensures same_buffer { self.new.out.ghost_name ≡ self.old.out.ghost_name }
-        ensures written { laid self.new.at self.new.out.now ≡ lay (laid self.old.at self.old.out.now) (decimal_text n) }
+        ensures written { page self.new ≡ lay (page self.old) (decimal_text n) }
     {
         if n < 10_000 {
             self.lay_upto_four(n);
@@ -201,7 +203,7 @@ impl<'a> Page<'a> {
     fn lay_explained(&mut self, duty: Duty)
         requires { self.old.at + 21 ≤ length self.old.out.now }
         ensures same_buffer { self.new.out.ghost_name ≡ self.old.out.ghost_name }
-        ensures written { laid self.new.at self.new.out.now ≡ lay (laid self.old.at self.old.out.now) (explained_text duty.0) }
+        ensures written { page self.new ≡ lay (page self.old) (explained_text duty.0) }
     {
         self.lay(match duty {
             Duty::NONE => b",explained,none,",
@@ -216,7 +218,7 @@ impl<'a> Page<'a> {
     // Writes the names of the states of a set and the end of the line, each part where it fits.
     fn put_last(&mut self, states: u8)
         ensures same_buffer { self.new.out.ghost_name ≡ self.old.out.ghost_name }
-        ensures written { laid self.new.at self.new.out.now ≡ lay_all (laid self.old.at self.old.out.now) (last_texts states) }
+        ensures written { page self.new ≡ lay_all (page self.old) (last_texts states) }
     {
         self.put_states(states);
         self.put(b"\r\n");
@@ -226,7 +228,7 @@ impl<'a> Page<'a> {
     fn lay_states(&mut self, states: u8)
         requires { self.old.at + 6 ≤ length self.old.out.now }
         ensures same_buffer { self.new.out.ghost_name ≡ self.old.out.ghost_name }
-        ensures written { laid self.new.at self.new.out.now ≡ lay_all (laid self.old.at self.old.out.now) (last_texts states) }
+        ensures written { page self.new ≡ lay_all (page self.old) (last_texts states) }
     {
         match states {
             1 => self.lay(b"I\r\n"),
@@ -240,7 +242,7 @@ impl<'a> Page<'a> {
     // Writes what stands behind the number in an event's output line, each part where it fits.
     fn put_judged(&mut self, found: Finding)
         ensures same_buffer { self.new.out.ghost_name ≡ self.old.out.ghost_name }
-        ensures written { laid self.new.at self.new.out.now ≡ lay_all (laid self.old.at self.old.out.now) (judged_texts found) }
+        ensures written { page self.new ≡ lay_all (page self.old) (judged_texts found) }
     {
         self.put_verdict(found.verdict);
         self.put_duty(found.duty);
@@ -251,7 +253,7 @@ impl<'a> Page<'a> {
     fn lay_judged(&mut self, found: Finding)
         requires { self.old.at + 58 ≤ length self.old.out.now }
         ensures same_buffer { self.new.out.ghost_name ≡ self.old.out.ghost_name }
-        ensures written { laid self.new.at self.new.out.now ≡ lay_all (laid self.old.at self.old.out.now) (judged_texts found) }
+        ensures written { page self.new ≡ lay_all (page self.old) (judged_texts found) }
     {
         match (found.verdict, found.duty, found.after) {
             (Verdict::EXPLAINED, duty, states) => {

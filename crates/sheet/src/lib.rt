@@ -38,6 +38,7 @@ pub struct Carried {
 
 // The result of a turn: what is kept, how many bytes of the output buffer to write now, whether to read before the next turn, and
 // whether the run is over.
+// Stays: the definition `Turns` reads its flags.
 #[derive(Clone, Copy)]
 pub struct Turned {
     pub carried: Carried,
@@ -48,6 +49,7 @@ pub struct Turned {
 
 // What was done with a piece: how many of its bytes are taken, how many bytes are put into the output buffer, how many lines are taken
 // so far, and whether the run goes on.
+// Stays: `Carried` keeps the flag.
 #[derive(Clone, Copy)]
 struct Eaten {
     taken: usize,
