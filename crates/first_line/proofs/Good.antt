@@ -1,6 +1,6 @@
 -- A line whose fields are all met in place: it is the first line of the text, and the general way reads the same codes.
 -- Assumes nothing.
-use Rattle.std.proofs.Common.{Some}
+use Rattle.std.proofs.Common.{Some, Result}
 use mathlib.Core.Path.{◌≡◌, refl, sym, ◌∙◌, ap, ap₂, subst}
 use mathlib.Core.Bool.{Bool, true, false, cond, not, ◌&&◌, ◌||◌}
 use mathlib.Core.List.{List, [], ◌∷◌, ◌++◌, append_assoc}
@@ -24,8 +24,11 @@ use Rattle.parser.specs.declared.Taken.{Taken}
 use Rattle.parser.specs.declared.Codes.{Codes}
 use Rattle.parser.specs.Parsed.{Parsed, codes_of, known, dashes_agree, well_formed, refused_parse, parsed}
 use Rattle.parser.specs.Code.{line_of}
-use Rattle.parser.proofs.Events.{line_well}
-use Rattle.first_line.specs.First.{First, line_to, first_line}
+use Rattle.parser.proofs.Events.{line_well, same_numbers}
+use Rattle.parser.specs.declared.Line.{Line}
+use Rattle.kinds.specs.declared.Refusal.{Refusal}
+use Rattle.first_line.specs.First.{First, first_in_numbers, line_to, first_line}
+use Rattle.first_line.specs.declared.FirstLine.{FirstLine}
 use Rattle.first_line.specs.InPlace.{plain, Met, Takes, MetAll, last, more, no_cr, Leads}
 
 -- a field that is taken stands first, with the others behind it; the last one stands with CR LF
@@ -184,3 +187,9 @@ any_first asked ended text {line} {end} {whole} e w p =
 pub end_inside : (text : List ℕ) {end : ℕ} → end ≡ line_end text 0 → end ≤ length text
 unfolding line_end
 end_inside text e = subst (λ (n : ℕ). n ≤ length text) (sym (e ∙ zero-add (reach too_long text))) (reach_within too_long text)
+
+-- NO TWO RESULTS HAVE THE SAME NUMBERS
+pub same_first : (f g : FirstLine) → first_in_numbers f ≡ first_in_numbers g → f ≡ g
+same_first f g h =
+    ap (λ (l : Result Line Refusal). record { line = l; end = f.end; whole = f.whole }) (same_numbers f.line g.line (ap (λ (p : First). p.line) h))
+    ∙ ap (λ (p : First). record { line = g.line; end = p.end; whole = p.whole }) h
