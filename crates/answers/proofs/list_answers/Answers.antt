@@ -1,10 +1,11 @@
 -- `answers::list_answers` meets its contract: refused with 4 or 5 at the `?`, with 9 at the `return`, accepted at the end.
-use mathlib.Core.Path.{◌≡◌, sym, ap}
+use mathlib.Core.Path.{◌≡◌, sym, ap₂}
+use mathlib.Core.List.{List}
 use native.Mathlib.Omega.{arith}
 use Prim.Native.Nat.{◌+◌, ◌-◌, ◌≤◌}
 use Rattle.std.proofs.Common.{rules, Err, ℕ, take, drop}
 use Rattle.answers.specs.Table.{numbers}
-use Rattle.answers.proofs.Laws.{numbers_of_answers}
+use Rattle.answers.proofs.Laws.{numbers_there, numbers_of_answers}
 use Rattle.answers.proofs.Whole.{refused_question, short_room, fitting, accepted_question}
 use Rattle.answers.proofs.list_answers.Goals as goal
 
@@ -42,10 +43,9 @@ put_answers-requires-clause-in_table c =
     numbers_of_answers start (start + c.span-start.result.1 - start)
 
 pub returns : goal.returns
-unfolding numbers
 returns c =
     let start = c.span-start.result.0 in
     let count = c.span-start.result.1 in
     let many : start + count - start ≡ count = omega arith in
     accepted_question c.args.question c.args.room.now c.span-start.result.0 c.span-start.result.1 (sym c.in_ok-fault.ensures) c.span-start.ensures.start c.span-start.ensures.count _ _ c.if-room-count.false
-    (ap (λ (n : ℕ). take n (drop start numbers)) many) c.put_answers.ensures
+    (ap₂ (λ (n : ℕ) (l : List ℕ). take n (drop start l)) many numbers_there) c.put_answers.ensures
