@@ -8,7 +8,7 @@ use Prim.Native.Nat.{ℕ, suc, ◌+◌, ◌-◌, ◌*◌, ◌^◌, ◌<◌, ◌�
 use native.Mathlib.Numerals.{add-one}
 use native.Mathlib.Nat.{pow-suc}
 use native.Mathlib.Omega.{arith}
-use borrow.Author.Tests.{ne_eqb, le-leb, lt-ltb, ltb-true, leb-true, not-false}
+use borrow.Author.Tests.{ne_eqb, le-leb, lt-ltb, ltb-true}
 use lib.Dec.{eqb, leb, ltb}
 use lib.ListN.{length, get_or, drop, drop_of_length-le}
 use lib.Seq.{drop-cons}
@@ -49,10 +49,7 @@ pub record Read (f : List ℕ) (v i : ℕ) : Type 0 where
   pub small : v < 10 ^ i
   pub rest : number_in v (drop i f) ≡ number_in 0 f
 
--- a digit is a byte from 48 to 57
-pub digit_high : (d : ℕ) → not (is_digit d) ≡ false → d ≤ 57
-digit_high d h = leb-true d 57 (and_right (leb 48 d) (leb d 57) (not-false (is_digit d) h))
-
+-- one more digit keeps a number below the next power of ten
 one_more : (p v d : ℕ) → v < p → d ≤ 57 → v * 10 + (d - 48) < p * 10
 one_more p v d h k = omega arith
 

@@ -11,9 +11,6 @@ use kinds::{Answer, Forward, FwdState, LineState, Request, Resp, RespErr, TagOp,
 
 pub mod columns;
 
-// Sentinel for a field that its column does not know. No code is as high.
-pub const UNKNOWN: u32 = 4294967295;
-
 // The most digits of a pair number.
 pub const MOST_DIGITS: usize = 5;
 

@@ -1,4 +1,4 @@
--- What functions compute on the way to a parsed line. The claims of `gathered` and `line_of` name this file, and no other public claim.
+-- What functions compute on the way to a parsed line. The claim of `line_of` names this file, and no other public claim.
 use Rattle.std.specs.Prelude.{ℕ, ◌+◌, ◌-◌, ◌%◌, cond, List, [], ◌∷◌, Option, Some, None, map, leb, ltb, length, take, drop}
 use Rattle.kinds.specs.Tests.{all}
 use Rattle.kinds.specs.Places.{highest_pair}
@@ -19,13 +19,6 @@ taken_by column line at =
 -- the same for the column with this number
 unfoldable pub taken_at : ℕ → List ℕ → ℕ → Taken
 taken_at number line at = taken_by (in_column number) line at
-
--- the codes of twelve fields, and the offset behind the last one
-abbrev pub gathered_of : Taken → Taken → Taken → Taken → Taken → Taken → Taken → Taken → Taken → Taken → Taken → Taken → Codes
-gathered_of a b c d e f g h i j k l = record {
-  codes = a.code ∷ b.code ∷ c.code ∷ d.code ∷ e.code ∷ f.code ∷ g.code ∷ h.code ∷ i.code ∷ j.code ∷ k.code ∷ l.code ∷ [];
-  end = l.next;
-}
 
 -- a field, if its column knows it
 abbrev pub if_known : Taken → Option Taken

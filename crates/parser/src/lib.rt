@@ -4,7 +4,7 @@
 ghost use Rattle.std.specs.Prelude.{◌≡◌, map};
 ghost use Rattle.names.specs.Names.{columns};
 ghost use Rattle.parser.specs.Parsed.{dashes_agree, event_of, in_numbers, parsed};
-ghost use Rattle.parser.specs.Code.{taken_at, taken_from, if_known, if_all_known, gathered_of, codes_in, as_byte, line_of};
+ghost use Rattle.parser.specs.Code.{taken_at, taken_from, if_known, if_all_known, codes_in, as_byte, line_of};
 
 use kinds::{EVENT_BYTES, Forward, FwdState, HIGHEST_PAIR, PairNumber, Refusal, RespErr};
 use names::columns;
@@ -51,42 +51,6 @@ fn field_at(number: usize, line: &[u8], at: usize) -> Option<Taken>
         code,
         next: end + 1,
     })
-}
-
-// The codes of twelve fields, in their order.
-pub fn gathered(
-    pair: Taken,
-    request: Taken,
-    ret: Taken,
-    sd: Taken,
-    excl: Taken,
-    tag: Taken,
-    response: Taken,
-    op: Taken,
-    error: Taken,
-    forward: Taken,
-    after: Taken,
-    last: Taken,
-) -> Codes
-    ensures { result ≡ gathered_of pair request ret sd excl tag response op error forward after last }
-{
-    Codes {
-        codes: [
-            pair.code,
-            request.code,
-            ret.code,
-            sd.code,
-            excl.code,
-            tag.code,
-            response.code,
-            op.code,
-            error.code,
-            forward.code,
-            after.code,
-            last.code,
-        ],
-        end: last.next,
-    }
 }
 
 // Reads the twelve fields one after another, if each is known in its column.
