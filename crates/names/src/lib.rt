@@ -27,7 +27,8 @@ pub fn is(field: &[u8], name: &[u8]) -> bool
     field == name
 }
 
-// The code of the name that is the field, among names with their codes.
+// The code of the name that is the field, among names with their codes. It is always inlined, so that each column's names are constants.
+#[inline(always)]
 fn code_in(names: &[(&[u8], u8)], field: &[u8]) -> Option<u32>
     ensures { result ≡ code_in (as_names names.now) field.now }
 {
