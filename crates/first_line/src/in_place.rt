@@ -195,6 +195,7 @@ pub fn tag(text: &[u8], at: usize) -> Option<Taken>
 }
 
 // A response behind SnpResp_I_Fwded_.
+// Stays: this and its kin differ in names alone, but the claim of each is about the names that begin as its text does.
 #[tactic(auto, using(crate::proofs::Matching::fields), unfolding(names::specs::Names::code_of, names::specs::Names::response_names, names::specs::Names::responses))]
 fn i_fwded(text: &[u8], at: usize) -> Option<Taken>
     ensures { Takes (bytes "SnpResp_I_Fwded_") (code_of response_names) (comma ∷ []) text.now at result }

@@ -34,6 +34,7 @@ pub fn choose<T: Copy>(test: bool, one: T, other: T) -> T
 }
 
 // The state of a cache line (definition 2.1).
+// Stays: this and the ten other codes are numbers with constants, since the calls take any byte and the form for codes asks for it.
 #[derive(Clone, Copy, PartialEq, Eq)]
 pub struct LineState(pub u8);
 
@@ -222,6 +223,7 @@ impl FwdState {
 }
 
 // What the snoopee forwards to the Requester: data with its state and its own error field, or nothing (definition 2.7).
+// Stays: no Option, since the form for the answer asks for an enum whose cases hold another enum.
 #[derive(Clone, Copy, PartialEq, Eq)]
 pub enum Forward {
     NoForward,
@@ -439,6 +441,7 @@ impl PairNumber {
 }
 
 // The number of an event in its trace, counted from 0.
+// Stays: apart from `PairNumber`, though both have a `put_in`, since the form for the two numbers keeps them from being confused.
 #[derive(Clone, Copy, PartialEq, Eq)]
 pub struct EventNumber(pub u32);
 

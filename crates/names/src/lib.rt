@@ -260,6 +260,7 @@ pub fn answer(place: u8) -> Answer
 }
 
 // The code of a field in the column with this number, if the column knows the field.
+// Stays: a `match`, since a table of functions would have to be built, and columns have numbers in the definition.
 #[tactic(auto, unfolding(crate::specs::Names::in_column, crate::specs::Names::columns))]
 pub fn column(number: usize, field: &[u8]) -> Option<u32>
     ensures { result ≡ known_as (in_column number field.now) }

@@ -76,6 +76,7 @@ impl<'a> Page<'a> {
         let mut digits = [ZERO; 20];
         let mut first = 19;
         let mut rest = n;
+        // Stays: no `for`, since how many digits there are is known when nothing is left of the number.
         while rest > 9 {
             digits[first] = ZERO + (rest % 10) as u8;
             first -= 1;

@@ -37,6 +37,7 @@ fn column(word: u32, place: u32) -> u8
 }
 
 // The table with this number in its column.
+// Stays: no `From`, which only the crate of `Table` could have, and the numbers are those of the words here.
 fn table_of(number: u8) -> Table
     ensures { result ≡ table_at number }
 {
