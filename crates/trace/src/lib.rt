@@ -29,7 +29,7 @@ struct Trace<'a> {
 
 impl<'a> Trace<'a> {
     // The bytes of event k, which are all in the buffer.
-    // Stays: `EventNumber::event_in` tests for bytes that are not there, which the loops over events need not do.
+    // Stays: by `EventNumber::event_in`, which tests for bytes that are not there, a trace takes a third more instructions.
     fn event(self, k: EventNumber) -> &'a [u8]
         requires { Whole self.events.now k.0 }
         ensures { result.now ≡ event_in self.entry.events.now k.0 }
