@@ -1,6 +1,7 @@
 // Takes a field by matching the names of its column where they stand in a text, without a search for the field's end (definition 8.4).
 // A name is matched with its comma, in the last column with its CR LF, up to eight bytes at a time; a match gives the offset behind it.
 // What is not matched is not taken here.
+// Stays: a text and an offset as parameters, as the form for what reads fields has it.
 ghost use Rattle.std.specs.Prelude.{◌+◌, ◌≤◌, ◌%◌, ◌^◌, ◌≡◌, [], ◌∷◌, ◌++◌, leb, length};
 ghost use Rattle.text.specs.Text.{bytes, comma, eol};
 ghost use Rattle.names.specs.Names.{code_of, pair_of, request_names, flag_names, tag_names, response_names, tag_op_names, resp_err_names};

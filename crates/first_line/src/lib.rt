@@ -17,6 +17,7 @@ mod in_place;
 const WINDOW: usize = LONGEST + 2;
 
 // The first line of a text: parsed, the offset at which it ends, and whether its CR LF is there.
+// Stays: a flag, since the offset is there in either case.
 #[derive(Clone, Copy, PartialEq, Eq)]
 pub struct FirstLine {
     pub line: Result<Line, Refusal>,

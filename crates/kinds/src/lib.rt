@@ -215,6 +215,7 @@ impl FwdState {
     pub const SD_PD: FwdState = FwdState(7);
 
     // Whether it carries PD (Pass Dirty).
+    // Stays: apart from that of `Resp`, since the codes that carry PD are others.
     pub fn passes_dirty(self) -> bool
         ensures { result ≡ fwd_pd self.0 }
     {

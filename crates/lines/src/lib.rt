@@ -44,6 +44,7 @@ fn next_cr(text: &[u8], start: usize, last: usize) -> usize
 }
 
 // The offset at which a line ends: at its CR LF, where it is certainly too long, or at the end of the text.
+// Stays: a text and an offset as parameters, as the form for what reads fields has it; and a loop from CR to CR, which counts nothing.
 pub fn line_end(text: &[u8], start: usize) -> usize
     ensures { result ≡ line_end text.now start }
 {

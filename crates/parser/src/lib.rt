@@ -39,6 +39,7 @@ pub struct Codes {
 }
 
 // Reads the field at an offset in the column with this number; none past the end of the line, or if the column does not know the field.
+// Stays: a line and an offset as parameters, as the form for what reads fields has it.
 fn field_at(number: usize, line: &[u8], at: usize) -> Option<Taken>
     ensures { result ≡ if_known (taken_at number line.now at) }
 {
@@ -74,6 +75,7 @@ fn take_all(line: &[u8]) -> Option<Codes>
 pub fn dashes_agree(codes: [u32; COLUMNS]) -> bool
     ensures { result ≡ dashes_agree codes }
 {
+    // Stays: compared as numbers, which the codes of all columns are here.
     let no_forward = codes[columns::FORWARD] == FwdState::NONE.0 as u32;
     let no_error = codes[columns::FWD_ERR] == names::NO_FWD_ERR as u32;
     no_forward == no_error

@@ -102,6 +102,7 @@ impl<'a> Page<'a> {
     }
 
     // Writes a duty's name and a comma; `unknown` for a code without a name.
+    // Stays: apart from `lay_explained`, whose texts have the verdict too, so that both are written at once.
     #[tactic(auto, unfolding(crate::specs::Replies::duty_text))]
     fn put_duty(&mut self, duty: Duty)
         ensures same_buffer { self.new.out.ghost_name ≡ self.old.out.ghost_name }
@@ -269,6 +270,7 @@ impl<'a> Page<'a> {
 }
 
 // Writes a text at an offset, and returns the offset behind it. A text that does not fit is left out.
+// Stays: this and the three below have the buffer and the offset as parameters, since they promise it to any caller.
 pub fn put(out: &mut [u8], at: usize, text: &[u8]) -> usize
     ensures { laid result out.new ≡ lay (laid at out.old) text.now }
 {

@@ -115,6 +115,7 @@ fn ok_or_derr(answer: Answer, error: RespErr) -> bool
 }
 
 // The error field of forwarded data: OK or DERR; without a forward 0 (definition 5.13).
+// Stays: 0 and not OK, since without a forward there is no error field that could be OK.
 fn on_forward(answer: Answer, error: RespErr) -> bool
     ensures { result ≡ error.0 ∈? on_forward answer }
 {

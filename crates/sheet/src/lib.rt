@@ -67,6 +67,7 @@ struct Next {
 }
 
 // Writes the line of a refusal, and returns the offset behind it.
+// Stays: a buffer and an offset as parameters here and below, as `replies` takes them.
 fn refuse(refusal: Refusal, lines: u32, out: &mut [u8], at: usize) -> usize
     requires { Roomy out.old at }
     ensures { Writes (refused_line (refusal_number refusal) (lines + 1)) out.old at result out.new }

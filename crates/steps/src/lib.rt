@@ -18,6 +18,7 @@ use rows::Table;
 mod printed;
 
 // A row: `ret` is RetToSrc or X, `finals` is the set of states after, and `marked` is the star (definition 5.1, 5.7).
+// Stays: a flag, since a row with the star has the same columns as one without.
 #[derive(Clone, Copy)]
 pub struct Row {
     pub table: Table,

@@ -166,6 +166,7 @@ fn outcome_of(
 
 // Judges a whole trace. An accepted trace leaves the table of sets at the end, and a verdict, a duty byte and an after-set for each event
 // (definition 3.4). A refused trace leaves all buffers as they were (definition 3.5).
+// Stays: six buffers one by one, as C hands them over.
 pub fn judge_trace(
     events: &[u8],
     pairs: &[u16],

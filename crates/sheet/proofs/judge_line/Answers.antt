@@ -27,8 +27,8 @@ pub returns-then-lines-gt-MOST_LINES : goal.returns-then-lines-gt-MOST_LINES
 returns-then-lines-gt-MOST_LINES c = record {
   told_so =
       elim c.then-lines-gt-MOST_LINES.either [
-        inl many ↦ line_too_many c.args.lines c.args.line.now c.args.table.now c.if-lines-eq0.false many
-      | inr long ↦ line_too_long c.args.lines c.args.line.now c.args.table.now c.if-lines-eq0.false long.0 long.1
+        | inl many ↦ line_too_many c.args.lines c.args.line.now c.args.table.now c.if-lines-eq0.false many
+        | inr long ↦ line_too_long c.args.lines c.args.line.now c.args.table.now c.if-lines-eq0.false long.0 long.1
       ];
   out_so = refl;
   table_so = refl;
