@@ -166,7 +166,6 @@ fn prefer_unique(text: &[u8], at: usize) -> Option<Taken>
 }
 
 // The request.
-#[tactic(auto, using(crate::proofs::Matching::fields), unfolding(names::specs::Names::code_of, names::specs::Names::request_names))]
 pub fn request(text: &[u8], at: usize) -> Option<Taken>
     ensures { Takes [] (code_of request_names) (comma ∷ []) text.now at result }
 {
@@ -260,7 +259,6 @@ fn sc_pd(text: &[u8], at: usize) -> Option<Taken>
 }
 
 // A response behind SnpRespD.
-#[tactic(auto, using(crate::proofs::Matching::fields), unfolding(names::specs::Names::code_of, names::specs::Names::response_names, names::specs::Names::responses))]
 fn with_data(text: &[u8], at: usize) -> Option<Taken>
     ensures { Takes (bytes "SnpRespD") (code_of response_names) (comma ∷ []) text.now at result }
 {
