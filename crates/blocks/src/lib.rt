@@ -12,6 +12,7 @@ pub fn read_full<R: Read>(input: &mut R, buffer: &mut [u8]) -> usize
     ensures bytes { Consumes (R.remaining input.old) (R.remaining input.new) (take result buffer.new) }
 {
     let mut done = 0;
+    // Stays: no `for`, since each read decides how far it goes.
     while done < buffer.len() {
         match input.read(&mut buffer[done..]) {
             Ok(0) | Err(_) => break,

@@ -56,6 +56,7 @@ fn read_lengths(mut stdin: Stdin) -> Option<Lengths> {
 }
 
 // Reads a buffer of a case; none if it is cut off, or too long for the room.
+// Stays: a length beside the room, since a case says it, and may say more than there is room for.
 fn read_part(mut stdin: Stdin, room: &mut [u8], len: usize) -> Option<&mut [u8]> {
     let part = room.get_mut(..len)?;
     if blocks::read_full(&mut stdin, part) < len {

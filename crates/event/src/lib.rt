@@ -71,7 +71,7 @@ fn duties_alone(event: &[u8], sets: [u8; 7]) -> [u8; 7]
 {
     let dirty = steps::duty(event, 1 << LineState::UD.0);
     let clean = steps::duty(event, 1 << LineState::I.0);
-    // Stays: a line for each state shows what a closure over their numbers would have to work out.
+    // Stays: a line for each state, since the proof of an array made by a closure didn't close.
     [
         duty_from(clean, sets[0]),
         duty_from(clean, sets[1]),

@@ -16,6 +16,7 @@ use parser::Taken;
 const WORD: usize = 8;
 
 // Digits, and the number that they stand for.
+// Stays: none is a count of 0, since `pair` asks for the count in any case.
 #[derive(Clone, Copy)]
 struct Digits {
     count: usize,

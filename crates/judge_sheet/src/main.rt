@@ -34,11 +34,9 @@ fn read_wanted(rt: &HostRuntime, run: Turned, piece: &mut [u8]) -> Result<usize,
         .map_err(|_| Failure::Read)
 }
 
-// Writes the first `put` bytes of the buffer.
-fn write_out(rt: &HostRuntime, out: &[u8], put: usize) -> Result<(), Failure>
-    requires { put ≤ length out.now }
-{
-    rt.write_all(&out[..put]).map_err(|error| {
+// Writes what was put into the output buffer.
+fn write_out(rt: &HostRuntime, put: &[u8]) -> Result<(), Failure> {
+    rt.write_all(put).map_err(|error| {
         if error.kind() == ErrorKind::BrokenPipe {
             Failure::ClosedPipe
         } else {
@@ -53,11 +51,11 @@ fn judge(rt: &HostRuntime) -> Result<(), Failure> {
     let mut table = [0u8; MOST_PAIRS];
     let mut out = [0u8; SIZE];
     let mut run = sheet::begin(&mut table, &mut out);
-    write_out(rt, &out, run.put)?;
+    write_out(rt, &out[..run.put])?;
     for _ in 0..1_000_000_000_000u64 {
         let got = read_wanted(rt, run, &mut piece)?;
         run = sheet::turn(run.carried, got, &mut piece, &mut table, &mut out);
-        write_out(rt, &out, run.put)?;
+        write_out(rt, &out[..run.put])?;
         if run.over {
             return Ok(());
         }

@@ -34,7 +34,7 @@ pub fn choose<T: Copy>(test: bool, one: T, other: T) -> T
 }
 
 // The state of a cache line (definition 2.1).
-// Stays: this and the ten other codes are numbers with constants, since the calls take any byte and the form for codes asks for it.
+// Stays: this and the ten other codes are numbers with constants, as the form for codes has it; most are arguments, where any byte may come.
 #[derive(Clone, Copy, PartialEq, Eq)]
 pub struct LineState(pub u8);
 

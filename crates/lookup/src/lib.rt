@@ -16,6 +16,7 @@ const HALF: u64 = 1 << 32;
 const GATHER: u64 = (1 << 3) + (1 << 10) + (1 << 17) + (1 << 24);
 
 // What the rows say of an event, a byte each, the lowest first: the states before from which it is a step, the states after, the duty.
+// Stays: one number, as `effect_of` in the definition has it.
 #[derive(Clone, Copy, PartialEq, Eq)]
 pub struct Effect(pub u64);
 
@@ -105,7 +106,7 @@ pub fn effect_of(event: &[u8]) -> Effect
 }
 
 // An effect spread over the seven states before: its states after, as far as they were seen, from each state that it has.
-// Stays: seven calls and no closure, since for a map the seven states would stand in a list all the same.
+// Stays: seven calls, since the proof of a map over the states didn't close.
 fn spread(effect: Effect, seen: u8) -> [u8; 7]
     ensures { result ≡ spread effect.0 seen }
 {

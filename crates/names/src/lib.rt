@@ -166,6 +166,7 @@ pub fn forward(field: &[u8]) -> Option<u32>
 }
 
 // The code of `-` in the column fwdErr: no data is forwarded. It is no error field's.
+// Stays: a code and no Option, since the definition `fwd_err_names` has it among the others.
 pub const NO_FWD_ERR: u8 = 4;
 
 // The error field of forwarded data, with the names of RespErr; NO_FWD_ERR for none.
@@ -260,7 +261,7 @@ pub fn answer(place: u8) -> Answer
 }
 
 // The code of a field in the column with this number, if the column knows the field.
-// Stays: a `match`, since a table of functions would have to be built, and columns have numbers in the definition.
+// Stays: a `match`, which says in a line for each column what a table of functions would say.
 #[tactic(auto, unfolding(crate::specs::Names::in_column, crate::specs::Names::columns))]
 pub fn column(number: usize, field: &[u8]) -> Option<u32>
     ensures { result ≡ known_as (in_column number field.now) }

@@ -153,7 +153,7 @@ as_many false m n h = go (eqb m n)
     go true = refl
     go false = refl
 
--- THE CODES OF A LINE: it is well formed exactly when every code is known, the last field ends the line, and the dashes agree
+-- what twelve fields taken one after another say of a line
 module _ (line : List ℕ) where
   all_fields : Codes
   all_fields = taken_from columns line 0
@@ -203,6 +203,17 @@ module _ (line : List ℕ) where
       well_found h =
           ap (λ (u : Codes). Some u.codes) (some_so f).0 ∙ ap Some codes_so
           ∙ ap (λ (b : Bool). cond b (Some (line_codes line)) None) (sym (tests h))
+
+-- THE CODES OF A LINE: what is taken are its fields, and it is well formed exactly when every code is known, the last field ends the line, and
+-- the dashes agree
+pub codes_found : (line : List ℕ) (t : Codes) (k d : Bool) → t ≡ taken_from columns line 0 → k ≡ all known t.codes → d ≡ dashes_agree t.codes
+    → (t.codes ≡ line_codes line) × (k && ltb (length line) t.end && d ≡ well_formed line)
+unfolding all_fields
+codes_found line t k d e h g = (
+  ap (λ (u : Codes). u.codes) e ∙ codes_so line,
+  ap₂ (λ (a b : Bool). a && ltb (length line) t.end && b) h g
+      ∙ ap (λ (u : Codes). all known u.codes && ltb (length line) u.end && dashes_agree u.codes) e ∙ well_so line,
+)
 
 -- codes, and the offset behind their fields
 the_codes : List ℕ → ℕ → Codes

@@ -29,6 +29,7 @@ const STATES: [(LineState, &[u8]); 7] = [
 ];
 
 // A buffer that is being written, and the offset of the next byte.
+// Stays: each method says that the buffer is the same one, since what takes `&mut self` could put another in its place.
 #[derive(Drop)]
 struct Page<'a> {
     out: &'a mut [u8],
@@ -296,6 +297,7 @@ pub fn put_answer(out: &mut [u8], at: usize, event: EventNumber, found: Finding)
 }
 
 // Writes the line that ends a refused run: the refusal number and the bad line (definition 8.7).
+// Stays: a number, which the definition takes of any size.
 #[tactic(auto, unfolding(crate::specs::Replies::refusal_texts))]
 pub fn put_refusal(out: &mut [u8], at: usize, number: u8, line: u64) -> usize
     ensures { laid result out.new ≡ lay_all (laid at out.old) (refusal_texts number line) }

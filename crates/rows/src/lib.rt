@@ -24,6 +24,7 @@ pub enum Table {
 }
 
 // In a RetToSrc or excl column: 0 and 1 both fit.
+// Stays: a number, since `asked` takes any column as one.
 const X: u8 = 2;
 
 // The byte of an event at an offset; 0 past the end.
@@ -115,13 +116,12 @@ fn ok_or_derr(answer: Answer, error: RespErr) -> bool
 }
 
 // The error field of forwarded data: OK or DERR; without a forward 0 (definition 5.13).
-// Stays: 0 and not OK, since without a forward there is no error field that could be OK.
 fn on_forward(answer: Answer, error: RespErr) -> bool
     ensures { result ≡ error.0 ∈? on_forward answer }
 {
     match answer.forward() {
         Forward::CompData(_, _) => matches!(error, RespErr::OK | RespErr::DERR),
-        Forward::NoForward => error.0 == 0,
+        Forward::NoForward => error == RespErr::OK,
     }
 }
 

@@ -153,6 +153,7 @@ fn eat(
     let mut taken = 0;
     let mut put = 0;
     let mut count = lines;
+    // Stays: no `for`, since each line decides where the next begins; `Roomy` in the contracts is what this test has shown.
     while going && ROOM <= out.len() - put {
         // where nothing is left there is no line, but for line 1: an empty input has an empty one
         if taken == piece.len() && 0 < count {

@@ -20,13 +20,13 @@ mod printed;
 // A row: `ret` is RetToSrc or X, `finals` is the set of states after, and `marked` is the star (definition 5.1, 5.7).
 // Stays: a flag, since a row with the star has the same columns as one without.
 #[derive(Clone, Copy)]
-pub struct Row {
-    pub table: Table,
-    pub before: LineState,
-    pub ret: u8,
-    pub answer: Answer,
-    pub finals: u8,
-    pub marked: bool,
+struct Row {
+    table: Table,
+    before: LineState,
+    ret: u8,
+    answer: Answer,
+    finals: u8,
+    marked: bool,
 }
 
 // The column of a word that starts at bit `place`.
@@ -38,7 +38,7 @@ fn column(word: u32, place: u32) -> u8
 }
 
 // The table with this number in its column.
-// Stays: no `From`, which only the crate of `Table` could have, and the numbers are those of the words here.
+// Stays: no `From`, which only the crate of `Table` could have.
 fn table_of(number: u8) -> Table
     ensures { result ≡ table_at number }
 {

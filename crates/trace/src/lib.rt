@@ -75,6 +75,7 @@ impl<'a> Trace<'a> {
         found
     }
 
+    // Stays: the three buffers of answers one by one, since they are read while a trace is tested and written while it is judged.
     // Judges all events, of which none is refused, one after another, and writes what is found for event k at index k.
     fn judge(self, table: &mut [u8], verdicts: &mut [u8], duties: &mut [u8], afters: &mut [u8])
         requires { Ready self.events.now self.pairs.now table.old verdicts.old duties.old afters.old }

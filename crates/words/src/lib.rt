@@ -17,6 +17,7 @@ fn last(bytes: &[u8], at: usize) -> u64
 }
 
 // The four bytes from an offset on; a byte past the end is 0.
+// Stays: byte by byte, as `word_at` below, since with `first_chunk` two goals of each stayed open; each width has its own `from_le_bytes`.
 pub fn half_at(bytes: &[u8], at: usize) -> u64
     ensures { result ≡ half bytes.now at }
 {
