@@ -1,7 +1,7 @@
 -- Laws about the fields of a line read one after another, and about an event's bytes.
 -- Assumes nothing.
 use mathlib.Core.Path.{◌≡◌, refl, sym, ◌∙◌, ap, ap₂, subst}
-use mathlib.Core.Bool.{Bool, true, false, cond, not, ◌&&◌, false≢true, and_assoc}
+use mathlib.Core.Bool.{Bool, true, false, cond, ◌&&◌, false≢true, and_assoc}
 use mathlib.Core.List.{List, [], ◌∷◌, ◌++◌, append_assoc, append-nil, map}
 use Prim.Native.Nat.{ℕ, suc, ◌+◌, ◌-◌, ◌≤◌, ◌<◌}
 use native.Mathlib.Numerals.{add-one}
@@ -20,12 +20,12 @@ use Rattle.kinds.specs.Answers.{wire, forward_wire, forward_error}
 use Rattle.kinds.proofs.Lists.{and_right}
 use Rattle.fields.specs.Fields.{fields_of, fields_from, field_end}
 use Rattle.fields.proofs.Laws.{end_from, end_within, fields_start, fields_none, fields_step}
-use Rattle.names.specs.Names.{unknown, known_as, columns, in_column, answer_at}
+use Rattle.names.specs.Names.{unknown, columns, in_column, answer_at}
 use Rattle.names.specs.Columns.{request_code, ret_to_src_code, do_not_go_to_sd_code, excl_code, tag_code, response_code, tag_op_code, resp_err_code, final_code}
 use Rattle.parser.specs.declared.Taken.{Taken}
 use Rattle.parser.specs.declared.Codes.{Codes}
 use Rattle.parser.specs.Parsed.{codes_of, line_codes, known, dashes_agree, well_formed, sent_of, event_of}
-use Rattle.parser.specs.Code.{taken_by, taken_at, taken_from, if_known, if_all_known, codes_in}
+use Rattle.parser.specs.Code.{end_at, taken_by, taken_at, taken_from, if_known, if_all_known, codes_in}
 
 -- ONE FIELD: within the line, and past its end.
 taken : ℕ → ℕ → Taken
@@ -42,46 +42,15 @@ unfolding taken_by taken
 taken_past column line at h =
     ap (λ b. cond b (taken (column (take (field_end line at - at) (drop at line))) (field_end line at + 1)) (taken unknown at)) (lt-leb at (length line) h)
 
--- what the column makes of a field, if it knows it
-pub field_past : (number : ℕ) (line : List ℕ) (at : ℕ) → length line < at → None ≡ if_known (taken_at number line at)
-unfolding taken_at taken
-field_past number line at h = sym (ap if_known (taken_past (in_column number) line at h))
-
-module _ (number : ℕ) (line : List ℕ) (at end : ℕ) (h : at ≤ length line) (e : end ≡ field_end line at) (r : Option ℕ) where
-  code_at : ℕ
-  code_at = in_column number (take (end - at) (drop at line))
-
-  taken_so : taken code_at (end + 1) ≡ taken_at number line at
-  unfolding taken_at taken code_at
-  taken_so = ap (λ (n : ℕ). taken (in_column number (take (n - at) (drop at line))) (n + 1)) e ∙ sym (taken_here (in_column number) line at h)
-
-  code_known : r ≡ known_as (in_column number (take (end - at) (drop at line))) → {code : ℕ} → r ≡ Some code → (code ≡ code_at) × (known code_at ≡ true)
-  unfolding code_at
-  code_known f {code} g = go (eqb code_at unknown) refl (sym f ∙ g)
-    where
-      go : (b : Bool) → eqb code_at unknown ≡ b → cond b None (Some code_at) ≡ Some code → (code ≡ code_at) × (known code_at ≡ true)
-      go true k l = absurd (cc)
-      go false k l = (cc, ap not k)
-
-  pub field_here : r ≡ known_as (in_column number (take (end - at) (drop at line))) → {code : ℕ} → r ≡ Some code
-      → Some (record { code = code; next = end + 1 }) ≡ if_known (taken_at number line at)
-  unfolding taken code_at
-  field_here f {code} g =
-      let k = code_known f g in
-      ap (λ (c : ℕ). Some (taken c (end + 1))) k.0
-      ∙ sym (ap (λ (b : Bool). cond b (Some (taken code_at (end + 1))) None) k.1)
-      ∙ ap if_known taken_so
-
-  pub field_unknown : r ≡ known_as (in_column number (take (end - at) (drop at line))) → r ≡ None → None ≡ if_known (taken_at number line at)
-  unfolding taken code_at
-  field_unknown f g = go (eqb code_at unknown) refl (sym f ∙ g)
-    where
-      go : (b : Bool) → eqb code_at unknown ≡ b → cond b None (Some code_at) ≡ None → None ≡ if_known (taken_at number line at)
-      go true k l = sym (ap (λ (b : Bool). cond (not b) (Some (taken code_at (end + 1))) None) k) ∙ ap if_known taken_so
-      go false k l = absurd (cc)
-
-pub end_next : (line : List ℕ) (at end : ℕ) → at ≤ length line → end ≡ field_end line at → (at ≤ end) × (end ≤ length line)
-end_next line at end h e = (subst (λ n. at ≤ n) (sym e) (end_from line at), subst (λ n. n ≤ length line) (sym e) (end_within line at h))
+-- where a field ends, if it starts within the line
+pub end_next : (line : List ℕ) (at : ℕ) {r : Option ℕ} {end : ℕ} → r ≡ end_at line at → r ≡ Some end → (at ≤ end) × (end ≤ length line)
+end_next line at {r} {end} e f = go (leb at (length line)) refl (sym e ∙ f)
+  where
+    go : (b : Bool) → leb at (length line) ≡ b → cond b (Some (field_end line at)) None ≡ Some end → (at ≤ end) × (end ≤ length line)
+    go true k l =
+        let same : field_end line at ≡ end = cc in
+        (subst (λ n. at ≤ n) same (end_from line at), subst (λ n. n ≤ length line) same (end_within line at (leb-true at (length line) k)))
+    go false k l = absurd (cc)
 
 -- ALL FIELDS, one after another, for any list of columns
 -- they are the fields from there on; the end is past the line's exactly when there are no more fields than columns
@@ -171,39 +140,6 @@ module _ (line : List ℕ) where
       ∙ as_many (all known (line_codes line)) (length (fields_of line)) (length columns) (none_missing columns (fields_of line)))
       (ap dashes_agree codes_so)
 
-  module _ (r : Option Codes) (e : r ≡ if_all_known (taken_from columns line 0)) where
-    some_so : {t : Codes} → r ≡ Some t → (t ≡ all_fields) × (all known all_fields.codes ≡ true)
-    unfolding all_fields
-    some_so {t} f = go (all known all_fields.codes) refl (sym e ∙ f)
-      where
-        go : (b : Bool) → all known all_fields.codes ≡ b → cond b (Some all_fields) None ≡ Some t → (t ≡ all_fields) × (all known all_fields.codes ≡ true)
-        go true k l = (cc, k)
-        go false k l = absurd (cc)
-
-    pub none_found : r ≡ None → None ≡ codes_in line
-    unfolding all_fields
-    none_found f = go (all known all_fields.codes) refl (sym e ∙ f)
-      where
-        go : (b : Bool) → all known all_fields.codes ≡ b → cond b (Some all_fields) None ≡ None → None ≡ codes_in line
-        go true k l = absurd (cc)
-        go false k l =
-            ap (λ (b : Bool). cond (b && ltb (length line) all_fields.end && dashes_agree all_fields.codes) (Some (line_codes line)) None) (sym k)
-            ∙ ap (λ (b : Bool). cond b (Some (line_codes line)) None) well_so
-
-    module _ {t : Codes} (f : r ≡ Some t) where
-      tests : {b : Bool} → ltb (length line) t.end && dashes_agree t.codes ≡ b → well_formed line ≡ b
-      tests {b} h =
-          sym well_so ∙ ap (λ (k : Bool). k && ltb (length line) all_fields.end && dashes_agree all_fields.codes) (some_so f).1
-          ∙ ap (λ (u : Codes). ltb (length line) u.end && dashes_agree u.codes) (sym (some_so f).0) ∙ h
-
-      pub ill_found : ltb (length line) t.end && dashes_agree t.codes ≡ false → None ≡ codes_in line
-      ill_found h = ap (λ (b : Bool). cond b (Some (line_codes line)) None) (sym (tests h))
-
-      pub well_found : ltb (length line) t.end && dashes_agree t.codes ≡ true → Some t.codes ≡ codes_in line
-      well_found h =
-          ap (λ (u : Codes). Some u.codes) (some_so f).0 ∙ ap Some codes_so
-          ∙ ap (λ (b : Bool). cond b (Some (line_codes line)) None) (sym (tests h))
-
 -- THE CODES OF A LINE: what is taken are its fields, and it is well formed exactly when every code is known, the last field ends the line, and
 -- the dashes agree
 pub codes_found : (line : List ℕ) (t : Codes) (k d : Bool) → t ≡ taken_from columns line 0 → k ≡ all known t.codes → d ≡ dashes_agree t.codes
@@ -214,6 +150,36 @@ codes_found line t k d e h g = (
   ap₂ (λ (a b : Bool). a && ltb (length line) t.end && b) h g
       ∙ ap (λ (u : Codes). all known u.codes && ltb (length line) u.end && dashes_agree u.codes) e ∙ well_so line,
 )
+
+-- the same of what `take_all` finds
+module _ (line : List ℕ) (r : Option Codes) (e : r ≡ if_all_known (taken_from columns line 0)) where
+  some_so : {t : Codes} → r ≡ Some t → (t ≡ taken_from columns line 0) × (true ≡ all known t.codes)
+  unfolding all_fields
+  some_so {t} f = go (all known (all_fields line).codes) refl (sym e ∙ f)
+    where
+      go : (b : Bool) → all known (all_fields line).codes ≡ b → cond b (Some (all_fields line)) None ≡ Some t → (t ≡ all_fields line) × (true ≡ all known t.codes)
+      go true k l = (cc, cc)
+      go false k l = absurd (cc)
+
+  pub none_found : r ≡ None → None ≡ codes_in line
+  unfolding all_fields
+  none_found f = go (all known (all_fields line).codes) refl (sym e ∙ f)
+    where
+      go : (b : Bool) → all known (all_fields line).codes ≡ b → cond b (Some (all_fields line)) None ≡ None → None ≡ codes_in line
+      go true k l = absurd (cc)
+      go false k l =
+          ap (λ (b : Bool). cond b (Some (line_codes line)) None)
+          (codes_found line (all_fields line) false (dashes_agree (all_fields line).codes) refl (sym k) refl).1
+
+  module _ {t : Codes} (f : r ≡ Some t) where
+    found : (t.codes ≡ line_codes line) × (ltb (length line) t.end && dashes_agree t.codes ≡ well_formed line)
+    found = codes_found line t true (dashes_agree t.codes) (some_so f).0 (some_so f).1 refl
+
+    pub ill_found : ltb (length line) t.end && dashes_agree t.codes ≡ false → None ≡ codes_in line
+    ill_found h = ap (λ (b : Bool). cond b (Some (line_codes line)) None) (sym h ∙ found.1)
+
+    pub well_found : ltb (length line) t.end && dashes_agree t.codes ≡ true → Some t.codes ≡ codes_in line
+    well_found h = ap Some found.0 ∙ ap (λ (b : Bool). cond b (Some (line_codes line)) None) (sym h ∙ found.1)
 
 -- codes, and the offset behind their fields
 the_codes : List ℕ → ℕ → Codes
