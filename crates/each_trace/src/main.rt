@@ -55,21 +55,22 @@ fn read_lengths(mut stdin: Stdin) -> Option<Lengths> {
     })
 }
 
-// Reads a buffer of a case; none if it is cut off, or too long for the room.
+// Reads a buffer of a case, as much as there is room for; none if it is cut off, or too long for the room.
 // Stays: a length beside the room, since a case says it, and may say more than there is room for.
 fn read_part(mut stdin: Stdin, room: &mut [u8], len: usize) -> Option<&mut [u8]> {
-    let part = room.get_mut(..len)?;
+    let end = len.min(room.len());
+    let part = &mut room[..end];
     if blocks::read_full(&mut stdin, part) < len {
         return None;
     }
     Some(part)
 }
 
-// Reads the pair numbers of a case; none if they are cut off, or too many for the room.
+// Reads the pair numbers of a case, as many as there is room for; none if they are cut off, or too many for the room.
 fn read_pairs(stdin: Stdin, room: &mut [u16], count: usize) -> Option<&[u16]> {
     let mut bytes = [0; PAIR_BYTES_ROOM];
+    let part = read_part(stdin, &mut bytes, count.saturating_mul(2))?;
     let pairs = room.get_mut(..count)?;
-    let part = read_part(stdin, &mut bytes, count * 2)?;
     for (pair, two) in pairs.iter_mut().zip(part.chunks_exact(2)) {
         *pair = u16::from_le_bytes([two[0], two[1]]);
     }
@@ -82,11 +83,14 @@ fn write_outcome(stdout: Stdout, outcome: Result<usize, Refused>) -> Option<()> 
         Ok(count) => (0, count),
         Err(refused) => (refused.refusal.into(), refused.place),
     };
-    stdout.write_all(&[number]).ok()?;
-    stdout.write_all(&place.to_le_bytes()[..4]).ok()
+    let [first, second, third, fourth, ..] = place.to_le_bytes();
+    stdout
+        .write_all(&[number, first, second, third, fourth])
+        .ok()
 }
 
-// Reads a case, judges it and writes the answer; none if there can be no more.
+// Reads a case, judges it and writes the answer; none if there can be no more. All parts are read, and all are written, before any is
+// found to have failed.
 fn next_case(rt: &HostRuntime) -> Option<()> {
     let stdin = rt.stdin();
     let stdout = rt.stdout();
@@ -97,18 +101,21 @@ fn next_case(rt: &HostRuntime) -> Option<()> {
     let mut duties = [0; EACH_ROOM];
     let mut afters = [0; EACH_ROOM];
     let lengths = read_lengths(stdin)?;
-    let events = read_part(stdin, &mut events, lengths.events)?;
-    let pairs = read_pairs(stdin, &mut pairs, lengths.pairs)?;
-    let table = read_part(stdin, &mut table, lengths.table)?;
-    let verdicts = read_part(stdin, &mut verdicts, lengths.verdicts)?;
-    let duties = read_part(stdin, &mut duties, lengths.duties)?;
-    let afters = read_part(stdin, &mut afters, lengths.afters)?;
+    let events = read_part(stdin, &mut events, lengths.events);
+    let pairs = read_pairs(stdin, &mut pairs, lengths.pairs);
+    let table = read_part(stdin, &mut table, lengths.table);
+    let verdicts = read_part(stdin, &mut verdicts, lengths.verdicts);
+    let duties = read_part(stdin, &mut duties, lengths.duties);
+    let afters = read_part(stdin, &mut afters, lengths.afters);
+    let (events, pairs, table) = (events?, pairs?, table?);
+    let (verdicts, duties, afters) = (verdicts?, duties?, afters?);
     let outcome = trace::judge_trace(events, pairs, table, verdicts, duties, afters);
-    write_outcome(stdout, outcome)?;
-    stdout.write_all(table).ok()?;
-    stdout.write_all(verdicts).ok()?;
-    stdout.write_all(duties).ok()?;
-    stdout.write_all(afters).ok()
+    let outcome = write_outcome(stdout, outcome);
+    let table = stdout.write_all(table).ok();
+    let verdicts = stdout.write_all(verdicts).ok();
+    let duties = stdout.write_all(duties).ok();
+    let afters = stdout.write_all(afters).ok();
+    outcome.and(table).and(verdicts).and(duties).and(afters)
 }
 
 // Answers case by case. A proved loop must end, so this one has a number of turns that no run uses up.
