@@ -3,6 +3,9 @@
 // An answer is 16 bytes: refusal number, place, seven sets, seven duties. A last record that is cut off gets no answer.
 #![tactic(auto)]
 
+ghost use Rattle.std.specs.Prelude.{◌≡◌, ◌∷◌, ◌++◌};
+ghost use Rattle.event.specs.Alone.{in_numbers};
+
 use event::Judgment;
 use kinds::Refusal;
 
@@ -22,7 +25,9 @@ fn event_of(record: &[u8]) -> &[u8] {
 }
 
 // The bytes of an answer: a refused event has only a refusal number, and an accepted one place 1.
-fn answer_of(judged: Result<Judgment, Refusal>) -> [u8; ANSWER] {
+fn answer_of(judged: Result<Judgment, Refusal>) -> [u8; ANSWER]
+    ensures { let told = in_numbers judged in result ≡ told.number ∷ told.place ∷ (told.sets ++ told.duties) }
+{
     let mut answer = [0; ANSWER];
     match judged {
         Ok(judgment) => {
