@@ -4,6 +4,10 @@
 // count in four bytes, each low byte first; and the 640 bytes afterwards. A last record that is cut off gets no answer.
 #![tactic(auto)]
 
+ghost use Rattle.std.specs.Prelude.{◌≡◌, ◌∷◌, ◌++◌, take};
+ghost use Rattle.std.specs.Int.{w64, to_le_bytes};
+ghost use Rattle.answers.specs.Listed.{in_numbers};
+
 use answers::Question;
 use kinds::{LineState, Refusal, Request, TagState};
 
@@ -15,7 +19,10 @@ const RECORD: usize = 648;
 const BLOCK: usize = 64;
 
 // The bytes over the head of a record: the place is always 0, and a refused question has the count 0.
-fn answer_of(listed: Result<usize, Refusal>) -> [u8; HEAD] {
+fn answer_of(listed: Result<usize, Refusal>) -> [u8; HEAD]
+    ensures { let told = in_numbers listed in
+        result ≡ told.number ∷ (take 3 (to_le_bytes w64 told.place) ++ take 4 (to_le_bytes w64 told.count)) }
+{
     let mut answer = [0; HEAD];
     match listed {
         Ok(count) => answer[4..].copy_from_slice(&count.to_le_bytes()[..4]),
