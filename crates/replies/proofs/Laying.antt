@@ -9,7 +9,7 @@ use native.Mathlib.Omega.{arith}
 use borrow.Author.Tests.{le-leb, lt-leb, leb-true, leb-false}
 use lib.Dec.{leb}
 use lib.ListN.{length, take, drop, take-append-drop, length-append, length-drop}
-use lib.Seq.{length-take-le, take_at, drop_at, drop-drop, take-length}
+use lib.Seq.{length-take-le, take_all, take_at, drop_at, drop-drop, take-length}
 use borrow.Rule.Slice.PartMut.{put_mid}
 use Rattle.std.proofs.lemmas.Slice.{put_mid-paste}
 use Rattle.replies.specs.Laid.{Laid, laid, lay, lay_all, concat}
@@ -115,13 +115,22 @@ behind l s e = let same = ap (λ (k : Laid). k.at) e in omega (arith, same, behi
 pub room_left : {r : Laid} (l : Laid) (s : List ℕ) (count : ℕ) → r ≡ lay l s → l.at + length s + count ≤ length l.out → r.at + count ≤ length r.out
 room_left l s count e h = omega (arith, h, behind l s e, ap (λ (k : Laid). length k.out) e ∙ length_lay l s)
 
+-- a text keeps the buffer's length
+pub long_still : {r : Laid} (l : Laid) (s : List ℕ) → r ≡ lay l s → length r.out ≡ length l.out
+long_still l s e = ap (λ (k : Laid). length k.out) e ∙ length_lay l s
+
 -- What `lay` and `put` leave.
 
+-- a text from its start on
+pub all_left : (k n : ℕ) (s : List ℕ) → n ≡ 0 → length s ≤ k + n → take k (drop n s) ≡ s
+all_left k n s e h = ap (λ (m : ℕ). take k (drop m s)) e ∙ take_all k s (omega (arith, e, h))
+
 -- a text copied where there is room for it
-pub copied : (at k : ℕ) (out text new : List ℕ) → at + length text ≤ length out → new ≡ text → length text ≡ k
-    → laid (at + length text) (put_mid at k out new) ≡ lay (laid at out) text
-copied at k out text new h e f =
-    ap (laid (at + length text))
+pub copied : (at from k : ℕ) (out text new : List ℕ) → at + length text ≤ length out → from ≡ at → new ≡ text → length text ≡ k
+    → laid (at + length text) (put_mid from k out new) ≡ lay (laid at out) text
+copied at from k out text new h same e f =
+    ap (λ (n : ℕ). laid (at + length text) (put_mid n k out new)) same
+    ∙ ap (laid (at + length text))
     (put_mid-paste at k out new text (length text) e f refl
     ∙ ap (λ (s : List ℕ). take at out ++ s ++ drop (at + length text) out) (take-length text))
     ∙ sym (lay_fits (laid at out) text h)

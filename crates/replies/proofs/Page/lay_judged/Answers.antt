@@ -1,6 +1,6 @@
 -- `replies::Page::lay_judged` meets its contract: an explained event has its duty and its states, and one without a duty and a set has one text.
 use Rattle.replies.proofs.Laws.{explained_short}
-use Rattle.replies.proofs.Laying.{room_left}
+use Rattle.replies.proofs.Laying.{room_left, long_still}
 use Rattle.replies.proofs.Parts.{judged_explained, judged_plain}
 use Rattle.replies.specs.Laid.{laid}
 use Rattle.replies.specs.Replies.{verdict_text, duty_text, states_texts}
@@ -13,8 +13,13 @@ use Rattle.replies.proofs.Page.lay_judged.Goals as goal
 
 pub lay_states-requires : goal.lay_states-requires
 lay_states-requires c =
-    room_left (laid c.args.self.now.at c.args.self.now.out.now) (explained_text c.args.found.duty.0) 6 c.lay_explained.ensures.written
-    (omega (arith, explained_short c.args.found.duty.0))
+    let l = laid c.args.self.now.at c.args.self.now.out.now in
+    let text = explained_text c.args.found.duty.0 in
+    omega (
+      arith,
+      room_left l text 6 c.lay_explained.ensures.written (omega (arith, explained_short c.args.found.duty.0)),
+      long_still l text c.lay_explained.ensures.written,
+    )
 
 pub returns-in-EXPLAINED-default-default-clause-written : goal.returns-in-EXPLAINED-default-default-clause-written
 returns-in-EXPLAINED-default-default-clause-written c =
