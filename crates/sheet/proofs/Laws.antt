@@ -227,12 +227,12 @@ pub answered_more : {ended : Bool} {piece out₀ table out : List ℕ} {taken₀
 answered_more r n g = record { is_ready = r; is_next = n; goes_so = g.goes_so; writes_so = g.writes_so; table_so = g.table_so; counted = refl }
 
 -- a line that is refused
-pub refused_more : {ended : Bool} {piece out₀ table out : List ℕ} {taken₀ put lines : ℕ} {going : Bool} {next : Next} {number put' : ℕ} {table' out' out'' : List ℕ}
+pub refused_more : {ended : Bool} {piece out₀ table out : List ℕ} {taken₀ put lines : ℕ} {going : Bool} {next : Next} {number put' lines' : ℕ} {table' out' out'' : List ℕ}
     → ready ended (length out₀) (now_held piece taken₀ put lines going table out) ≡ true → IsNext ended lines piece taken₀ next
     → Refuses number lines (on_line lines table (take (next.end - taken₀) (drop taken₀ piece))) out table out' table'
-    → Writes (refused_line number (lines + 1)) out' put put' out''
-    → OneMore ended piece out₀ table out taken₀ put lines going next put' table' out'' lines false
-refused_more {out = out} {put = put} {lines = lines} {number = number} {put' = put'} {out'' = out''} r n x w = record {
+    → Writes (refused_line number (lines + 1)) out' put put' out'' → lines' ≡ lines
+    → OneMore ended piece out₀ table out taken₀ put lines going next put' table' out'' lines' false
+refused_more {out = out} {put = put} {lines = lines} {number = number} {put' = put'} {out'' = out''} r n x w k = record {
   is_ready = r;
   is_next = n;
   goes_so = ap (λ (t : Told). t.goes) x.told_so;
@@ -240,7 +240,7 @@ refused_more {out = out} {put = put} {lines = lines} {number = number} {put' = p
       subst (λ (t : Told). Writes t.text out put put' out'') (sym x.told_so)
       (subst (λ (o : List ℕ). Writes (refused_line number (lines + 1)) o put put' out'') x.out_so w);
   table_so = x.table_so ∙ sym (ap (λ (t : Told). t.table) x.told_so);
-  counted = refl;
+  counted = k;
 }
 
 -- whether enough is known of the line that starts at an offset, from what is the first line of the rest

@@ -17,7 +17,7 @@ judge_line-requires-clause-said_by c = next_said c.args.ended c.loop-next.count 
 pub returns-in-Err : goal.returns-in-Err
 returns-in-Err c =
     let ready = sure_next c.loop-next.invariant c.loop-next-test.true c.if-out-put-ge-ROOM.true c.in-Some.ensures in
-    eaten_all (eating_next c.loop-next.invariant (refused_more ready c.in-Some.ensures c.in-Err.ensures c.refuse.ensures)) (ended_run _ _ _ refl)
+    eaten_all (eating_next c.loop-next.invariant (refused_more ready c.in-Some.ensures c.in-Err.ensures c.refuse.ensures (omega arith))) (ended_run _ _ _ refl)
 
 pub overflow_add-count : goal.overflow_add-count
 overflow_add-count c =

@@ -25,4 +25,4 @@ returns c =
       | else-carried+else-wants_more w ↦ w.ended-is ∙ w.wants_more.ensures ∙ sym w.if-wants_more.ensures ∙ ends_by c.args.carried c.args.got false false (sym w.if-carried.false) w.if-wants_more.ensures
     ] in
     turn_is c.args.carried c.args.got c.args.piece.now c.args.table.now c.args.out.now ended (omega (arith, c.min-held.ensures, c.saturating_add.ensures))
-    c.eat-ate.ensures c.copy_within.ensures.after c.answer.ensures
+    c.eat-ate.ensures (grind (arith, c.copy_within.ensures.after, ate_most _ _ _ _ _ _ c.eat-ate.ensures, length-take c.min-held.result c.args.piece.now)) c.answer.ensures
