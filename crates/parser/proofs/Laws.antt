@@ -6,7 +6,7 @@ use mathlib.Core.List.{List, [], ◌∷◌, ◌++◌, append_assoc, append-nil, 
 use Prim.Native.Nat.{ℕ, suc, ◌+◌, ◌-◌, ◌≤◌, ◌<◌}
 use native.Mathlib.Numerals.{add-one}
 use native.Mathlib.Omega.{arith}
-use borrow.Author.Tests.{le-leb, lt-leb, leb-true, leb-false, lt-ltb, le-ltb, eqb-true, eqb-false}
+use borrow.Author.Tests.{le-leb, lt-leb, leb-true, leb-false, lt-ltb, le-ltb, eqb-true, eqb-false, ltb-false}
 use Rattle.std.specs.Prelude.{Option, Some, None}
 use lib.Dec.{eqb, ltb, leb, leb-suc-suc}
 use lib.ListN.{length, get_or, take, drop, set, length-set, drop_of_length-le}
@@ -25,7 +25,7 @@ use Rattle.names.specs.Columns.{request_code, ret_to_src_code, do_not_go_to_sd_c
 use Rattle.parser.specs.declared.Taken.{Taken}
 use Rattle.parser.specs.declared.Codes.{Codes}
 use Rattle.parser.specs.Parsed.{codes_of, line_codes, known, dashes_agree, well_formed, sent_of, event_of}
-use Rattle.parser.specs.Code.{end_at, taken_by, taken_at, taken_from, if_known, if_all_known, codes_in}
+use Rattle.parser.specs.Code.{taken_by, taken_at, taken_from, if_known, if_all_known, codes_in}
 
 -- ONE FIELD: within the line, and past its end.
 taken : ℕ → ℕ → Taken
@@ -42,15 +42,12 @@ unfolding taken_by taken
 taken_past column line at h =
     ap (λ b. cond b (taken (column (take (field_end line at - at) (drop at line))) (field_end line at + 1)) (taken unknown at)) (lt-leb at (length line) h)
 
--- where a field ends, if it starts within the line
-pub end_next : (line : List ℕ) (at : ℕ) {r : Option ℕ} {end : ℕ} → r ≡ end_at line at → r ≡ Some end → (at ≤ end) × (end ≤ length line)
-end_next line at {r} {end} e f = go (leb at (length line)) refl (sym e ∙ f)
-  where
-    go : (b : Bool) → leb at (length line) ≡ b → cond b (Some (field_end line at)) None ≡ Some end → (at ≤ end) × (end ≤ length line)
-    go true k l =
-        let same : field_end line at ≡ end = cc in
-        (subst (λ n. at ≤ n) same (end_from line at), subst (λ n. n ≤ length line) same (end_within line at (leb-true at (length line) k)))
-    go false k l = absurd (cc)
+-- a field that starts within the line ends there
+pub end_next : (line : List ℕ) (at : ℕ) {past : Bool} {end : ℕ} → past ≡ ltb (length line) at → past ≡ false → end ≡ field_end line at
+    → (at ≤ end) × (end ≤ length line)
+end_next line at e f g =
+    let inside = ltb-false (length line) at (sym e ∙ f) in
+    (subst (λ n. at ≤ n) (sym g) (end_from line at), subst (λ n. n ≤ length line) (sym g) (end_within line at inside))
 
 -- ALL FIELDS, one after another, for any list of columns
 -- they are the fields from there on; the end is past the line's exactly when there are no more fields than columns

@@ -9,10 +9,6 @@ use Rattle.parser.specs.declared.Taken.{Taken}
 use Rattle.parser.specs.declared.Codes.{Codes}
 use Rattle.parser.specs.Parsed.{Parsed, known, line_codes, well_formed, event_of, parsed_as, refused_parse}
 
--- where the field at an offset ends; none past the end of the line
-abbrev pub end_at : List ℕ → ℕ → Option ℕ
-end_at line at = cond (leb at (length line)) (Some (field_end line at)) None
-
 -- the field at an offset, read by a column, and the offset behind its comma; past the end of the line unknown, and the same offset
 unfoldable pub taken_by : (List ℕ → ℕ) → List ℕ → ℕ → Taken
 taken_by column line at =

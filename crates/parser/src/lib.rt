@@ -1,10 +1,10 @@
 // Parses a line of the bench sheet: its pair and its event, or why it is refused (definition 8.3, 8.4, 8.7).
 #![tactic(auto)]
 
-ghost use Rattle.std.specs.Prelude.{◌≡◌, map};
+ghost use Rattle.std.specs.Prelude.{◌≡◌, map, ltb, length};
 ghost use Rattle.names.specs.Names.{columns};
 ghost use Rattle.parser.specs.Parsed.{dashes_agree, event_of, in_numbers, parsed};
-ghost use Rattle.parser.specs.Code.{end_at, taken_at, taken_from, if_known, if_all_known, codes_in, as_byte, line_of};
+ghost use Rattle.parser.specs.Code.{taken_at, taken_from, if_known, if_all_known, codes_in, as_byte, line_of};
 
 use kinds::{EVENT_BYTES, Forward, FwdState, HIGHEST_PAIR, PairNumber, Refusal, RespErr};
 use names::columns;
@@ -38,23 +38,23 @@ pub struct Codes {
     pub end: usize,
 }
 
-// Where the field at an offset ends; none past the end of the line, where no field starts.
-fn end_at(line: &[u8], at: usize) -> Option<usize>
-    ensures { result ≡ end_at line.now at }
+// Whether an offset is past the end of the line, so that no field starts there. At the end itself an empty one does.
+fn past_end(line: &[u8], at: usize) -> bool
+    ensures { result ≡ ltb (length line.now) at }
 {
-    if line.len() < at {
-        return None;
-    }
-    Some(fields::end_of(line, at))
+    line.len() < at
 }
 
 // Reads the field at an offset in the column with this number; none past the end of the line, or if the column does not know the field.
 // Stays: a line and an offset as parameters, as the form for what reads fields has it.
-#[tactic(auto, using(crate::proofs::Laws::end_next), unfolding(crate::specs::Code::taken_at, crate::specs::Code::taken_by))]
+#[tactic(auto, unfolding(crate::specs::Code::taken_at, crate::specs::Code::taken_by))]
 fn field_at(number: usize, line: &[u8], at: usize) -> Option<Taken>
     ensures { result ≡ if_known (taken_at number line.now at) }
 {
-    let end = end_at(line, at)?;
+    if past_end(line, at) {
+        return None;
+    }
+    let end = fields::end_of(line, at);
     let code = names::column(number, &line[at..end])?;
     Some(Taken {
         code,
